@@ -1,0 +1,7 @@
+pub mod Refusal
+pub mod Out
+pub mod Field
+pub mod Utf8
+pub mod Encoding
+pub mod Text
+pub mod Tag

@@ -1,0 +1,1 @@
+// Fields and texts of the binary formats.
