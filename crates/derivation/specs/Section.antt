@@ -62,14 +62,17 @@ witnessTotal s = length (s .witnesses)
 unfoldable pub parentTotal : Section → ℕ
 parentTotal s = length (s .parents)
 
--- *Owns*: a proof owns the witnesses and the parent cells from its first one, as many as its count
-pub record OwnsParent (s : Section) (i c : ℕ) : Type 0 where
-  pub from : proofAt s i .firstParent ≤ c
-  pub upto : c < proofAt s i .firstParent + proofAt s i .parentCount
+-- a number among the `count` numbers from `first` on
+pub record Within (first count n : ℕ) : Type 0 where
+  pub from : first ≤ n
+  pub upto : n < first + count
 
-pub record OwnsWitness (s : Section) (i w : ℕ) : Type 0 where
-  pub from : proofAt s i .firstWitness ≤ w
-  pub upto : w < proofAt s i .firstWitness + proofAt s i .witnessCount
+-- *Owns*: a proof owns the witnesses and the parent cells from its first one, as many as its count
+abbrev pub OwnsParent : Section → ℕ → ℕ → Type 0
+OwnsParent s i c = Within (proofAt s i .firstParent) (proofAt s i .parentCount) c
+
+abbrev pub OwnsWitness : Section → ℕ → ℕ → Type 0
+OwnsWitness s i w = Within (proofAt s i .firstWitness) (proofAt s i .witnessCount) w
 
 -- f 0 + .. + f (n - 1)
 unfoldable pub sumTo : (ℕ → ℕ) → ℕ → ℕ
