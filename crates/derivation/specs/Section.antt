@@ -30,11 +30,10 @@ pub record Section : Type 0 where
   pub witnesses : List Witness
   pub parents : List ℕ
 
--- the entries by their place. Past a table's end they have no meaning, and no statement reads them
-unfoldable pub proofAt : Section → ℕ → Proof
-proofAt s i =
-    getD (s .proofs) i
-    (record {
+-- past a table's end: these have no meaning, and no statement reads them
+abbrev pub noProof : Proof
+noProof =
+    record {
       number = 0;
       proposition = 0;
       rule = record { name = []; witnesses = 0; parents = 0; operation = 0; polarity = 0 };
@@ -44,10 +43,17 @@ proofAt s i =
       firstParent = 0;
       parentCount = 0;
       operation = 0;
-    })
+    }
+
+abbrev pub noWitness : Witness
+noWitness = record { number = 0; proposition = 0; polarity = 0; spanStart = 0; spanEnd = 0 }
+
+-- the entries by their place
+unfoldable pub proofAt : Section → ℕ → Proof
+proofAt s i = getD (s .proofs) i noProof
 
 unfoldable pub witnessAt : Section → ℕ → Witness
-witnessAt s w = getD (s .witnesses) w (record { number = 0; proposition = 0; polarity = 0; spanStart = 0; spanEnd = 0 })
+witnessAt s w = getD (s .witnesses) w noWitness
 
 -- the proof number in a parent cell
 unfoldable pub parentAt : Section → ℕ → ℕ
