@@ -1,0 +1,3 @@
+// The decoders as C functions, for programs in other languages. An answer is a flat struct in C's layout.
+pub mod field;
+pub mod tag;
