@@ -1,6 +1,9 @@
 //! Compares the port with the Rust on seeded inputs: kind, number and offset of each refusal, and each result and table entry.
 
+mod blocks;
 mod fields;
+mod section_conditions;
+mod sections;
 mod tally;
 
 use inputs::random::Random;
@@ -8,8 +11,14 @@ use tally::Tally;
 
 const USAGE: &str = "usage: differential [--seed N] [--count N] [--part NAME]";
 
-/// The parts of a comparison: their names, and what runs one over so many random inputs.
-const PARTS: [(&str, fn(&mut Random, usize) -> Tally); 1] = [("fields", |r, _| fields::run(r))];
+/// The parts of a run: a name, and what tries so many random inputs.
+type Part = (&'static str, fn(&mut Random, usize) -> Tally);
+
+const PARTS: [Part; 3] = [
+    ("fields", |r, _| fields::run(r)),
+    ("sections", sections::run),
+    ("blocks", blocks::run),
+];
 
 fn main() {
     let options = options().unwrap_or_else(|| {

@@ -119,6 +119,42 @@ pub fn small(r: &mut Random) -> Block {
     }
 }
 
+/// A block with each form that a revision has: both events with each mode, each component, strings that are empty and that are not.
+pub fn each_form(r: &mut Random, revision: u16) -> Block {
+    let modes = |event: u8| -> Vec<Vec<u8>> {
+        match (revision < 21, event) {
+            (true, _) => vec![vec![]],
+            (false, 0) => vec![vec![0], vec![1, 9, 0, 0, 0]],
+            (false, _) => vec![vec![0, 9, 0, 0, 0], vec![1, 9, 0, 0, 0]],
+        }
+    };
+    let mut paths = Vec::new();
+    for event in [1, 0] {
+        for mode in modes(event) {
+            let components = component_kinds(revision, event)
+                .iter()
+                .map(|&kind| component_of(r, kind))
+                .collect();
+            paths.push(Path {
+                event,
+                mode,
+                root: 9,
+                count: None,
+                components,
+            });
+        }
+    }
+    Block {
+        revision,
+        count: None,
+        strings: vec![Text::new(b""), Text::new("k\u{85}\u{e9}".as_bytes())],
+        debug: Some(table(*b"DBG0", vec![symbol(r), symbol(r)])),
+        ownership: Some(table(*b"OWN0", paths)),
+        more: vec![0x44],
+        cut: 0,
+    }
+}
+
 /// A block with these many strings, symbols and paths, each path with so many components.
 pub fn large(r: &mut Random, revision: u16, counts: [usize; 3], components: usize) -> Block {
     let paths = (0..counts[2])
@@ -203,13 +239,16 @@ fn mode(r: &mut Random, revision: u16, event: u8) -> Vec<u8> {
 }
 
 fn component(r: &mut Random, revision: u16, event: u8) -> Component {
-    let kinds: &[u8] = match (revision >= 22, event) {
+    let kind = r.pick(component_kinds(revision, event));
+    component_of(r, kind)
+}
+
+fn component_kinds(revision: u16, event: u8) -> &'static [u8] {
+    match (revision >= 22, event) {
         (false, _) => &[0, 1],
         (true, 0) => &[0, 1, 2, 3],
         (true, _) => &[0, 1, 3],
-    };
-    let kind = r.pick(kinds);
-    component_of(r, kind)
+    }
 }
 
 /// A component of any kind, with as many bytes as the kind has.

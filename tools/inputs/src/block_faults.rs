@@ -6,8 +6,11 @@ use crate::text::{ILL_FORMED, put};
 
 pub type Fault = fn(&mut Block, &mut Random);
 
-pub const FAULTS: [Fault; 14] = [
+pub const FAULTS: [Fault; 17] = [
     cut,
+    cut_late,
+    cut_late,
+    cut_late,
     string_count,
     string_length,
     string_ill_formed,
@@ -53,7 +56,14 @@ fn other(r: &mut Random, length: usize) -> Option<u16> {
 }
 
 fn cut(b: &mut Block, r: &mut Random) {
+    b.cut = 0;
     b.cut = r.within(1, b.bytes().len());
+}
+
+/// The end inside the last record, most often inside a path.
+fn cut_late(b: &mut Block, r: &mut Random) {
+    b.more.clear();
+    b.cut = r.within(1, 14);
 }
 
 fn string_count(b: &mut Block, r: &mut Random) {

@@ -58,10 +58,37 @@ pub struct Section {
     pub more: Vec<u8>,
 }
 
+/// A payload as it is written, with the place of each field.
+struct Payload {
+    bytes: Vec<u8>,
+    fields: Vec<usize>,
+}
+
+impl Payload {
+    fn field(&mut self, bytes: &[u8]) {
+        self.fields.push(self.bytes.len());
+        self.bytes.extend(bytes);
+    }
+
+    fn numbers(&mut self, numbers: &[u32]) {
+        for number in numbers {
+            self.field(&number.to_le_bytes());
+        }
+    }
+
+    /// The length and the bytes are a field each.
+    fn text(&mut self, text: &Text) {
+        let length = text.length.unwrap_or(text.bytes.len() as u16);
+        self.field(&length.to_le_bytes());
+        self.field(&text.bytes);
+    }
+}
+
 impl Section {
-    /// The section's bytes, and what follows it in a file: nothing.
     pub fn bytes(&self) -> Vec<u8> {
-        let payload = self.payload();
+        let mut payload = self.payload().bytes;
+        payload.truncate(payload.len().saturating_sub(self.cut));
+        payload.extend(&self.more);
         let length = self.length.unwrap_or(payload.len() as u32);
         let mut out = Vec::with_capacity(8 + payload.len());
         out.extend(self.tag);
@@ -70,15 +97,25 @@ impl Section {
         out
     }
 
-    fn payload(&self) -> Vec<u8> {
-        let mut out = Vec::new();
-        out.extend(self.schema.to_le_bytes());
-        out.extend(self.flags.to_le_bytes());
-        out.extend(self.source_set);
-        out.extend(self.compiler_contract);
-        out.extend(self.epoch.to_le_bytes());
-        self.policy.write(&mut out);
-        self.issuer.write(&mut out);
+    /// The places of the payload's fields, and at last its length.
+    pub fn fields(&self) -> Vec<usize> {
+        let mut payload = self.payload();
+        payload.fields.push(payload.bytes.len());
+        payload.fields
+    }
+
+    fn payload(&self) -> Payload {
+        let mut out = Payload {
+            bytes: Vec::new(),
+            fields: Vec::new(),
+        };
+        out.field(&self.schema.to_le_bytes());
+        out.field(&self.flags.to_le_bytes());
+        out.field(&self.source_set);
+        out.field(&self.compiler_contract);
+        out.field(&self.epoch.to_le_bytes());
+        out.text(&self.policy);
+        out.text(&self.issuer);
         let lengths = [
             self.propositions.len(),
             self.proofs.len(),
@@ -86,37 +123,29 @@ impl Section {
             self.parents.len(),
         ];
         for (count, length) in self.counts.iter().zip(lengths) {
-            put(&mut out, &[count.unwrap_or(length as u32)]);
+            out.numbers(&[count.unwrap_or(length as u32)]);
         }
         for p in &self.propositions {
-            p.kind.write(&mut out);
-            put(&mut out, &[p.owner, p.scope, p.obligation]);
+            out.text(&p.kind);
+            out.numbers(&[p.owner, p.scope, p.obligation]);
         }
         for p in &self.proofs {
-            put(&mut out, &[p.number, p.proposition]);
-            p.rule.write(&mut out);
-            put(&mut out, &[p.authority, p.witness_first, p.witness_count]);
-            put(&mut out, &[p.parent_first, p.parent_count]);
-            out.push(p.operation);
-            out.extend(p.zeros);
+            out.numbers(&[p.number, p.proposition]);
+            out.text(&p.rule);
+            out.numbers(&[p.authority, p.witness_first, p.witness_count]);
+            out.numbers(&[p.parent_first, p.parent_count]);
+            out.field(&[p.operation]);
+            out.field(&p.zeros);
         }
         for w in &self.witnesses {
-            put(&mut out, &[w.number, w.proposition]);
-            out.push(w.polarity);
-            out.extend(w.zeros);
-            out.extend(w.file);
-            put(&mut out, &[w.start, w.end]);
-            out.extend(w.origin);
+            out.numbers(&[w.number, w.proposition]);
+            out.field(&[w.polarity]);
+            out.field(&w.zeros);
+            out.field(&w.file);
+            out.numbers(&[w.start, w.end]);
+            out.field(&w.origin);
         }
-        put(&mut out, &self.parents);
-        out.truncate(out.len().saturating_sub(self.cut));
-        out.extend(&self.more);
+        out.numbers(&self.parents);
         out
-    }
-}
-
-fn put(out: &mut Vec<u8>, numbers: &[u32]) {
-    for number in numbers {
-        out.extend(number.to_le_bytes());
     }
 }

@@ -2,15 +2,21 @@
 
 use crate::random::Random;
 use crate::section::{Proof, Proposition, Section, Witness};
+use crate::shapes::{JOIN, NEG, OP, POS, order};
 use crate::text::{CONTROLS, ILL_FORMED, Text, encoded, put, text, well_formed};
 
 pub type Fault = fn(&mut Section, &mut Random);
 
-pub const FAULTS: [Fault; 32] = [
+pub const FAULTS: [Fault; 39] = [
     tag,
     length,
     cut,
-    cut_after_long_kind,
+    cut_in_field,
+    cut_in_field,
+    cut_in_field,
+    cut_in_field,
+    cut_in_field,
+    cut_in_field,
     text_length,
     text_ill_formed,
     text_control,
@@ -36,7 +42,9 @@ pub const FAULTS: [Fault; 32] = [
     unowned,
     left_over,
     parent_number,
+    parent_number,
     parent_order,
+    other_ruling,
     other_ruling,
     deep,
 ];
@@ -108,12 +116,17 @@ fn nonzero(r: &mut Random) -> [u8; 3] {
     zeros
 }
 
+/// Before anything is cut or appended.
+fn payload_length(s: &Section) -> usize {
+    s.fields().last().copied().unwrap_or(0)
+}
+
 fn tag(s: &mut Section, r: &mut Random) {
     s.tag[r.below(4)] ^= 1 << r.below(8);
 }
 
 fn length(s: &mut Section, r: &mut Random) {
-    let true_length = s.bytes().len() as u32 - 8;
+    let true_length = payload_length(s) as u32;
     let below = r.below(true_length as usize + 1) as u32;
     s.length = Some(r.pick(&[
         0,
@@ -127,20 +140,25 @@ fn length(s: &mut Section, r: &mut Random) {
 }
 
 fn cut(s: &mut Section, r: &mut Random) {
-    s.cut = r.below(s.bytes().len() - 8);
+    s.cut = r.below(payload_length(s));
 }
 
-/// A long kind makes up for what is cut, so that 13 does not apply.
-fn cut_after_long_kind(s: &mut Section, r: &mut Random) {
-    let whole = s.bytes().len();
-    let Some(p) = any_proposition(s, r) else {
-        return;
+/// The end inside a field. A long kind makes up for what is cut, so that 13 does not apply.
+fn cut_in_field(s: &mut Section, r: &mut Random) {
+    if let Some(p) = any_proposition(s, r) {
+        p.kind.bytes.extend(well_formed(r, 1500));
+        s.propositions.sort_by(|a, b| order(a).cmp(&order(b)));
+    }
+    let fields = s.fields();
+    let count = fields.len() - 1;
+    let field = if r.one_in(3) {
+        r.below(13)
+    } else {
+        r.below(count)
     };
-    p.kind.bytes.extend(well_formed(r, whole.min(3000)));
-    s.propositions
-        .sort_by(|a, b| crate::shapes::order(a).cmp(&crate::shapes::order(b)));
-    let tables: usize = s.proofs.len() * 47 + s.witnesses.len() * 84 + s.parents.len() * 4;
-    s.cut = r.within(1, tables + 16);
+    let width = fields[field + 1] - fields[field];
+    let end = fields[field] + r.below(width.max(1));
+    s.cut = fields[count] - end;
 }
 
 fn text_length(s: &mut Section, r: &mut Random) {
@@ -289,7 +307,6 @@ fn rule_name(s: &mut Section, r: &mut Random) {
 
 /// A known rule whose numbers may differ.
 fn rule_other(s: &mut Section, r: &mut Random) {
-    use crate::shapes::{JOIN, NEG, OP, POS};
     if let Some(p) = any_proof(s, r) {
         p.rule = Text::new(r.pick(&[POS, NEG, JOIN, OP]));
     }
@@ -350,12 +367,25 @@ fn left_over(s: &mut Section, r: &mut Random) {
     s.more = (0..r.within(1, 9)).map(|_| r.byte()).collect();
 }
 
+/// A proof with parents, by its place.
+fn any_with_parents(s: &Section, r: &mut Random) -> Option<usize> {
+    let all: Vec<usize> = (0..s.proofs.len())
+        .filter(|&p| s.proofs[p].parent_count > 0)
+        .collect();
+    (!all.is_empty()).then(|| r.pick(&all))
+}
+
 fn parent_number(s: &mut Section, r: &mut Random) {
-    let (cells, proofs) = (s.parents.len(), s.proofs.len() as u32);
-    if cells > 0 {
-        let at = r.below(cells);
-        let near = other(r, s.parents[at]);
-        s.parents[at] = r.pick(&[near, proofs, proofs - 1, u32::MAX, 0]);
+    let Some(proof) = any_with_parents(s, r) else {
+        return;
+    };
+    let first = s.proofs[proof].parent_first as usize;
+    let own = proof as u32;
+    let far = r.below(s.proofs.len() + 1) as u32;
+    let any = r.u32();
+    let number = r.pick(&[own, own + 1, own.saturating_sub(1), far, u32::MAX, any]);
+    if let Some(cell) = s.parents.get_mut(first + r.below(2)) {
+        *cell = number;
     }
 }
 
@@ -380,10 +410,15 @@ fn parent_order(s: &mut Section, r: &mut Random) {
     }
 }
 
+/// Another proposition or authority of a proof that has parents, or that may be one.
 fn other_ruling(s: &mut Section, r: &mut Random) {
     let count = s.propositions.len().max(1);
-    if let Some(p) = any_proof(s, r) {
-        if r.one_in(2) {
+    let proof = match any_with_parents(s, r) {
+        Some(proof) if r.one_in(2) => Some(&mut s.proofs[proof]),
+        _ => any_proof(s, r),
+    };
+    if let Some(p) = proof {
+        if r.one_in(3) {
             p.authority = other(r, p.authority);
         } else {
             p.proposition = r.below(count) as u32;
@@ -393,8 +428,8 @@ fn other_ruling(s: &mut Section, r: &mut Random) {
 
 /// OPs on the last proof until a depth near the limit is passed or not.
 fn deep(s: &mut Section, r: &mut Random) {
-    if r.one_in(4) && !s.proofs.is_empty() {
-        for _ in 0..r.within(240, 260) {
+    if r.one_in(2) && !s.proofs.is_empty() {
+        for _ in 0..r.within(245, 260) {
             s.op(s.proofs.len() as u32 - 1);
         }
     }
