@@ -1,3 +1,4 @@
 // The decoders as C functions, for programs in other languages. An answer is a flat struct in C's layout.
 pub mod field;
+pub mod refusal;
 pub mod tag;
