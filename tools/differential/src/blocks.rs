@@ -1,12 +1,12 @@
 //! Blocks: every cut and byte change of small ones at each revision, faults one and two at once, limits, and large ones.
 
 use crate::tally::Tally;
+use answers::refusal::Refusal;
 use inputs::block::{self, Block, REVISIONS};
 use inputs::block_faults;
 use inputs::random::Random;
 use inputs::section_faults::scrambled;
 use inputs::text::Text;
-use oracle::refusal::Refusal;
 
 /// Bases at which a sum is exact, reaches 2^64 - 1 or is held there.
 const BASES: [usize; 4] = [0, 1000, usize::MAX - 20, usize::MAX];

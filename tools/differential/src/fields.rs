@@ -1,9 +1,9 @@
 //! Fields and tags at every place of short slices, past their end and near 2^64.
 
 use crate::tally::{Tally, hex};
+use answers::text::Field;
 use inputs::random::Random;
 use oracle::local_format::{self, SemcodeFormatError};
-use port::field::Field;
 use port::{field, tag};
 
 /// Every place of a slice, some past its end, and the last ones.
@@ -31,18 +31,8 @@ type Read<T> = fn(&[u8], &mut usize) -> Result<T, SemcodeFormatError>;
 
 fn rust<T: Into<u32>>(read: Read<T>, bytes: &[u8], at: usize) -> Field {
     let mut next = at;
-    match read(bytes, &mut next) {
-        Ok(value) => Field {
-            whole: true,
-            value: value.into(),
-            next,
-        },
-        Err(_) => Field {
-            whole: false,
-            value: 0,
-            next: 0,
-        },
-    }
+    let value = read(bytes, &mut next).ok()?;
+    Some((value.into(), next))
 }
 
 fn compare(tally: &mut Tally, bytes: &[u8], at: usize) {
@@ -66,7 +56,7 @@ fn compare(tally: &mut Tally, bytes: &[u8], at: usize) {
     for (name, rust, port) in pairs {
         tally.input((
             0,
-            if rust.whole {
+            if rust.is_some() {
                 "whole field"
             } else {
                 "cut field"

@@ -1,7 +1,7 @@
 //! Which condition of document 01's table a section met: the clause, the field or the text behind a refusal's number. Only for the counts
 //! that a run prints; no comparison rests on it.
 
-use oracle::refusal::Refusal;
+use answers::refusal::Refusal;
 
 /// A section's records as they stand, unchecked, up to the first field that passes the payload's end.
 #[derive(Default)]

@@ -1,10 +1,9 @@
-//! The Rust decoders of skulmakov-oss/Semantic at commit a38c216cab, built unchanged (build.rs), with their answers in document 01's terms:
-//! a refusal has a kind, a number and an offset, and a table has the start of each record.
+//! The Rust decoders of skulmakov-oss/Semantic at commit a38c216cab, built unchanged (build.rs), with their answers in document 01's
+//! terms: a refusal has a kind, a number and an offset, and a table has the start of each record.
 
 include!(concat!(env!("OUT_DIR"), "/modules.rs"));
 
 pub mod block;
 pub mod messages;
-pub mod refusal;
 pub mod section;
 pub mod text;

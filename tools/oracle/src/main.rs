@@ -1,14 +1,12 @@
 //! Prints the Rust's answer to an input. A HEX of `-` is read from standard input; spaces and newlines in it are skipped.
 
-use oracle::block::{Path, block};
+use answers::Answer;
+use answers::block::{Activation, Component, Event, Execution, Path};
+use answers::text::Span;
+use oracle::block::block;
 use oracle::messages;
-use oracle::refusal::Refusal;
 use oracle::section::section;
-use oracle::semcode_decode::{
-    DecodedAccessPathComponent as Component, DecodedBorrowActivation as Activation,
-    DecodedWriteExecution as Execution,
-};
-use oracle::text::{Span, string, text};
+use oracle::text::{string, text};
 use std::fmt::Display;
 use std::io::Read;
 
@@ -83,32 +81,31 @@ fn span_line(s: Span) -> String {
     )
 }
 
-fn section_line(bytes: &[u8], cursor: usize) -> Result<String, Refusal> {
-    let s = section(bytes, cursor)?;
-    let (d, p) = (&s.decoded, &s.places);
+fn section_line(bytes: &[u8], cursor: usize) -> Answer<String> {
+    let (s, _) = section(bytes, cursor)?;
     Ok(format!(
-        "cursor={} counts={},{},{},{} depths={} propositions={} proofs={} policy={} issuer={} epoch={} source_set={} compiler_contract={}",
+        "cursor={} counts={} depths={} propositions={} proofs={} policy={} issuer={} epoch={} \
+         source_set={} compiler_contract={}",
         s.cursor,
-        d.propositions.len(),
-        d.proofs.len(),
-        d.witnesses.len(),
-        d.parents.len(),
-        list(&p.depths),
-        list(&p.propositions),
-        list(&p.proofs),
-        p.policy,
-        p.issuer,
-        d.epoch,
-        hex(&d.source_set),
-        hex(&d.compiler_contract),
+        list(s.counts),
+        list(&s.tables.depths),
+        list(&s.tables.propositions),
+        list(&s.tables.proofs),
+        s.policy,
+        s.issuer,
+        s.epoch,
+        hex(&s.source_set),
+        hex(&s.compiler_contract),
     ))
 }
 
-fn block_line(bytes: &[u8], base: usize, revision: u16) -> Result<String, Refusal> {
+fn block_line(bytes: &[u8], base: usize, revision: u16) -> Answer<String> {
     let b = block(bytes, base, revision)?;
     let strings = b.strings.iter().zip(&b.string_starts);
+    let paths = b.paths.iter().zip(&b.path_starts);
     Ok(format!(
-        "counts={},{},{} debug={} ownership={} strings_end={} instructions={} strings={} symbols={} paths={}",
+        "counts={},{},{} debug={} ownership={} strings_end={} instructions={} strings={} \
+         symbols={} paths={}",
         b.strings.len(),
         b.symbols.len(),
         b.paths.len(),
@@ -120,36 +117,31 @@ fn block_line(bytes: &[u8], base: usize, revision: u16) -> Result<String, Refusa
         list(
             b.symbols
                 .iter()
-                .map(|s| format!("{}:{}:{}", s.pc, s.line, s.col))
+                .map(|s| format!("{}:{}:{}", s.pc, s.line, s.column))
         ),
-        list(b.paths.iter().map(path_item)),
+        list(paths.map(|(path, start)| format!("{start}:{}", path_item(path)))),
     ))
 }
 
-/// start:event:root[components]
-fn path_item(p: &Path) -> String {
-    let event = match (p.write, p.path.activation, p.path.write_execution) {
-        (false, None, _) => "borrow".to_string(),
-        (false, Some(Activation::FrameEntry), _) => "borrow-frame-entry".to_string(),
-        (false, Some(Activation::StoreVarSite(site)), _) => format!("borrow-store-site-{site}"),
-        (true, _, None) => "write".to_string(),
-        (true, _, Some(Execution::StoreVarSite(site))) => format!("write-store-site-{site}"),
-        (true, _, Some(Execution::MakeRecordSite(site))) => format!("write-record-site-{site}"),
+/// event:root[components]
+fn path_item(path: &Path) -> String {
+    let event = match path.event {
+        Event::Borrow(Activation::None) => "borrow".to_string(),
+        Event::Borrow(Activation::FrameEntry) => "borrow-frame-entry".to_string(),
+        Event::Borrow(Activation::StoreSite(site)) => format!("borrow-store-site-{site}"),
+        Event::Write(Execution::None) => "write".to_string(),
+        Event::Write(Execution::StoreSite(site)) => format!("write-store-site-{site}"),
+        Event::Write(Execution::RecordSite(site)) => format!("write-record-site-{site}"),
     };
-    let components: Vec<String> = p.path.components.iter().map(component_item).collect();
-    format!(
-        "{}:{event}:{}[{}]",
-        p.start,
-        p.path.root_symbol_id,
-        components.join(" ")
-    )
+    let components: Vec<String> = path.components.iter().map(component_item).collect();
+    format!("{event}:{}[{}]", path.root, components.join(" "))
 }
 
 fn component_item(component: &Component) -> String {
     match component {
         Component::TupleIndex(index) => format!("tuple-{index}"),
         Component::FieldSymbol(field) => format!("field-{field}"),
-        Component::AdtPayload { variant, index } => format!("variant-{variant}-{index}"),
-        Component::SequenceIndexStatic(index) => format!("sequence-{index}"),
+        Component::Variant { variant, index } => format!("variant-{variant}-{index}"),
+        Component::SequenceIndex(index) => format!("sequence-{index}"),
     }
 }

@@ -1,8 +1,8 @@
 //! The Rust's messages and document 01's numbers.
 
 use crate::evr0::{Evr0Error, Evr0ErrorKind};
-use crate::refusal::{Kind, Refusal};
 use crate::semcode_decode::DecodeError;
+use answers::refusal::{Kind, Refusal};
 
 mod literals;
 pub use literals::check;

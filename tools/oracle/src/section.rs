@@ -2,34 +2,14 @@
 
 use crate::evr0::{DecodedEvr0, Proof, decode_evr0_section};
 use crate::messages::of_section;
-use crate::refusal::Refusal;
+use answers::Answer;
+use answers::section::{Section, Tables};
 
-pub struct Section {
-    pub cursor: usize,
-    pub decoded: DecodedEvr0,
-    pub places: Places,
-}
-
-/// Places in the payload, and depths.
-pub struct Places {
-    pub policy: u64,
-    pub issuer: u64,
-    pub propositions: Vec<u64>,
-    pub proofs: Vec<u64>,
-    pub witnesses: u64,
-    pub parents: u64,
-    pub depths: Vec<u64>,
-}
-
-/// The section at a cursor, or the refusal; the Rust leaves the cursor where it refuses.
-pub fn section(bytes: &[u8], cursor: usize) -> Result<Section, Refusal> {
+/// The section at a cursor, with the Rust's own records.
+pub fn section(bytes: &[u8], cursor: usize) -> Answer<(Section, DecodedEvr0)> {
     let mut after = cursor;
     match decode_evr0_section(bytes, &mut after) {
-        Ok(decoded) => Ok(Section {
-            cursor: after,
-            places: places(&decoded),
-            decoded,
-        }),
+        Ok(decoded) => Ok((answer(&decoded, after), decoded)),
         Err(error) => {
             assert_eq!(after, cursor, "a refusal moved the cursor");
             Err(of_section(error))
@@ -37,40 +17,52 @@ pub fn section(bytes: &[u8], cursor: usize) -> Result<Section, Refusal> {
     }
 }
 
-const HEAD: u64 = 2 + 2 + 32 + 32 + 2;
-const COUNTS: u64 = 4 * 4;
-const WITNESS: u64 = 84;
+const HEAD: usize = 2 + 2 + 32 + 32 + 2;
+const COUNTS: usize = 4 * 4;
 
-fn text(value: &str) -> u64 {
-    2 + value.len() as u64
+fn text(value: &str) -> usize {
+    2 + value.len()
 }
 
 /// The records stand one after the other, so that their sizes give their starts.
-pub fn places(d: &DecodedEvr0) -> Places {
+fn answer(d: &DecodedEvr0, cursor: usize) -> Section {
     let policy = HEAD;
     let issuer = policy + text(&d.policy_namespace);
-    let mut at = issuer + text(&d.issuer_namespace) + COUNTS;
-    let mut starts = |sizes: &mut dyn Iterator<Item = u64>| -> Vec<u64> {
-        sizes
-            .map(|size| {
-                let start = at;
-                at += size;
-                start
-            })
-            .collect()
-    };
-    let propositions = starts(&mut d.propositions.iter().map(|p| text(&p.kind) + 12));
-    let proofs = starts(&mut d.proofs.iter().map(|p| 8 + text(&p.rule_id) + 24));
-    let witnesses = at;
-    Places {
+    let first = issuer + text(&d.issuer_namespace) + COUNTS;
+    let (propositions, next) = starts(first, d.propositions.iter().map(|p| text(&p.kind) + 12));
+    let (proofs, _) = starts(next, d.proofs.iter().map(|p| 8 + text(&p.rule_id) + 24));
+    Section {
+        source_set: d.source_set,
+        compiler_contract: d.compiler_contract,
+        epoch: d.epoch,
         policy,
         issuer,
-        propositions,
-        proofs,
-        witnesses,
-        parents: witnesses + WITNESS * d.witnesses.len() as u64,
-        depths: depths(&d.proofs, &d.parents),
+        counts: [
+            d.propositions.len(),
+            d.proofs.len(),
+            d.witnesses.len(),
+            d.parents.len(),
+        ],
+        cursor,
+        tables: Tables {
+            propositions,
+            proofs,
+            depths: depths(&d.proofs, &d.parents),
+        },
     }
+}
+
+/// The start of each record, and the place after the last.
+pub(crate) fn starts(first: usize, sizes: impl Iterator<Item = usize>) -> (Vec<u64>, usize) {
+    let mut at = first;
+    let starts = sizes
+        .map(|size| {
+            let start = at;
+            at += size;
+            start as u64
+        })
+        .collect();
+    (starts, at)
 }
 
 /// 1 without parents, else one more than the deepest parent; a parent's number is below its proof's.

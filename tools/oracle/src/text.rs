@@ -3,18 +3,12 @@
 use crate::block::block;
 use crate::evr0::text_at;
 use crate::messages::of_section;
-use crate::refusal::Refusal;
-
-#[derive(Debug, Clone, Copy, PartialEq, Eq)]
-pub struct Span {
-    pub start: usize,
-    pub len: usize,
-    pub chars: usize,
-    pub next: usize,
-}
+use answers::Answer;
+use answers::refusal::Refusal;
+use answers::text::Span;
 
 /// A text of a section.
-pub fn text(bytes: &[u8], at: usize) -> Result<Span, Refusal> {
+pub fn text(bytes: &[u8], at: usize) -> Answer<Span> {
     let (value, next) = text_at(bytes, at).map_err(of_section)?;
     Ok(Span {
         start: at + 2,
@@ -26,7 +20,7 @@ pub fn text(bytes: &[u8], at: usize) -> Result<Span, Refusal> {
 
 /// A string of a function: the one string of a block whose count, 1, stands before it. The block ends with the string, so that no tag
 /// can follow.
-pub fn string(bytes: &[u8], at: usize) -> Result<Span, Refusal> {
+pub fn string(bytes: &[u8], at: usize) -> Answer<Span> {
     let rest = bytes.get(at..).unwrap_or_default();
     let len = match rest {
         [low, high, ..] => 2 + u16::from_le_bytes([*low, *high]) as usize,

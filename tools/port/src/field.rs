@@ -1,11 +1,10 @@
 //! crates/exports/src/field.rt
 
 #[repr(C)]
-#[derive(Debug, Clone, Copy, PartialEq, Eq)]
-pub struct Field {
-    pub whole: bool,
-    pub value: u32,
-    pub next: usize,
+struct Field {
+    whole: bool,
+    value: u32,
+    next: usize,
 }
 
 unsafe extern "C" {
@@ -14,14 +13,18 @@ unsafe extern "C" {
     fn falgnust_read_u32_le(bytes: *const u8, len: usize, at: usize) -> Field;
 }
 
-pub fn read_u8(bytes: &[u8], at: usize) -> Field {
-    unsafe { falgnust_read_u8(bytes.as_ptr(), bytes.len(), at) }
+fn answer(f: Field) -> answers::text::Field {
+    f.whole.then_some((f.value, f.next))
 }
 
-pub fn read_u16_le(bytes: &[u8], at: usize) -> Field {
-    unsafe { falgnust_read_u16_le(bytes.as_ptr(), bytes.len(), at) }
+pub fn read_u8(bytes: &[u8], at: usize) -> answers::text::Field {
+    answer(unsafe { falgnust_read_u8(bytes.as_ptr(), bytes.len(), at) })
 }
 
-pub fn read_u32_le(bytes: &[u8], at: usize) -> Field {
-    unsafe { falgnust_read_u32_le(bytes.as_ptr(), bytes.len(), at) }
+pub fn read_u16_le(bytes: &[u8], at: usize) -> answers::text::Field {
+    answer(unsafe { falgnust_read_u16_le(bytes.as_ptr(), bytes.len(), at) })
+}
+
+pub fn read_u32_le(bytes: &[u8], at: usize) -> answers::text::Field {
+    answer(unsafe { falgnust_read_u32_le(bytes.as_ptr(), bytes.len(), at) })
 }

@@ -12,6 +12,17 @@ pub enum Kind {
     Added,
 }
 
+impl Kind {
+    pub const ALL: [Kind; 6] = [
+        Kind::Invalid,
+        Kind::Limit,
+        Kind::Strings,
+        Kind::Debug,
+        Kind::Ownership,
+        Kind::Added,
+    ];
+}
+
 #[derive(Debug, Clone, Copy, PartialEq, Eq)]
 pub struct Refusal {
     pub kind: Kind,
