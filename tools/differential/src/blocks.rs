@@ -1,18 +1,14 @@
 //! Blocks: every cut and byte change of small ones at each revision, faults one and two at once, limits, and large ones.
 
 use crate::tally::Tally;
-use answers::refusal::Refusal;
 use inputs::block::{self, Block, REVISIONS};
-use inputs::block_faults;
+use inputs::block_conditions::{accepted, condition};
+use inputs::cases::{self, BASES};
 use inputs::random::Random;
-use inputs::section_faults::scrambled;
 use inputs::text::Text;
 
-/// Bases at which a sum is exact, reaches 2^64 - 1 or is held there.
-const BASES: [usize; 4] = [0, 1000, usize::MAX - 20, usize::MAX];
-
 pub fn run(r: &mut Random, count: usize) -> Tally {
-    let mut tally = Tally::new("blocks");
+    let mut tally = Tally::new("blocks, by the Rust alone");
     for revision in REVISIONS {
         let small = block::each_form(r, revision);
         cuts(&mut tally, &small);
@@ -20,7 +16,8 @@ pub fn run(r: &mut Random, count: usize) -> Tally {
     }
     large(&mut tally, r);
     for _ in 0..count {
-        random(&mut tally, r);
+        let case = cases::block(r);
+        compare(&mut tally, &case.code, case.base, case.revision);
     }
     tally
 }
@@ -28,32 +25,8 @@ pub fn run(r: &mut Random, count: usize) -> Tally {
 fn compare(tally: &mut Tally, bytes: &[u8], base: usize, revision: u16) {
     match oracle::block::block(bytes, base, revision) {
         Ok(_) => tally.input((0, accepted(revision))),
-        Err(refusal) => tally.input((refusal.number, condition(bytes, &refusal, base))),
+        Err(refusal) => tally.input((refusal.number, condition(bytes, base, &refusal))),
     }
-}
-
-fn accepted(revision: u16) -> &'static str {
-    match revision {
-        0..21 => "below revision 21",
-        21 => "revision 21",
-        _ => "from revision 22",
-    }
-}
-
-/// Which of two conditions a number stands for, where that shows.
-fn condition(bytes: &[u8], refusal: &Refusal, base: usize) -> &'static str {
-    match refusal.number {
-        34 if refusal.offset == usize::MAX => "place not known, the offset is held",
-        34 if string_is_cut(bytes, refusal.offset - base) => "string cut",
-        34 => "string not UTF-8",
-        _ => "",
-    }
-}
-
-/// Whether the string that starts at a place passes the end.
-fn string_is_cut(bytes: &[u8], start: usize) -> bool {
-    let length = u16::from_le_bytes([bytes[start - 2], bytes[start - 1]]);
-    start + length as usize > bytes.len()
 }
 
 fn cuts(tally: &mut Tally, block: &Block) {
@@ -80,26 +53,6 @@ fn byte_changes(tally: &mut Tally, block: &Block) {
         }
         changed[at] = bytes[at];
     }
-}
-
-/// A small block, valid or damaged.
-fn random(tally: &mut Tally, r: &mut Random) {
-    let block = block::small(r);
-    let revision = block.revision;
-    let (bytes, revision) = match r.below(8) {
-        0 => (block.bytes(), revision),
-        1 => (scrambled(r, block.bytes()), revision),
-        _ => {
-            let block = block_faults::damaged(r, block);
-            (block.bytes(), block.revision)
-        }
-    };
-    let base = match r.below(3) {
-        0 => r.pick(&BASES),
-        1 => usize::MAX - r.below(bytes.len() + 2),
-        _ => r.next() as usize,
-    };
-    compare(tally, &bytes, base, revision);
 }
 
 /// Limits at one below, at and one above, and the largest tables.

@@ -2,7 +2,6 @@
 
 mod blocks;
 mod fields;
-mod section_conditions;
 mod sections;
 mod tally;
 

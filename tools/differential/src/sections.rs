@@ -1,13 +1,13 @@
 //! Sections: every cut and byte change of small ones, faults one and two at once, limits, and large ones.
 
-use crate::section_conditions::condition;
 use crate::tally::Tally;
 use inputs::random::Random;
 use inputs::section::Section;
-use inputs::{section_faults, shapes};
+use inputs::section_conditions::condition;
+use inputs::{cases, shapes};
 
 pub fn run(r: &mut Random, count: usize) -> Tally {
-    let mut tally = Tally::new("sections");
+    let mut tally = Tally::new("sections, by the Rust alone");
     for shape in [shapes::one_proof, shapes::two_proofs, shapes::joined] {
         let bytes = shape(r).bytes();
         cuts(&mut tally, &bytes);
@@ -15,7 +15,8 @@ pub fn run(r: &mut Random, count: usize) -> Tally {
     }
     large(&mut tally, r);
     for _ in 0..count {
-        random(&mut tally, r);
+        let case = cases::section(r);
+        compare(&mut tally, &case.file, case.cursor);
     }
     tally
 }
@@ -52,30 +53,6 @@ fn byte_changes(tally: &mut Tally, bytes: &[u8]) {
         }
         changed[at] = bytes[at];
     }
-}
-
-/// A small section, valid or damaged, somewhere in a file.
-fn random(tally: &mut Tally, r: &mut Random) {
-    let section = shapes::small(r);
-    let bytes = match r.below(8) {
-        0 => section.bytes(),
-        1 => section_faults::scrambled(r, section.bytes()),
-        _ => section_faults::damaged(r, section).bytes(),
-    };
-    let before = if r.one_in(4) { r.below(20) } else { 0 };
-    let after = if r.one_in(4) { r.below(20) } else { 0 };
-    let mut file: Vec<u8> = (0..before).map(|_| r.byte()).collect();
-    file.extend(bytes);
-    file.extend((0..after).map(|_| r.byte()));
-    if r.one_in(50) {
-        file.truncate(before + r.below(8));
-    }
-    let cursor = match r.below(100) {
-        0 => usize::MAX - r.below(12),
-        1 => r.below(file.len() + 12),
-        _ => before,
-    };
-    compare(tally, &file, cursor);
 }
 
 /// Limits at one below, at and one above, and the largest tables.

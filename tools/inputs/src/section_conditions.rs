@@ -1,5 +1,5 @@
-//! Which condition of document 01's table a section met: the clause, the field or the text behind a refusal's number. Only for the counts
-//! that a run prints; no comparison rests on it.
+//! Which condition of document 01's table a section met: the clause, the field or the text behind a refusal's number. Only for counts and
+//! for picking inputs; no comparison rests on it.
 
 use answers::refusal::Refusal;
 
