@@ -2,3 +2,5 @@
 pub mod field;
 pub mod refusal;
 pub mod tag;
+pub mod text;
+pub mod utf8;

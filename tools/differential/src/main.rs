@@ -4,6 +4,8 @@ mod blocks;
 mod fields;
 mod sections;
 mod tally;
+mod texts;
+mod utf8;
 
 use inputs::random::Random;
 use tally::Tally;
@@ -13,8 +15,10 @@ const USAGE: &str = "usage: differential [--seed N] [--count N] [--part NAME]";
 /// The parts of a run: a name, and what tries so many random inputs.
 type Part = (&'static str, fn(&mut Random, usize) -> Tally);
 
-const PARTS: [Part; 3] = [
+const PARTS: [Part; 5] = [
     ("fields", |r, _| fields::run(r)),
+    ("utf8", |_, _| utf8::run()),
+    ("texts", texts::run),
     ("sections", sections::run),
     ("blocks", blocks::run),
 ];

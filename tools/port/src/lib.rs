@@ -2,4 +2,7 @@
 //! source, so each module keeps to the functions and structs of the file of the same name there.
 
 pub mod field;
+pub mod refusal;
 pub mod tag;
+pub mod text;
+pub mod utf8;
