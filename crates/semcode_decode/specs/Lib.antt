@@ -1,0 +1,4 @@
+pub mod Block
+pub mod Lent
+pub mod Number
+pub mod Specimens

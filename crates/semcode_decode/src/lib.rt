@@ -1,0 +1,1 @@
+// The string, DBG0 and OWN0 tables of a function block.

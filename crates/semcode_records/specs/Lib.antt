@@ -1,0 +1,4 @@
+pub mod Records
+pub mod Symbol
+pub mod Component
+pub mod Path

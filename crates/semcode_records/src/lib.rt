@@ -1,0 +1,1 @@
+// One debug symbol, one path and one component of a function block.
