@@ -2,3 +2,4 @@ pub mod Records
 pub mod Symbol
 pub mod Component
 pub mod Path
+pub mod Maps

@@ -3,9 +3,10 @@ use Prim.Native.Nat.{ℕ}
 use mathlib.Core.List.{List}
 use mathlib.Core.Bool.{cond}
 use lib.Dec.{leb, eqb}
+use lib.ListN.{length}
 use Rattle.local_format.specs.Out.{Out, ok, refuse, check, _>>=_, _>>_}
 use Rattle.local_format.specs.Field.{Got, field}
-use Rattle.semcode_records.specs.Records.{Taken, taken, Table, records}
+use Rattle.semcode_records.specs.Records.{Taken, taken, Entry, Table, records}
 use Rattle.semcode_records.specs.Component.{Component, componentAt}
 
 -- ---- The event
@@ -43,20 +44,26 @@ executionAt s at = do
 abbrev pub modeAt : {A : Type 0} → ℕ → A → (ℕ → Out (Taken A)) → ℕ → Out (Taken A)
 modeAt revision none read at = cond (leb 21 revision) (read at) (taken none at)
 
--- an event by its kind; an unknown kind has no mode
+-- an event by its kind; an unknown kind brings no mode
 pub data Kinded : Type 0 where
   known : Event → Kinded
   unknown : Kinded
 
+abbrev pub borrowed : Out (Taken Activation) → Out (Taken Kinded)
+borrowed x = do
+  activation ← x
+  taken (known (borrow (activation .value))) (activation .next)
+
+abbrev pub written : Out (Taken Execution) → Out (Taken Kinded)
+written x = do
+  execution ← x
+  taken (known (write (execution .value))) (execution .next)
+
+-- what follows an event's kind
 unfoldable pub eventOf : ℕ → ℕ → List ℕ → ℕ → Out (Taken Kinded)
 eventOf kind revision s at =
-    cond (eqb kind 0) (do
-      activation ← modeAt revision noActivation (activationAt s) at
-      taken (known (borrow (activation .value))) (activation .next))
-    (cond (eqb kind 1) (do
-      execution ← modeAt revision noExecution (executionAt s) at
-      taken (known (write (execution .value))) (execution .next))
-    (taken unknown at))
+    cond (eqb kind 0) (borrowed (modeAt revision noActivation (activationAt s) at))
+    (cond (eqb kind 1) (written (modeAt revision noExecution (executionAt s) at)) (taken unknown at))
 
 -- an event of a known kind; else the refusal with this number at this place
 abbrev pub orUnknown : ℕ → ℕ → Kinded → Out Event
@@ -79,3 +86,19 @@ pathAt revision s at = do
   components ← records (componentAt revision (kind .value) s) (count .value) (count .next)
   event ← orUnknown 60 (components .end) (kinded .value)
   taken (record { event = event; root = root .value; components = components }) (components .end)
+
+-- a path read back: its event, its root, how many components it has, and where they start
+pub record Head : Type 0 where
+  pub event : Event
+  pub root : ℕ
+  pub count : ℕ
+  pub start : ℕ
+
+abbrev pub headOf : Path → Head
+headOf p =
+    record { event = p .event; root = p .root; count = length (p .components .entries); start = p .components .start }
+
+unfoldable pub headAt : ℕ → List ℕ → ℕ → Out (Taken Head)
+headAt revision s at = do
+  path ← pathAt revision s at
+  taken (headOf (path .value)) (path .next)

@@ -36,3 +36,9 @@ records read (suc count) at = do
   first ← read at
   rest ← records read count (first .next)
   ok (before (record { start = at; value = first .value }) rest)
+
+-- the place after the last
+abbrev pub ends : {A : Type 0} → Out (Table A) → Out ℕ
+ends x = do
+  t ← x
+  ok (t .end)
