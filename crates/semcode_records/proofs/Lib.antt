@@ -1,2 +1,3 @@
 pub mod RecordsLaws
 pub mod PathLaws
+pub mod SymbolLaws

@@ -1,9 +1,11 @@
 -- A path read back: its components are counted and passed, and none is kept.
-use mathlib.Core.Path.{_≡_, refl}
+use mathlib.Core.Path.{_≡_, refl, ap, sym, _∙_}
 use Prim.Native.Nat.{ℕ}
 use mathlib.Core.List.{List}
+use Rattle.local_format.specs.Refusal.{Refusal}
 use Rattle.local_format.specs.Out.{Out, ok, refused, _>>=_}
 use Rattle.local_format.specs.Field.{Got, field}
+use Rattle.local_format.proofs.OutLaws.{never, refused-same, ok-same, bind-ok}
 use Rattle.semcode_records.specs.Records.{Taken, taken, Table, records, ends}
 use Rattle.semcode_records.specs.Component.{Component, componentAt}
 use Rattle.semcode_records.specs.Path.{Kinded, known, unknown, eventOf, orUnknown, Path, pathAt, Head, headOf, headAt}
@@ -43,3 +45,24 @@ head-steps revision s at =
     step (field 48 4 s (kinded .next)) _ _ _ λ root.
     step (field 49 2 s (root .next)) _ _ _ λ count.
     counted (componentAt revision (kind .value) s) (kinded .value) (root .value) (count .value) (count .next) (records (componentAt revision (kind .value) s) (count .value) (count .next)) refl
+
+-- ---- What a path read back says of the path
+module _ (revision : ℕ) (s : List ℕ) (at : ℕ) where
+  pub path-refused : {r : Refusal} → headAt revision s at ≡ refused r → pathAt revision s at ≡ refused r
+  unfolding headAt
+  path-refused {r} e = go (pathAt revision s at) e
+    where
+      go : (x : Out (Taken Path)) → (x >>= λ path. taken (headOf (path .value)) (path .next)) ≡ refused r → x ≡ refused r
+      go (ok t) h = absurd (never (sym h))
+      go (refused q) h = ap refused (refused-same h)
+
+  pub path-read : {t : Taken Head} → headAt revision s at ≡ ok t
+      → (p : Path) × (pathAt revision s at ≡ taken p (t .next)) × (headOf p ≡ t .value)
+  unfolding headAt
+  path-read {t} e =
+      let q = bind-ok (pathAt revision s at) _ e in
+      let h : record { value = headOf (q .0 .value); next = q .0 .next } ≡ t = ok-same (q .2) in (
+        q .0 .value,
+        q .1 ∙ ap (λ (t : Taken Head). taken (q .0 .value) (t .next)) h,
+        ap (λ (t : Taken Head). t .value) h,
+      )

@@ -10,7 +10,7 @@ use Rattle.local_format.specs.Out.{Out, ok, refused, _>>=_}
 use Rattle.local_format.proofs.OutLaws.{bind-ok, ok-same}
 use Rattle.semcode_records.specs.Records.{Taken, Entry, Table, noRecords, before, records, ends}
 
-ends-before : {A : Type 0} (e : Entry A) (x : Out (Table A)) → ends (x >>= λ t. ok (before e t)) ≡ ends x
+pub ends-before : {A : Type 0} (e : Entry A) (x : Out (Table A)) → ends (x >>= λ t. ok (before e t)) ≡ ends x
 ends-before e (ok t) = refl
 ends-before e (refused r) = refl
 
