@@ -1,1 +1,3 @@
 pub mod FrameLaws
+pub mod TableLaws
+pub mod RowLaws

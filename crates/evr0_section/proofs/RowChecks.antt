@@ -40,7 +40,7 @@ module _ (rules : List Rule) (counts : Counts) where
   rule-known (known q) r e = ap known (ok-same e)
   rule-known unknown r e = cc
 
-  proof-checked : (u : Unowned) (name : List ℕ) (r : ProofRecord) (rule : Rule) (at : ℕ) → checkProof rules counts u name r ≡ ok rule
+  pub proof-checked : (u : Unowned) (name : List ℕ) (r : ProofRecord) (rule : Rule) (at : ℕ) → checkProof rules counts u name r ≡ ok rule
       → GoodProof u (proofItem (record { start = at; item = record { proof = r; rule = rule } }))
   unfolding checkProof hasNumbers
   proof-checked u name r rule at e =
