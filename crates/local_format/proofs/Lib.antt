@@ -5,3 +5,4 @@ pub mod Utf8Laws
 pub mod ScanLaws
 pub mod CharLaws
 pub mod TextLaws
+pub mod Encoding
