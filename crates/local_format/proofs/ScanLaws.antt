@@ -5,10 +5,10 @@ use native.Mathlib.Omega.{arith}
 use native.Mathlib.Nat.{zero-add, add-zero, add-assoc}
 use native.Mathlib.Numerals.{add-one, one-add}
 use mathlib.Core.List.{List, [], _∷_}
-use mathlib.Core.Bool.{Bool, true, false, cond, _||_, _&&_}
-use borrow.Author.Tests.{eq-eqb, ne-eqb, le-leb, lt-leb, leb-true, leb-false, lt-ltb, le-ltb, ltb-true, ltb-false}
-use lib.Dec.{eqb, leb, ltb}
-use lib.ListN.{length, getD, take, drop, drop-of-length-le}
+use mathlib.Core.Bool.{Bool, true, false, _||_, _&&_}
+use borrow.Author.Tests.{le-leb, lt-leb, leb-true, leb-false, ltb-true}
+use lib.Dec.{leb, ltb}
+use lib.ListN.{length, getD, drop, drop-of-length-le}
 use lib.Seq.{drop-cons}
 use Rattle.local_format.specs.Utf8.{Part, char, more, bad, going, leadOf, table, Decoded, points, ill, onto, decode, decodeFrom, stepOf, isControl, anyControl}
 use Rattle.local_format.specs.Scan.{Scanned, text, notUtf8, scanOf, joined, printable, allPrintable, laterAt}
