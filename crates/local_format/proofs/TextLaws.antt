@@ -16,7 +16,7 @@ use Rattle.local_format.specs.Scan.{Scanned, text, notUtf8, scanOf, Utf8
 use Rattle.local_format.specs.Scan as scan
 use Rattle.local_format.proofs.OutLaws.{never, ok-same, bind-ok, checked-ok, RefusesWithin, within-bind, within-check, refused-within}
 use Rattle.local_format.proofs.FieldLaws.{field-ok, field-within}
-use Rattle.local_format.proofs.Utf8Laws.{both}
+use Rattle.local_format.proofs.BoolLaws.{both}
 
 -- ---- The bytes of a text
 module _ (s : List ℕ) (at len : ℕ) where

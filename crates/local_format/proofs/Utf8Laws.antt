@@ -6,22 +6,14 @@ use native.Mathlib.Omega.{arith}
 use native.Mathlib.Numerals.{add-one}
 use native.Mathlib.Decide.{decLe}
 use mathlib.Core.List.{List}
-use mathlib.Core.Bool.{Bool, true, false, cond, _&&_}
+use mathlib.Core.Bool.{Bool, true, false, cond, _&&_, and-false}
 use borrow.Author.Tests.{eq-eqb, ne-eqb, eqb-true, eqb-false, le-leb, lt-leb, ltb-true, ltb-false}
 use lib.Dec.{eqb, leb, ltb}
 use lib.ListN.{length, getD, drop, drop-of-length-le}
 use lib.Seq.{drop-cons}
 use Rattle.local_format.specs.Utf8.{Part, Step, char, more, bad, going, leadOf, laterOf, table, stepOf, Decoded, ill, onto, after, decode, decodeFrom}
 use Rattle.local_format.specs.Scan.{laterAt}
-
--- ---- Booleans
-pub and-false : (a : Bool) → (a && false) ≡ false
-and-false true = refl
-and-false false = refl
-
-pub both : (a b : Bool) → (a && b) ≡ true → (a ≡ true) × (b ≡ true)
-both true b e = (refl, e)
-both false b e = (cc, cc)
+use Rattle.local_format.proofs.BoolLaws.{both}
 
 -- ---- The lead byte, by the rows of the table
 abbrev pub part : ℕ → ℕ → ℕ → ℕ → Part
