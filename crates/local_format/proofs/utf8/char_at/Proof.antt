@@ -30,9 +30,7 @@ returns-3 c =
 
 shared-slice-read-is-control : tie.Need-shared-slice-read-is-control
 shared-slice-read-is-control c =
-    let k = c .before .before .before in
-    let l = later-there 0x80 0xBF _ _ (sym (k .later .ensures) ∙ not-false _ (c .before .before .if4 .left)) in
-    l .0
+    later-there 0x80 0xBF _ _ (sym (c .before .before .before .later .ensures) ∙ not-false _ (c .before .before .if4 .left)) .0
 
 returns-4 : tie.Need-returns-4
 returns-4 c =
