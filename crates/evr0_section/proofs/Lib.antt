@@ -4,3 +4,5 @@ pub mod RowChecks
 pub mod CheckedTables
 pub mod SectionSteps
 pub mod Demand
+pub mod Computed
+pub mod Specimens
