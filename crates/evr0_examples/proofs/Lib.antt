@@ -1,0 +1,3 @@
+pub mod Shown
+pub mod Small
+pub mod Chains
