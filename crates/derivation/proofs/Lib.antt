@@ -9,3 +9,4 @@ pub mod Rules
 pub mod Authorised
 pub mod Laws
 pub mod Reach
+pub mod Numbers

@@ -16,6 +16,7 @@ use Rattle.evr0_section.specs.Head.{Room}
 use Rattle.evr0_section.specs.Section.{Tables, Section, sectionOf, tablesAt, sectionAt}
 use Rattle.evr0_section.specs.Demand.{Accepted, Demand3, FourWords}
 use Rattle.evr0_section.proofs.CheckedTables.{rules-known, tables-checked}
+use Rattle.evr0_section.proofs.Stages.{stage}
 use Rattle.evr0_section.proofs.SectionSteps.{tables-of, Parts, section-parts, section-of}
 
 module _ (rules : List Rule) (room : Room) (bytes : List ℕ) (cursor : ℕ) where
@@ -40,6 +41,7 @@ module _ (rules : List Rule) (room : Room) (bytes : List ℕ) (cursor : ℕ) whe
                 down = way-down _ _ c (d .depths) (a .depths);
                 neverSpent = never-spent _ _ c (d .depths) (a .depths);
               };
+          stage = stage rules room bytes cursor;
           exactly = λ t e. (
             (λ h.
                 let d : Section = h .0 in

@@ -3,6 +3,8 @@ pub mod StateLaws
 pub mod RowChecks
 pub mod CheckedTables
 pub mod SectionSteps
+pub mod Numbers
+pub mod Stages
 pub mod Demand
 pub mod Computed
 pub mod Specimens

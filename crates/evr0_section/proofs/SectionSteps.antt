@@ -54,7 +54,7 @@ module _ (rules : List Rule) (room : Room) (bytes : List ℕ) (cursor : ℕ) whe
   unfolding sectionAt sectionIn
   section-of t ds e h =
       let a = tables-of t e in (
-        record { tables = t; depths = ds; cursor = a .0 .start + a .0 .len },
+        record { tables = t; depths = ds; cursor = _ },
         on-ok _ (a .1) ∙ ap (moved (a .0 .start)) (on-ok _ (a .2) ∙ on-ok _ h),
       )
 
