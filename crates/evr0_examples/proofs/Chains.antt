@@ -1,18 +1,14 @@
 -- The longest chain that is accepted, with its walk of 255 moves, and the shortest that is not, with a walk of 256: by computation.
-use Prim.Native.Nat.{ℕ, zero, suc, _≤_}
+use Prim.Native.Nat.{ℕ, zero, suc}
 use mathlib.Core.Path.{_≡_, refl, ap}
-use mathlib.Core.List.{List, [], _∷_}
 use native.Mathlib.Omega.{arith}
 use lib.ListN.{length}
-use Rattle.local_format.specs.Out.{ok, refuse}
-use Rattle.derivation.specs.Section.{Section}
-use Rattle.derivation.specs.Pass.{depths}
-use Rattle.derivation.specs.Walk.{Walk, Fails, long}
+use Rattle.derivation.specs.Walk.{Walk, long}
 use Rattle.derivation.proofs.Reach.{reaches, canPick, reached}
 use Rattle.evr0_section.proofs.Computed.{decoded}
 use Rattle.evr0_examples.specs.Written.{written, propositionsFrom, Accepts, Refuses}
 use Rattle.evr0_examples.specs.Sections.{chain, opsFrom, upFrom, downTo0}
-use Rattle.evr0_examples.proofs.Shown.{Shown, shown, accepts, refuses}
+use Rattle.evr0_examples.proofs.Shown.{accepts, refuses}
 
 -- the walk down a chain
 pub walk-255 : Walk (chain 255) 255 (downTo0 255) 0

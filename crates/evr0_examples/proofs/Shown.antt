@@ -1,6 +1,6 @@
 -- What an example shows, from one computation of its tables and one of its depths.
 use Prim.Native.Nat.{ℕ, _+_}
-use mathlib.Core.Path.{_≡_, refl, sym, ap, _∙_, subst}
+use mathlib.Core.Path.{_≡_, sym, ap, _∙_}
 use mathlib.Core.List.{List}
 use Rattle.local_format.specs.Refusal.{refusal}
 use Rattle.local_format.specs.Out.{Out, ok, refused, refuse, _>>=_}
@@ -9,8 +9,7 @@ use Rattle.derivation.specs.Rule.{fourRules}
 use Rattle.derivation.specs.Section.{Section}
 use Rattle.derivation.specs.Pass.{depths}
 use Rattle.derivation.specs.Walk.{Walk, Fails}
-use Rattle.evr0_section.specs.Section as evr0
-use Rattle.evr0_section.specs.Section.{Tables, sectionOf, tablesAt, sectionAt, decodeSection}
+use Rattle.evr0_section.specs.Section.{Tables, sectionOf, tablesAt, decodeSection}
 use Rattle.evr0_section.proofs.SectionSteps.{Parts, section-parts, section-of, section-refused}
 use Rattle.evr0_examples.specs.Written.{written, enough, Reads, Accepts, Refuses}
 

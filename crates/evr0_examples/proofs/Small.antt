@@ -1,11 +1,9 @@
 -- Sections of a few proofs, each decoded whole by computation.
-use Prim.Native.Nat.{ℕ, zero, suc}
 use mathlib.Core.Path.{_≡_, refl}
-use mathlib.Core.List.{List, [], _∷_}
+use mathlib.Core.List.{[], _∷_}
 use native.Mathlib.Omega.{arith}
 use Rattle.local_format.specs.Out.{refuse}
-use Rattle.derivation.specs.Section.{Section, proofAt, witnessAt}
-use Rattle.derivation.specs.Walk.{Walk, Fails, strays, unwitnessed, AtEnd}
+use Rattle.derivation.specs.Walk.{Walk, strays, unwitnessed, AtEnd}
 use Rattle.derivation.proofs.Reach.{reaches, canPick, reached}
 use Rattle.evr0_section.specs.Section.{decodeSection}
 use Rattle.evr0_section.proofs.Computed.{decoded}

@@ -2,7 +2,7 @@
 use Prim.Native.Nat.{ℕ, zero, suc}
 use mathlib.Core.List.{List, [], _∷_}
 use Rattle.derivation.specs.Rule.{posWitness1, negWitness1, opTOnly1}
-use Rattle.derivation.specs.Section.{Proof, Witness, Section}
+use Rattle.derivation.specs.Section.{Proof, Section}
 use Rattle.evr0_section.specs.Build.{leaf, join, op, witness}
 
 -- a join of a positive and a negative proof, an OP on the join, an OP on that OP, and two joins upon joins

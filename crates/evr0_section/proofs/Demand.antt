@@ -2,7 +2,6 @@
 use Prim.Native.Nat.{ℕ, _<_}
 use mathlib.Core.Path.{_≡_, sym, _∙_, subst}
 use mathlib.Core.List.{List, List·Memᴰ}
-use mathlib.Core.Logic.{_↔_}
 use Rattle.local_format.specs.Out.{ok}
 use Rattle.local_format.proofs.OutLaws.{ok-same}
 use Rattle.derivation.specs.Rule.{Rule, Shaped, fourRules}
@@ -13,8 +12,8 @@ use Rattle.derivation.proofs.Demand.{walks-lead, depths-are, accepted-exactly}
 use Rattle.derivation.proofs.Down.{way-down, never-spent}
 use Rattle.derivation.proofs.Rules.{four-shaped, one-witness, two-parents}
 use Rattle.evr0_section.specs.Head.{Room}
-use Rattle.evr0_section.specs.Section.{Tables, Section, sectionOf, tablesAt, sectionAt}
-use Rattle.evr0_section.specs.Demand.{Accepted, Demand3, FourWords}
+use Rattle.evr0_section.specs.Section.{Tables, Section, sectionOf, tablesAt}
+use Rattle.evr0_section.specs.Demand.{Demand3, FourWords}
 use Rattle.evr0_section.proofs.CheckedTables.{rules-known, tables-checked}
 use Rattle.evr0_section.proofs.Stages.{stage}
 use Rattle.evr0_section.proofs.SectionSteps.{tables-of, Parts, section-parts, section-of}

@@ -1,14 +1,14 @@
 -- Reading the tables refuses with 1 to 24 and 61 alone: each step keeps to its numbers.
-use Prim.Native.Nat.{ℕ, zero, suc, _+_, _-_, _*_, _≤_, max}
-use mathlib.Core.Path.{_≡_, refl, ap, sym, _∙_}
+use Prim.Native.Nat.{ℕ, zero, suc, _+_, _-_, _≤_}
+use mathlib.Core.Path.{_≡_, refl, sym}
 use mathlib.Core.Logic.{_⊎_, inl, inr}
-use mathlib.Core.Bool.{Bool, true, false, not, _&&_}
+use mathlib.Core.Bool.{Bool, not, _&&_}
 use mathlib.Core.List.{List, [], _∷_}
 use native.Mathlib.Omega.{arith}
 use lib.Dec.{ltb, leb, eqb}
-use lib.ListN.{length, drop, getD}
+use lib.ListN.{length, drop}
 use Rattle.local_format.specs.Refusal.{Refusal}
-use Rattle.local_format.specs.Out.{Out, ok, refused, check, moved, _>>=_, _>>_}
+use Rattle.local_format.specs.Out.{Out, refused, check, moved, _>>=_, _>>_}
 use Rattle.local_format.specs.Field.{Got, Field, whole, cut, fieldAt, orCut, field}
 use Rattle.local_format.specs.Tag.{tagAt, evr0}
 use Rattle.local_format.specs.Utf8.{Decoded, points, ill, decode, anyControl}
@@ -16,12 +16,12 @@ use Rattle.local_format.specs.Text.{Span, orIll, bytesAt, sectionField, textAt}
 use Rattle.local_format.proofs.OutLaws.{never, refused-same}
 use Rattle.derivation.specs.Rule.{Rule, Named, known, unknown, ruleNamed}
 use Rattle.derivation.proofs.Numbers.{by-bind, by-then, by-check, by-moved}
-use Rattle.evr0_section.specs.Rows.{Row, Rows, rows}
+use Rattle.evr0_section.specs.Rows.{Row, rows}
 use Rattle.evr0_section.specs.Head.{Counts, Room, Head, digestAt, countsAt, headOf, listed, countLimits, withinLimits, sizes, hasRoom, checkCounts}
 use Rattle.evr0_section.specs.Proposition.{Before, first, propositionOf, keyOf, rises, propositionRow}
-use Rattle.evr0_section.specs.Proof.{ProofRecord, Settled, Unowned, zerosAt, proofOf, orUnknown, hasNumbers, checkProof, proofRow}
+use Rattle.evr0_section.specs.Proof.{ProofRecord, Unowned, zerosAt, proofOf, orUnknown, hasNumbers, checkProof, proofRow}
 use Rattle.evr0_section.specs.Witness.{WitnessRecord, witnessOf, checkWitness, witnessRow, parentRow}
-use Rattle.evr0_section.specs.Section.{Frame, frameAt, Tables, sectionOf, tablesOf, tablesAt}
+use Rattle.evr0_section.specs.Section.{frameAt, tablesOf, tablesAt}
 
 module _ (P : ℕ → Type 0) {r : Refusal} where
   by-cut : (n width : ℕ) (s : List ℕ) (at : ℕ) → field n width s at ≡ refused r → P n → P (r .number)

@@ -1,12 +1,12 @@
 -- A section that was decoded, taken apart into its tables and its depths, and put together.
 use Prim.Native.Nat.{ℕ, _+_}
-use mathlib.Core.Path.{_≡_, refl, ap, _∙_, subst}
+use mathlib.Core.Path.{_≡_, ap, _∙_, subst}
 use mathlib.Core.List.{List}
 use mathlib.Core.Bool.{_&&_}
 use native.Mathlib.Omega.{arith}
 use lib.Dec.{leb}
 use Rattle.local_format.specs.Refusal.{Refusal}
-use Rattle.local_format.specs.Out.{Out, ok, refused, moved, atOffset, _>>=_}
+use Rattle.local_format.specs.Out.{ok, refused, moved, atOffset}
 use Rattle.local_format.specs.Field.{Got, field}
 use Rattle.local_format.specs.Tag.{tagAt, evr0}
 use Rattle.local_format.specs.Text.{bytesAt}

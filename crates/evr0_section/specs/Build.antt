@@ -1,5 +1,5 @@
 -- The bytes of sections, for specimens and examples: the layout of document 01, written.
-use Prim.Native.Nat.{ℕ, zero, suc, _+_, _/_, _%_}
+use Prim.Native.Nat.{ℕ, zero, suc, _/_, _%_}
 use mathlib.Core.List.{List, [], _∷_, _++_}
 use lib.ListN.{length}
 use Rattle.local_format.specs.Tag.{evr0}

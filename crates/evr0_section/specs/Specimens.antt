@@ -5,9 +5,8 @@ use lib.ListN.{drop}
 use Rattle.local_format.specs.Out.{Out, ok, refuse, _>>=_}
 use Rattle.local_format.specs.Tag.{evr0}
 use Rattle.derivation.specs.Rule.{posWitness1}
-use Rattle.evr0_section.specs.Rows.{Entry}
 use Rattle.evr0_section.specs.Head.{Counts, Room}
-use Rattle.evr0_section.specs.Section.{Frame, frameAt, Section, decodeSection}
+use Rattle.evr0_section.specs.Section.{frameAt, decodeSection}
 use Rattle.evr0_section.specs.Build.{Free, number, payload, framed, propositionBytes, leaf, op, witness}
 
 -- what is told of an accepted section: the payload's length, the cursor, the counts, the starts in the payload, the depths
