@@ -1,4 +1,4 @@
--- The longest chain that is accepted, with its walk of 255 moves, and the shortest that is not, with a walk of 256: by computation.
+-- The longest chain that is accepted, with its walk of 255 moves, and the shortest that is not, with a walk of 256: its records computed one by one.
 use Prim.Native.Nat.{ℕ, zero, suc}
 use mathlib.Core.Path.{_≡_, refl, ap, _∙_}
 use mathlib.Core.List.{List}
@@ -25,7 +25,7 @@ walk-256 : Walk (chain 256) 256 (downTo0 256) 0
 unfolding decoded chain opsFrom upFrom downTo0 reaches canPick
 walk-256 = reached (chain 256) 256 (downTo0 256) 0 refl
 
-moves : (n : ℕ) → length (downTo0 n) ≡ n
+pub moves : (n : ℕ) → length (downTo0 n) ≡ n
 unfolding downTo0
 moves zero = refl
 moves (suc n) = ap suc (moves n)
