@@ -7,3 +7,4 @@ pub mod Text
 pub mod Tag
 pub mod Scan
 pub mod Maps
+pub mod Number

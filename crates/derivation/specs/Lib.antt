@@ -1,0 +1,6 @@
+pub mod Rule
+pub mod Section
+pub mod Pass
+pub mod Walk
+pub mod Demand
+pub mod Down

@@ -1,0 +1,1 @@
+// Definitions and theorems only: the derivations of an evidence section.

@@ -1,0 +1,2 @@
+// Evidence sections (EVR0).
+mod frame;

@@ -1,0 +1,7 @@
+pub mod Rows
+pub mod Head
+pub mod Proposition
+pub mod Proof
+pub mod Witness
+pub mod Section
+pub mod Demand

@@ -1,0 +1,1 @@
+// Definitions and theorems only: what an evidence section is.
