@@ -1,5 +1,6 @@
 //! Times the Rust and the port on the same inputs, in one run of one driver, and checks that their results are equal in it.
 
+mod blocks;
 mod measure;
 mod rows;
 mod texts;

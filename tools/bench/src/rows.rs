@@ -33,5 +33,7 @@ pub fn calls(call: impl Fn() -> u64 + 'static) -> Calls {
 }
 
 pub fn all() -> Vec<Row> {
-    crate::texts::rows()
+    let mut rows = crate::texts::rows();
+    rows.extend(crate::blocks::rows());
+    rows
 }
