@@ -1,4 +1,7 @@
 pub mod WrittenLaws
 pub mod DecimalLaws
 pub mod LineLaws
+pub mod NumberLaws
+pub mod Enough
+pub mod OutputLength
 pub mod Printed

@@ -1,0 +1,205 @@
+-- How long the output can be: the numbers of a section's proofs have 4 bytes, and the depths are at most 256.
+use Prim.Native.Nat.{ℕ, zero, suc, _+_, _-_, _*_, _^_, _≤_, _<_}
+use mathlib.Core.Path.{_≡_, refl, sym, ap, subst, _∙_}
+use mathlib.Core.List.{List, [], _∷_, _++_}
+use native.Mathlib.Omega.{arith}
+use lib.ListN.{length, getD, take, drop, length-append, length-take, length-drop}
+use mathlib.Core.Bool.{_&&_}
+use lib.Dec.{leb}
+use borrow.Author.Tests.{leb-true}
+use lib.Seq.{getD-drop, getD-take}
+use Rattle.local_format.specs.Out.{Out, ok, _>>=_}
+use Rattle.local_format.specs.Field.{Got, field}
+use Rattle.local_format.specs.Tag.{tagAt, evr0}
+use Rattle.local_format.specs.Text.{bytesAt, sectionField, textAt}
+use Rattle.local_format.proofs.OutLaws.{ok-same, bind-ok, then-ok, checked-ok, moved-ok}
+use Rattle.local_format.proofs.FieldLaws.{field-ok, le-below}
+use Rattle.derivation.specs.Rule.{Rule, fourRules}
+use Rattle.derivation.specs.Section as derivation
+use Rattle.derivation.specs.Pass.{parentsFrom, witnessesFrom, depthOf, depthsFrom, depths}
+use Rattle.evr0_section.specs.Rows.{Sized, Row, Entry}
+use Rattle.evr0_section.specs.Head.{Counts, Head, Room, listed, countLimits, withinLimits, sizes, checkCounts}
+use Rattle.evr0_section.specs.Proof.{ProofRecord, Settled, Unowned, proofOf, zerosAt, checkProof, proofRow}
+use Rattle.evr0_section.specs.Section.{Frame, Section, frameAt, sectionOf, tablesOf, sectionIn, sectionAt, decodeSection}
+use Rattle.evr0_section.proofs.CheckedTables.{Steps, steps}
+use Rattle.evr0_section.proofs.SectionSteps.{Parts, tables-of, section-parts}
+use Rattle.evr0_section.proofs.RowsLaws.{Trace, trace, trace-length}
+use Rattle.evr0_section.proofs.RowsLaws as rows-laws
+use Rattle.evidence_output.specs.Decimal.{decimal}
+use Rattle.evidence_output.specs.Output.{spaced, line, proofLine, proofLines, headLine, printed, enough}
+use Rattle.evidence_output.proofs.DecimalLaws.{decimal-length}
+
+-- ---- A line
+
+-- numbers of at most ten digits
+pub data Short : List ℕ → Type 0 where
+  none : Short []
+  also : {n : ℕ} {ns : List ℕ} → n < 10 ^ 10 → Short ns → Short (n ∷ ns)
+
+spaced-length : {ns : List ℕ} → Short ns → length (spaced ns) ≤ 11 * length ns
+unfolding spaced
+spaced-length none = omega arith
+spaced-length (also {n} {ns} h r) = rw length-append (omega (arith, decimal-length 9 n h, spaced-length r))
+
+pub line-length : (start : List ℕ) {ns : List ℕ} → Short ns → length (line start ns) ≤ length start + 11 * length ns + 1
+unfolding line
+line-length start {ns} h = rw (length-append, length-append) (omega (arith, spaced-length h))
+
+-- ---- The numbers of a proof
+
+-- the list holds bytes
+abbrev pub Bytes : List ℕ → Type 0
+Bytes s = (i : ℕ) → getD s i 0 < 256
+
+drop-bytes : (n : ℕ) (s : List ℕ) → Bytes s → Bytes (drop n s)
+drop-bytes n s h i = rw getD-drop (h (n + i))
+
+proof-line-length : (r : ProofRecord) (depth : ℕ) → r .number < 10 ^ 10 → r .proposition < 10 ^ 10 → r .authority < 10 ^ 10 → r .witnessCount < 10 ^ 10 → depth ≤ 256
+    → length (proofLine r depth) ≤ 55
+unfolding proofLine
+proof-line-length r depth a b c d e =
+    omega (arith, decimal-length 9 (r .number) a, line-length (decimal (r .number)) (also b (also c (also {n = depth} (omega arith) (also d none)))))
+
+module _ (s : List ℕ) (bytes : Bytes s) where
+  four-below : (at : ℕ) {g : Got} → sectionField 4 s at ≡ ok g → g .value < 10 ^ 10
+  four-below at {g} e = omega (arith, field-ok 5 4 s at e .2, le-below 4 s bytes at)
+
+  proof-short : (q : Sized ProofRecord) → proofOf s ≡ ok q → (depth : ℕ) → depth ≤ 256 → length (proofLine (q .item) depth) ≤ 55
+  unfolding proofOf
+  proof-short q e depth h =
+      let number = bind-ok (sectionField 4 s 0) _ e in
+      let proposition = bind-ok (sectionField 4 s (number .0 .next)) _ (number .2) in
+      let rule = bind-ok (textAt s (proposition .0 .next)) _ (proposition .2) in
+      let authority = bind-ok (sectionField 4 s (rule .0 .next)) _ (rule .2) in
+      let firstWitness = bind-ok (sectionField 4 s (authority .0 .next)) _ (authority .2) in
+      let witnessCount = bind-ok (sectionField 4 s (firstWitness .0 .next)) _ (firstWitness .2) in
+      let firstParent = bind-ok (sectionField 4 s (witnessCount .0 .next)) _ (witnessCount .2) in
+      let parentCount = bind-ok (sectionField 4 s (firstParent .0 .next)) _ (firstParent .2) in
+      let operation = bind-ok (sectionField 1 s (parentCount .0 .next)) _ (parentCount .2) in
+      let zeros = bind-ok (zerosAt s (operation .0 .next)) _ (operation .2) in
+      rw (← ok-same (zeros .2))
+      (proof-line-length _ depth (four-below 0 (number .1)) (four-below (number .0 .next) (proposition .1)) (four-below (rule .0 .next) (authority .1))
+      (four-below (firstWitness .0 .next) (witnessCount .1)) h)
+
+-- ---- The lines of the proofs
+
+-- depths of at most 256
+data Depths : List ℕ → Type 0 where
+  no-depths : Depths []
+  depth-and : {d : ℕ} {ds : List ℕ} → d ≤ 256 → Depths ds → Depths (d ∷ ds)
+
+module _ (rules : List Rule) (counts : Counts) (p : List ℕ) (bytes : Bytes p) where
+  row-proof : (u : Unowned) (s : List ℕ) {r : Row Settled Unowned} → proofRow rules counts u s ≡ ok r → (q : Sized ProofRecord) × (proofOf s ≡ ok q) × (q .item ≡ r .item .proof)
+  unfolding proofRow
+  row-proof u s e =
+      let q = bind-ok (proofOf s) _ e in
+      let rule = bind-ok (checkProof rules counts u (bytesAt s (q .0 .item .rule .start) (q .0 .item .rule .len)) (q .0 .item)) _ (q .2) in
+      (q .0, q .1, ap (λ (x : Row Settled Unowned). x .item .proof) (ok-same (rule .2)))
+
+  lines-length : {n at end : ℕ} {u last : Unowned} {es : List (Entry Settled)} {ds : List ℕ}
+      → Trace (proofRow rules counts) p n u at es last end → Depths ds → length (proofLines es ds) ≤ 55 * n
+  unfolding proofLines
+  lines-length rows-laws.none ds = omega arith
+  lines-length (rows-laws.more r e w) no-depths = omega arith
+  lines-length (rows-laws.more {at = at} {state = u} r e w) (depth-and {d} h ds) =
+      let q = row-proof u (drop at p) e in
+      let l = rw (q .2) at (proof-short (drop at p) (drop-bytes at p bytes) (q .0) (q .1) d h) in
+      rw length-append (omega (arith, l, lines-length w ds))
+
+-- ---- The depths
+module _ (cellsAt : ℕ) (s : derivation.Section) where
+  depth-upto : (p : derivation.Proof) (ds : List ℕ) {d : ℕ} → depthOf cellsAt s p ds ≡ ok d → d ≤ 256
+  unfolding depthOf
+  depth-upto p ds {d} e =
+      let m = bind-ok (parentsFrom cellsAt s p ds (p .parentCount) (p .firstParent) 0 0) _ e in
+      let c = checked-ok (leb (suc (m .0)) 256) 27 0 _ (m .2) in
+      let w = then-ok (witnessesFrom cellsAt s p (p .witnessCount) (p .firstWitness)) _ (c .1) in
+      rw (ok-same (w .2)) at (leb-true (suc (m .0)) 256 (c .0))
+
+  depths-append : {ds : List ℕ} {d : ℕ} → Depths ds → d ≤ 256 → Depths (ds ++ (d ∷ []))
+  depths-append no-depths h = depth-and h no-depths
+  depths-append (depth-and k ds) h = depth-and k (depths-append ds h)
+
+  depths-upto : (n i : ℕ) {ds es : List ℕ} → Depths ds → depthsFrom cellsAt s n i ds ≡ ok es → Depths es
+  unfolding depthsFrom
+  depths-upto zero i h e = rw (ok-same e) at h
+  depths-upto (suc n) i {ds} h e =
+      let d = bind-ok (depthOf cellsAt s (derivation.proofAt s i) ds) _ e in
+      depths-upto n (suc i) (depths-append h (depth-upto (derivation.proofAt s i) ds (d .1))) (d .2)
+
+-- ---- The output
+
+-- 13 leaves few records
+counts-few : (room : Room) (p : List ℕ) (h : Head) {u : Unit {0}} → checkCounts room p h ≡ ok u → sizes (h .counts) 15 35 84 4 ≤ length p
+unfolding checkCounts
+counts-few room p h e =
+    let limits = then-ok (withinLimits (listed (h .counts)) countLimits (h .countsAt)) _ e in
+    let c = checked-ok (leb (sizes (h .counts) 15 35 84 4) (length p - h .next)) 13 (h .next) _ (limits .2) in
+    omega (arith, leb-true (sizes (h .counts) 15 35 84 4) (length p - h .next) (c .0))
+
+take-bytes : (n : ℕ) (s : List ℕ) → Bytes s → Bytes (take n s)
+take-bytes zero s h i = omega arith
+take-bytes (suc n) [] h i = omega arith
+take-bytes (suc n) (x ∷ s) h zero = h zero
+take-bytes (suc n) (x ∷ s) h (suc i) = take-bytes n s (λ k. h (suc k)) i
+
+frame-within : (s : List ℕ) (cursor : ℕ) {f : Frame} → frameAt s cursor ≡ ok f → f .start + f .len ≤ length s
+unfolding frameAt
+frame-within s cursor {f} e =
+    let t = checked-ok (tagAt evr0 s cursor) 1 cursor _ e in
+    let size = bind-ok (field 2 4 s (cursor + 4)) _ (t .1) in
+    let c = checked-ok (leb 1 (size .0 .value) && leb (size .0 .value) 4194304) 3 (cursor + 4) _ (size .2) in
+    let payload = bind-ok (field 4 (size .0 .value) s (size .0 .next)) _ (c .1) in
+    subst (λ (x : Frame). x .start + x .len ≤ length s) (ok-same (payload .2)) (field-ok 4 (size .0 .value) s (size .0 .next) (payload .1) .1)
+
+section-cursor : (rules : List Rule) (room : Room) (p : List ℕ) (cursor : ℕ) {d : Section} → sectionIn rules room p cursor ≡ ok d → cursor ≡ d .cursor
+unfolding sectionIn
+section-cursor rules room p cursor e =
+    let t = bind-ok (tablesOf rules room p) _ e in
+    let ds = bind-ok (depths (t .0 .witnesses .next) (sectionOf (t .0))) _ (t .2) in
+    ap (λ (d : Section). d .cursor) (ok-same (ds .2))
+
+cursor-within : (rules : List Rule) (room : Room) (s : List ℕ) (cursor : ℕ) {d : Section} → sectionAt rules room s cursor ≡ ok d → d .cursor ≤ length s
+unfolding sectionAt
+cursor-within rules room s cursor e =
+    let a = bind-ok (frameAt s cursor) _ e in
+    let p = bytesAt s (a .0 .start) (a .0 .len) in
+    let g = section-cursor rules room p (a .0 .start + a .0 .len) (moved-ok (a .0 .start) (sectionIn rules room p (a .0 .start + a .0 .len)) (a .2)) in
+    rw g at (frame-within s cursor (a .1))
+
+head-line-length : (c : Counts) (cursor : ℕ) → sizes c 15 35 84 4 ≤ 65536 → cursor ≤ 65536 → length (headLine c cursor) ≤ 60
+unfolding headLine sizes
+head-line-length c cursor h k =
+    line-length evr0 (also {n = c .propositions} (omega arith) (also {n = c .proofs} (omega arith) (also {n = c .witnesses} (omega arith)
+    (also {n = c .parents} (omega arith) (also {n = cursor} (omega arith) none)))))
+
+proofs-few : (c : Counts) → sizes c 15 35 84 4 ≤ 65536 → c .proofs ≤ 1872
+unfolding sizes
+proofs-few c h = omega arith
+
+module _ (rules : List Rule) (room : Room) (s : List ℕ) (cursor : ℕ) (d : Section) (accepted : sectionAt rules room s cursor ≡ ok d) where
+  records-few : length s ≤ 65536 → sizes (d .tables .head .counts) 15 35 84 4 ≤ 65536
+  records-few l =
+      let f = tables-of rules room s cursor (d .tables) (section-parts rules room s cursor d accepted .tables) in
+      let t = steps rules room (bytesAt s (f .0 .start) (f .0 .len)) (d .tables) (f .2) in
+      let short : length (bytesAt s (f .0 .start) (f .0 .len)) ≤ length s = simp (length-take, length-drop) (omega arith) in
+      omega (arith, counts-few room (bytesAt s (f .0 .start) (f .0 .len)) (d .tables .head) (t .counts))
+
+  proof-lines-length : Bytes s → length (proofLines (d .tables .proofs .entries) (d .depths)) ≤ 55 * d .tables .head .counts .proofs
+  unfolding depths
+  proof-lines-length bytes =
+      let parts = section-parts rules room s cursor d accepted in
+      let f = tables-of rules room s cursor (d .tables) (parts .tables) in
+      let p = bytesAt s (f .0 .start) (f .0 .len) in
+      let t = steps rules room p (d .tables) (f .2) in
+      lines-length rules (d .tables .head .counts) p (take-bytes (f .0 .len) (drop (f .0 .start) s) (drop-bytes (f .0 .start) s bytes))
+      (trace (proofRow rules (d .tables .head .counts)) p _ _ _ (d .tables .proofs) (t .proofs)) (depths-upto _ _ _ _ no-depths (parts .depths))
+
+-- a buffer for any accepted input: 60 bytes for the first line and 55 for each proof
+pub accepted-length : (s : List ℕ) (cursor : ℕ) (d : Section) → length s ≤ 65536 → Bytes s → decodeSection enough s cursor ≡ ok d → length (printed (ok d)) ≤ 103020
+unfolding decodeSection printed
+accepted-length s cursor d l bytes e =
+    let few : sizes (d .tables .head .counts) 15 35 84 4 ≤ 65536 = records-few fourRules enough s cursor d e l in
+    let c : d .cursor ≤ 65536 = omega (arith, cursor-within fourRules enough s cursor e) in
+    rw length-append
+    (omega (arith, head-line-length (d .tables .head .counts) (d .cursor) few c, proof-lines-length fourRules enough s cursor d e bytes, proofs-few (d .tables .head .counts) few))
