@@ -4,4 +4,5 @@ pub mod LineLaws
 pub mod NumberLaws
 pub mod Enough
 pub mod OutputLength
+pub mod ListedLaws
 pub mod Printed

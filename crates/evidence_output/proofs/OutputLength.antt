@@ -27,6 +27,7 @@ use Rattle.evr0_section.proofs.RowsLaws.{Trace, trace, trace-length}
 use Rattle.evr0_section.proofs.RowsLaws as rows-laws
 use Rattle.evidence_output.specs.Decimal.{decimal}
 use Rattle.evidence_output.specs.Output.{spaced, line, proofLine, proofLines, headLine, printed, enough}
+use Rattle.evidence_output.proofs.ListedLaws.{row-proof}
 use Rattle.evidence_output.proofs.DecimalLaws.{decimal-length}
 
 -- ---- A line
@@ -89,20 +90,13 @@ data Depths : List ℕ → Type 0 where
   depth-and : {d : ℕ} {ds : List ℕ} → d ≤ 256 → Depths ds → Depths (d ∷ ds)
 
 module _ (rules : List Rule) (counts : Counts) (p : List ℕ) (bytes : Bytes p) where
-  row-proof : (u : Unowned) (s : List ℕ) {r : Row Settled Unowned} → proofRow rules counts u s ≡ ok r → (q : Sized ProofRecord) × (proofOf s ≡ ok q) × (q .item ≡ r .item .proof)
-  unfolding proofRow
-  row-proof u s e =
-      let q = bind-ok (proofOf s) _ e in
-      let rule = bind-ok (checkProof rules counts u (bytesAt s (q .0 .item .rule .start) (q .0 .item .rule .len)) (q .0 .item)) _ (q .2) in
-      (q .0, q .1, ap (λ (x : Row Settled Unowned). x .item .proof) (ok-same (rule .2)))
-
   lines-length : {n at end : ℕ} {u last : Unowned} {es : List (Entry Settled)} {ds : List ℕ}
       → Trace (proofRow rules counts) p n u at es last end → Depths ds → length (proofLines es ds) ≤ 55 * n
   unfolding proofLines
   lines-length rows-laws.none ds = omega arith
   lines-length (rows-laws.more r e w) no-depths = omega arith
   lines-length (rows-laws.more {at = at} {state = u} r e w) (depth-and {d} h ds) =
-      let q = row-proof u (drop at p) e in
+      let q = row-proof rules counts u (drop at p) e in
       let l = rw (q .2) at (proof-short (drop at p) (drop-bytes at p bytes) (q .0) (q .1) d h) in
       rw length-append (omega (arith, l, lines-length w ds))
 
