@@ -1,10 +1,72 @@
--- From the code's structs and enums to the definitions' types.
-use Rattle.local_format.specs.Out.{Out, ok, refused}
+-- From the code's structs and enums to the definitions' types, and what the code keeps of them.
+use Prim.Native.Nat.{ℕ, suc, _+_}
+use mathlib.Core.List.{List, [], map}
+use lib.ListN.{drop}
+use Rattle.local_format.specs.Out.{Out, ok, refused, _>>=_}
 use Rattle.local_format.specs.Maps.{refusalOut}
+use Rattle.evr0_section.specs.Rows.{Row, Entry, Rows}
+use Rattle.evr0_section.specs.Proposition as props
+use Rattle.evr0_section.specs.Proof as proofs
 use Rattle.evr0_section.specs.Section as of
+use Rattle.evr0_records.specs.Maps.{propositionRecord, proofRecord, ruleOut, unownedOut}
+use Rattle.evr0_records.specs.declared.proof.Unowned.{Unowned}
+use Rattle.evr0_records.specs.declared.proposition.PropositionRead.{PropositionRead}
+use Rattle.evr0_records.specs.declared.proposition.PropositionRead.the-variants as proposition
 use Rattle.evr0.specs.declared.frame.Frame as frame
-use Rattle.evr0.specs.declared.frame.Frame.the-variants as variant
+use Rattle.evr0.specs.declared.frame.Frame.the-variants as framed
+use Rattle.evr0.specs.declared.rows.Before as before
+use Rattle.evr0.specs.declared.rows.Before.the-variants as prior
+use Rattle.evr0.specs.declared.rows.ProofRow as proof
+use Rattle.evr0.specs.declared.rows.ProofRow.the-variants as row
+use Rattle.evr0.specs.declared.rows.Size as size
+use Rattle.evr0.specs.declared.rows.Size.the-variants as sized
 
 abbrev pub frameOut : frame.Frame → Out of.Frame
-frameOut (variant.Payload start len) = ok (record { start = start; len = len })
-frameOut (variant.Refused r) = refused (refusalOut r)
+frameOut (framed.Payload start len) = ok (record { start = start; len = len })
+frameOut (framed.Refused r) = refused (refusalOut r)
+
+-- ---- A record of a table
+
+-- the proposition before, in the payload p
+abbrev pub beforeOut : List ℕ → before.Before → props.Before
+beforeOut p prior.First = props.first
+beforeOut p (prior.After start r) = props.after (props.keyOf (drop start p) (propositionRecord r))
+
+-- a proposition at the front of s
+abbrev pub propositionRowOut : List ℕ → PropositionRead → Out (Row props.Proposition props.Before)
+propositionRowOut s (proposition.Read r n) = ok (record { item = propositionRecord r; size = n; state = props.after (props.keyOf s (propositionRecord r)) })
+propositionRowOut s (proposition.Refused r) = refused (refusalOut r)
+
+abbrev pub proofRowOut : Unowned → proof.ProofRow → Out (Row proofs.Settled proofs.Unowned)
+proofRowOut u (row.Read r rule n) =
+    ok (record {
+      item = record { proof = proofRecord r; rule = ruleOut rule };
+      size = n;
+      state = record { proof = suc (u .proof); witness = u .witness + proofRecord r .witnessCount; parent = u .parent + proofRecord r .parentCount };
+    })
+proofRowOut u (row.Refused r) = refused (refusalOut r)
+
+abbrev pub sizeIn : {A S : Type 0} → Out (Row A S) → Out ℕ
+sizeIn x = do
+  r ← x
+  ok (r .size)
+
+abbrev pub sizeOut : size.Size → Out ℕ
+sizeOut (sized.Bytes n) = ok n
+sizeOut (sized.Refused r) = refused (refusalOut r)
+
+-- ---- A table
+
+-- the place after it
+abbrev pub nextIn : {A S : Type 0} → Out (Rows A S) → Out ℕ
+nextIn x = do
+  t ← x
+  ok (t .next)
+
+abbrev pub startsOf : {A : Type 0} → List (Entry A) → List ℕ
+startsOf es = map (λ e. e .start) es
+
+-- the starts of its records; a refusal has none
+abbrev pub startsIn : {A S : Type 0} → Out (Rows A S) → List ℕ
+startsIn (ok t) = startsOf (t .entries)
+startsIn (refused r) = []

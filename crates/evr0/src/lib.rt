@@ -1,2 +1,3 @@
 // Evidence sections (EVR0).
 mod frame;
+mod rows;

@@ -5,3 +5,4 @@ pub mod CheckedTables
 pub mod SectionSteps
 pub mod Demand
 pub mod Progress
+pub mod Inside
