@@ -1,16 +1,16 @@
 -- 61 is never printed: 13 leaves no input of 65,536 bytes more records than the tables have entries.
-use Prim.Native.Nat.{ℕ, _*_, _+_, _≤_}
-use mathlib.Core.Path.{_≡_, refl, sym}
+use Prim.Native.Nat.{ℕ, _≤_}
+use mathlib.Core.Path.{_≡_, sym}
 use mathlib.Core.List.{List}
 use native.Mathlib.Omega.{arith}
 use lib.Dec.{leb→le}
 use lib.ListN.{length}
 use borrow.Author.Tests.{le-leb}
 use Rattle.local_format.specs.Refusal.{Refusal}
-use Rattle.local_format.specs.Out.{Out, ok, refused}
+use Rattle.local_format.specs.Out.{Out, refused}
 use Rattle.local_format.proofs.OutLaws.{never, refused-same}
 use Rattle.derivation.specs.Rule.{fourRules}
-use Rattle.evr0_section.specs.Head.{Counts, sizes, hasRoom}
+use Rattle.evr0_section.specs.Head.{sizes, hasRoom}
 use Rattle.evr0_section.specs.Section.{decodeSection}
 use Rattle.evidence_output.specs.Output.{enough}
 use Rattle.evidence_output.proofs.NumberLaws.{Upto29, accepts, refuses, LongEnough, section-upto}

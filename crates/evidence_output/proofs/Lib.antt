@@ -5,4 +5,5 @@ pub mod NumberLaws
 pub mod Enough
 pub mod OutputLength
 pub mod ListedLaws
+pub mod AcceptedLaws
 pub mod Printed

@@ -1,12 +1,12 @@
 -- The lines of proofs, one more at a time, and from the table that was read.
 use Prim.Native.Nat.{ℕ, zero, suc, _+_, _≤_, _<_, min}
-use mathlib.Core.Path.{_≡_, refl, sym, ap, _∙_}
+use mathlib.Core.Path.{_≡_, refl, ap, _∙_}
 use mathlib.Core.List.{List, [], _∷_, _++_, append-nil, append-assoc}
 use native.Mathlib.Omega.{arith}
 use native.Mathlib.Numerals.{add-one}
 use lib.ListN.{length, getD, take, drop}
-use lib.Seq.{take-nil, take-suc, take-all, length-take-le}
-use Rattle.local_format.specs.Out.{Out, ok}
+use lib.Seq.{take-nil, take-suc, length-take-le}
+use Rattle.local_format.specs.Out.{ok}
 use Rattle.local_format.proofs.OutLaws.{bind-ok, ok-same}
 use Rattle.local_format.specs.Text.{bytesAt}
 use Rattle.derivation.specs.Rule.{Rule}
@@ -18,7 +18,7 @@ use Rattle.evr0_section.proofs.Progress.{startsOf}
 use Rattle.evidence_output.specs.Output.{proofLines}
 use Rattle.evidence_output.specs.Listed.{recordLine, linesAt}
 use Rattle.evidence_output.specs.Written.{Written}
-use Rattle.evidence_output.proofs.WrittenLaws.{written-none, written-append}
+use Rattle.evidence_output.proofs.WrittenLaws.{written-none}
 
 module _ (p : List ℕ) where
   pub no-lines : (s : List ℕ) (at : ℕ) → Written s at (linesAt p [] []) s at

@@ -9,17 +9,17 @@ use lib.ListN.{length, getD, take, drop, length-take, length-drop}
 use borrow.Author.Tests.{leb-true}
 use Rattle.local_format.specs.Refusal.{Refusal}
 use Rattle.local_format.specs.Out.{Out, ok, refused, _>>=_, _>>_, check, moved}
-use Rattle.local_format.specs.Field.{Field, whole, cut, Got, fieldAt, orCut, field}
+use Rattle.local_format.specs.Field.{Field, whole, cut, orCut}
 use Rattle.local_format.specs.Utf8.{Decoded, points, ill}
-use Rattle.local_format.specs.Text.{Span, orIll, textAt}
+use Rattle.local_format.specs.Text.{orIll, textAt}
 use Rattle.derivation.specs.Rule.{Rule, Named, known, unknown}
 use Rattle.derivation.specs.Section as derivation
 use Rattle.derivation.specs.Pass.{parentsFrom, witnessesFrom, depthOf, depthsFrom, depths}
 use Rattle.evr0_section.specs.Rows.{Row, rows}
 use Rattle.evr0_section.specs.Head.{Counts, Head, Room, listed, countLimits, digestAt, countsAt, headOf, withinLimits, sizes, hasRoom, checkCounts}
 use Rattle.evr0_section.specs.Proposition.{Before, propositionOf, propositionRow}
-use Rattle.evr0_section.specs.Proof.{ProofRecord, Unowned, zerosAt, orUnknown, proofOf, checkProof, proofRow}
-use Rattle.evr0_section.specs.Witness.{WitnessRecord, witnessOf, checkWitness, witnessRow, parentRow}
+use Rattle.evr0_section.specs.Proof.{Unowned, zerosAt, orUnknown, proofOf, checkProof, proofRow}
+use Rattle.evr0_section.specs.Witness.{witnessOf, checkWitness, witnessRow, parentRow}
 use Rattle.evr0_section.specs.Section.{frameAt, tablesOf, sectionIn, sectionAt}
 
 -- an answer whose refusal, if it is one, has a number up to 29

@@ -1,32 +1,30 @@
 -- How long the output can be: the numbers of a section's proofs have 4 bytes, and the depths are at most 256.
 use Prim.Native.Nat.{ℕ, zero, suc, _+_, _-_, _*_, _^_, _≤_, _<_}
-use mathlib.Core.Path.{_≡_, refl, sym, ap, subst, _∙_}
+use mathlib.Core.Path.{_≡_}
 use mathlib.Core.List.{List, [], _∷_, _++_}
 use native.Mathlib.Omega.{arith}
 use lib.ListN.{length, getD, take, drop, length-append, length-take, length-drop}
-use mathlib.Core.Bool.{_&&_}
 use lib.Dec.{leb}
 use borrow.Author.Tests.{leb-true}
-use lib.Seq.{getD-drop, getD-take}
-use Rattle.local_format.specs.Out.{Out, ok, _>>=_}
-use Rattle.local_format.specs.Field.{Got, field}
-use Rattle.local_format.specs.Tag.{tagAt, evr0}
-use Rattle.local_format.specs.Text.{bytesAt, sectionField, textAt}
-use Rattle.local_format.proofs.OutLaws.{ok-same, bind-ok, then-ok, checked-ok, moved-ok}
+use lib.Seq.{getD-drop}
+use Rattle.local_format.specs.Out.{ok, _>>=_}
+use Rattle.local_format.specs.Field.{Got}
+use Rattle.local_format.specs.Tag.{evr0}
+use Rattle.local_format.specs.Text.{sectionField, textAt}
+use Rattle.local_format.proofs.OutLaws.{ok-same, bind-ok, then-ok, checked-ok}
 use Rattle.local_format.proofs.FieldLaws.{field-ok, le-below}
 use Rattle.derivation.specs.Rule.{Rule, fourRules}
 use Rattle.derivation.specs.Section as derivation
 use Rattle.derivation.specs.Pass.{parentsFrom, witnessesFrom, depthOf, depthsFrom, depths}
-use Rattle.evr0_section.specs.Rows.{Sized, Row, Entry}
+use Rattle.evr0_section.specs.Rows.{Sized, Entry}
 use Rattle.evr0_section.specs.Head.{Counts, Head, Room, listed, countLimits, withinLimits, sizes, checkCounts}
-use Rattle.evr0_section.specs.Proof.{ProofRecord, Settled, Unowned, proofOf, zerosAt, checkProof, proofRow}
-use Rattle.evr0_section.specs.Section.{Frame, Section, frameAt, sectionOf, tablesOf, sectionIn, sectionAt, decodeSection}
-use Rattle.evr0_section.proofs.CheckedTables.{Steps, steps}
-use Rattle.evr0_section.proofs.SectionSteps.{Parts, tables-of, section-parts}
-use Rattle.evr0_section.proofs.RowsLaws.{Trace, trace, trace-length}
+use Rattle.evr0_section.specs.Proof.{ProofRecord, Settled, Unowned, proofOf, zerosAt, proofRow}
+use Rattle.evr0_section.specs.Section.{Section, decodeSection}
+use Rattle.evr0_section.proofs.RowsLaws.{Trace, trace}
 use Rattle.evr0_section.proofs.RowsLaws as rows-laws
 use Rattle.evidence_output.specs.Decimal.{decimal}
 use Rattle.evidence_output.specs.Output.{spaced, line, proofLine, proofLines, headLine, printed, enough}
+use Rattle.evidence_output.proofs.AcceptedLaws.{payloadTo, accepted}
 use Rattle.evidence_output.proofs.ListedLaws.{row-proof}
 use Rattle.evidence_output.proofs.DecimalLaws.{decimal-length}
 
@@ -137,30 +135,6 @@ take-bytes (suc n) [] h i = omega arith
 take-bytes (suc n) (x ∷ s) h zero = h zero
 take-bytes (suc n) (x ∷ s) h (suc i) = take-bytes n s (λ k. h (suc k)) i
 
-frame-within : (s : List ℕ) (cursor : ℕ) {f : Frame} → frameAt s cursor ≡ ok f → f .start + f .len ≤ length s
-unfolding frameAt
-frame-within s cursor {f} e =
-    let t = checked-ok (tagAt evr0 s cursor) 1 cursor _ e in
-    let size = bind-ok (field 2 4 s (cursor + 4)) _ (t .1) in
-    let c = checked-ok (leb 1 (size .0 .value) && leb (size .0 .value) 4194304) 3 (cursor + 4) _ (size .2) in
-    let payload = bind-ok (field 4 (size .0 .value) s (size .0 .next)) _ (c .1) in
-    subst (λ (x : Frame). x .start + x .len ≤ length s) (ok-same (payload .2)) (field-ok 4 (size .0 .value) s (size .0 .next) (payload .1) .1)
-
-section-cursor : (rules : List Rule) (room : Room) (p : List ℕ) (cursor : ℕ) {d : Section} → sectionIn rules room p cursor ≡ ok d → cursor ≡ d .cursor
-unfolding sectionIn
-section-cursor rules room p cursor e =
-    let t = bind-ok (tablesOf rules room p) _ e in
-    let ds = bind-ok (depths (t .0 .witnesses .next) (sectionOf (t .0))) _ (t .2) in
-    ap (λ (d : Section). d .cursor) (ok-same (ds .2))
-
-cursor-within : (rules : List Rule) (room : Room) (s : List ℕ) (cursor : ℕ) {d : Section} → sectionAt rules room s cursor ≡ ok d → d .cursor ≤ length s
-unfolding sectionAt
-cursor-within rules room s cursor e =
-    let a = bind-ok (frameAt s cursor) _ e in
-    let p = bytesAt s (a .0 .start) (a .0 .len) in
-    let g = section-cursor rules room p (a .0 .start + a .0 .len) (moved-ok (a .0 .start) (sectionIn rules room p (a .0 .start + a .0 .len)) (a .2)) in
-    rw g at (frame-within s cursor (a .1))
-
 head-line-length : (c : Counts) (cursor : ℕ) → sizes c 15 35 84 4 ≤ 65536 → cursor ≤ 65536 → length (headLine c cursor) ≤ 60
 unfolding headLine sizes
 head-line-length c cursor h k =
@@ -171,29 +145,15 @@ proofs-few : (c : Counts) → sizes c 15 35 84 4 ≤ 65536 → c .proofs ≤ 187
 unfolding sizes
 proofs-few c h = omega arith
 
-module _ (rules : List Rule) (room : Room) (s : List ℕ) (cursor : ℕ) (d : Section) (accepted : sectionAt rules room s cursor ≡ ok d) where
-  records-few : length s ≤ 65536 → sizes (d .tables .head .counts) 15 35 84 4 ≤ 65536
-  records-few l =
-      let f = tables-of rules room s cursor (d .tables) (section-parts rules room s cursor d accepted .tables) in
-      let t = steps rules room (bytesAt s (f .0 .start) (f .0 .len)) (d .tables) (f .2) in
-      let short : length (bytesAt s (f .0 .start) (f .0 .len)) ≤ length s = simp (length-take, length-drop) (omega arith) in
-      omega (arith, counts-few room (bytesAt s (f .0 .start) (f .0 .len)) (d .tables .head) (t .counts))
-
-  proof-lines-length : Bytes s → length (proofLines (d .tables .proofs .entries) (d .depths)) ≤ 55 * d .tables .head .counts .proofs
-  unfolding depths
-  proof-lines-length bytes =
-      let parts = section-parts rules room s cursor d accepted in
-      let f = tables-of rules room s cursor (d .tables) (parts .tables) in
-      let p = bytesAt s (f .0 .start) (f .0 .len) in
-      let t = steps rules room p (d .tables) (f .2) in
-      lines-length rules (d .tables .head .counts) p (take-bytes (f .0 .len) (drop (f .0 .start) s) (drop-bytes (f .0 .start) s bytes))
-      (trace (proofRow rules (d .tables .head .counts)) p _ _ _ (d .tables .proofs) (t .proofs)) (depths-upto _ _ _ _ no-depths (parts .depths))
-
 -- a buffer for any accepted input: 60 bytes for the first line and 55 for each proof
 pub accepted-length : (s : List ℕ) (cursor : ℕ) (d : Section) → length s ≤ 65536 → Bytes s → decodeSection enough s cursor ≡ ok d → length (printed (ok d)) ≤ 103020
-unfolding decodeSection printed
+unfolding decodeSection printed depths
 accepted-length s cursor d l bytes e =
-    let few : sizes (d .tables .head .counts) 15 35 84 4 ≤ 65536 = records-few fourRules enough s cursor d e l in
-    let c : d .cursor ≤ 65536 = omega (arith, cursor-within fourRules enough s cursor e) in
-    rw length-append
-    (omega (arith, head-line-length (d .tables .head .counts) (d .cursor) few c, proof-lines-length fourRules enough s cursor d e bytes, proofs-few (d .tables .head .counts) few))
+    let a = accepted fourRules enough s cursor e in
+    let c = d .tables .head .counts in
+    let p = payloadTo fourRules enough s cursor (d .cursor) in
+    let short : length p ≤ length s = simp (length-take, length-drop) (omega arith) in
+    let few : sizes c 15 35 84 4 ≤ 65536 = omega (arith, counts-few enough p (d .tables .head) (a .tables .counts)) in
+    let lines = lines-length fourRules c p (take-bytes (d .cursor - (cursor + 8)) (drop (cursor + 8) s) (drop-bytes (cursor + 8) s bytes))
+    (trace (proofRow fourRules c) p _ _ _ (d .tables .proofs) (a .tables .proofs)) (depths-upto _ _ _ _ no-depths (a .depths)) in
+    rw length-append (omega (arith, a .end, head-line-length c (d .cursor) few (omega (arith, a .end)), lines, proofs-few c few))

@@ -5,7 +5,7 @@ use native.Mathlib.Omega.{arith}
 use lib.ListN.{length, take}
 use Rattle.evidence_output.specs.Listed.{linesAt}
 use Rattle.evidence_output.specs.Written.{Written}
-use Rattle.evidence_output.proofs.WrittenLaws.{written-none, written-length, written-append}
+use Rattle.evidence_output.proofs.WrittenLaws.{written-length, written-append}
 use Rattle.evidence_output.proofs.ListedLaws.{no-lines, one-more-line, all-lines}
 use Rattle.evidence_output.proofs.listed.put_proofs.Statement.{statement}
 use Rattle.evidence_output.proofs.listed.put_proofs.Tie as tie
