@@ -12,6 +12,7 @@ use Rattle.evr0_section.specs.Rows.{Row}
 use Rattle.evr0_section.specs.Witness.{WitnessRecord, witnessRow}
 use Rattle.evr0_section.specs.Proof.{ProofRecord, Unowned, checkProof}
 use Rattle.evr0_section.proofs.RowChecks.{GoodProof, proof-checked, witness-known}
+use Rattle.evr0_head.specs.Maps.{Beside, beside}
 use Rattle.evr0.specs.Maps.{afterRecord, Kept, keptIn, sizeIn}
 
 pub after-checked : (rules : List Rule) (counts : Counts) (u : Unowned) (name : List ℕ) (r : ProofRecord) (rule : Rule) (size : ℕ) → checkProof rules counts u name r ≡ ok rule
@@ -42,3 +43,8 @@ pub witness-read : (width : ℕ) (counts : Counts) (w : ℕ) (s : List ℕ) (n :
 witness-read width counts w s n e =
     let a = bind-ok (witnessRow width counts w s) _ e in
     (a .0, a .1, ok-same (a .2), witness-known width counts w s (a .0) (a .1) .state 0 ∙ sym (add-one w))
+
+-- ---- An answer with its digests beside it
+pub answered : {A : Type 0} (first second : A → List ℕ) {b : Beside A} (d : Out A) → b ≡ beside first second d → b .answer ≡ d
+answered {A} first second (ok a) e = ap (λ (x : Beside A). x .answer) e
+answered {A} first second (refused r) e = ap (λ (x : Beside A). x .answer) e

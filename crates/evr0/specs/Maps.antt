@@ -51,8 +51,8 @@ pub record Kept (S : Type 0) : Type 0 where
 
 abbrev pub keptIn : {A S : Type 0} → Out (Row A S) → Out (Kept S)
 keptIn x = do
-    r ← x
-    ok (record { size = r .size; state = r .state })
+  r ← x
+  ok (record { size = r .size; state = r .state })
 
 abbrev pub proofRowOut : proof.ProofRow → Out (Kept proofs.Unowned)
 proofRowOut (row.Read n u) = ok (record { size = n; state = unownedOut u })
@@ -86,8 +86,8 @@ pub record Owned : Type 0 where
 
 abbrev pub ownedIn : Out (Rows proofs.Settled proofs.Unowned) → Out Owned
 ownedIn x = do
-    t ← x
-    ok (record { unowned = t .state; next = t .next })
+  t ← x
+  ok (record { unowned = t .state; next = t .next })
 
 abbrev pub proofTableOut : proofTable.ProofTable → Out Owned
 proofTableOut (proofsRead.Read u n) = ok (record { unowned = unownedOut u; next = n })

@@ -5,10 +5,11 @@ ghost use Rattle.derivation.specs.Rule.{fourRules};
 ghost use Rattle.evr0_section.specs.Proposition.{propositionRow, rises, keyOf};
 ghost use Rattle.evr0_section.specs.Proof.{proofRow};
 ghost use Rattle.evr0_section.specs.Witness.{witnessRow};
-ghost use Rattle.evr0_records.specs.Maps.{countsOut, unownedOut, propositionRecord, proofRecord};
+ghost use Rattle.evr0_head.specs.Maps.{countsOut};
+ghost use Rattle.evr0_records.specs.Maps.{unownedOut, propositionRecord, proofRecord};
 ghost use Rattle.evr0.specs.Maps.{beforeOut, propositionRowOut, afterRecord, keptIn, proofRowOut, sizeIn, sizeOut};
-use evr0_records::check::Checked;
-use evr0_records::counts::Counts;
+use evr0_head::check::Checked;
+use evr0_head::counts::Counts;
 use evr0_records::proof::Proof;
 use evr0_records::proof::ProofRead;
 use evr0_records::proof::Settled;
@@ -71,8 +72,9 @@ fn after_proof(proof: Proof) -> Unowned
 {
     Unowned {
         proof: proof.proof_id.place() + 1,
-        witness: proof.witness_first.place() + evr0_records::number::wide(proof.witness_count),
-        parent: evr0_records::number::wide(proof.parent_first) + evr0_records::number::wide(proof.parent_count),
+        witness: proof.witness_first.place() + evr0_head::number::wide(proof.witness_count),
+        parent: evr0_head::number::wide(proof.parent_first)
+            + evr0_head::number::wide(proof.parent_count),
     }
 }
 
@@ -85,7 +87,7 @@ pub fn next_proof(payload: &[u8], at: usize, counts: Counts, unowned: Unowned) -
     match read {
         ProofRead::Refused(r) => ProofRow::Refused(r),
         ProofRead::Read { proof, size } => {
-            let name = evr0_records::span::bytes_of(tail, proof.rule_id);
+            let name = evr0_head::span::bytes_of(tail, proof.rule_id);
             let settled = evr0_records::proof::check_proof(counts, unowned, name, proof);
             match settled {
                 Settled::Refused(r) => ProofRow::Refused(r),

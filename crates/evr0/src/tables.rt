@@ -9,14 +9,13 @@ ghost use Rattle.evr0_section.specs.Rows.{rows};
 ghost use Rattle.evr0_section.specs.Proposition.{first, propositionRow};
 ghost use Rattle.evr0_section.specs.Proof.{proofRow};
 ghost use Rattle.evr0_section.specs.Witness.{witnessRow, parentRow};
-ghost use Rattle.evr0_records.specs.Maps.{countsOut};
+ghost use Rattle.evr0_head.specs.Maps.{countsOut};
 ghost use Rattle.evr0.specs.Maps.{nextIn, startsIn, tableOut, ownedIn, proofTableOut, noneOwned};
 ghost use Rattle.evr0.specs.Front.{Front};
-
 use crate::rows::Before;
 use crate::rows::ProofRow;
 use crate::rows::Size;
-use evr0_records::counts::Counts;
+use evr0_head::counts::Counts;
 use evr0_records::proof::Unowned;
 use evr0_records::proposition::PropositionRead;
 use local_format::refusal::Refusal;
@@ -140,5 +139,7 @@ pub fn read_parents(payload: &[u8], count: usize, at: usize) -> Table
     if rest < 4 * count {
         return Table::Refused(local_format::refusal::refuse(5, at + 4 * (rest / 4)));
     }
-    Table::Read { next: at + 4 * count }
+    Table::Read {
+        next: at + 4 * count,
+    }
 }

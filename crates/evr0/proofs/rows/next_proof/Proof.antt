@@ -36,13 +36,14 @@ returns-3 c =
     let b = k .before in
     let r = b .before .before .before .before in
     rw (
-        c .after-proof .ensures,
-        ← r .before .tail .ensures,
-        ← r .read-proof .ensures,
-        b .before .before .read2 .given .1,
-        ← b .bytes-of .ensures,
-        ← k .check-proof .ensures,
-        c .before .enum-told .given .1)
+      c .after-proof .ensures,
+      ← r .before .tail .ensures,
+      ← r .read-proof .ensures,
+      b .before .before .read2 .given .1,
+      ← b .bytes-of .ensures,
+      ← k .check-proof .ensures,
+      c .before .enum-told .given .1,
+    )
     (after-checked fourRules _ _ _ _ _ _ (told settledOut (k .check-proof .ensures) (c .before .enum-told .given .1)))
 
 pub next-proof-spec : {M : Type 1} → statement M

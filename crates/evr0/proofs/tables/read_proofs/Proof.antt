@@ -14,7 +14,8 @@ use Rattle.evr0_section.specs.Rows.{Row}
 use Rattle.evr0_section.specs.Proof.{Settled, Unowned, proofRow}
 use Rattle.evr0_section.proofs.Inside.{inside-ok, inside-refused, proofRowIn}
 use Rattle.evr0_section.proofs.Progress.{Progress, begun, turn, refused-at, ended}
-use Rattle.evr0_records.specs.Maps.{countsOut, unownedOut}
+use Rattle.evr0_head.specs.Maps.{countsOut}
+use Rattle.evr0_records.specs.Maps.{unownedOut}
 use Rattle.evr0.specs.Maps.{noneOwned, proofRowOut}
 use Rattle.evr0.proofs.RowLaws.{kept-read, kept-refused}
 use Rattle.evr0.proofs.TableLaws.{stored, fits, refused-fits, read-owned, read-front, refused-owned, refused-front}

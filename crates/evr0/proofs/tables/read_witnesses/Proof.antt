@@ -13,7 +13,7 @@ use Rattle.evr0_section.specs.Rows.{Row}
 use Rattle.evr0_section.specs.Witness.{WitnessRecord, witnessRow}
 use Rattle.evr0_section.proofs.Inside.{witnessRowIn}
 use Rattle.evr0_section.proofs.Progress.{Progress, begun, turn, refused-at, ended}
-use Rattle.evr0_records.specs.Maps.{countsOut}
+use Rattle.evr0_head.specs.Maps.{countsOut}
 use Rattle.evr0.specs.Maps.{sizeOut}
 use Rattle.evr0.proofs.RowLaws.{witness-read, size-refused}
 use Rattle.evr0.proofs.TableLaws.{fits, refused-fits, read-next, refused-next}
