@@ -5,3 +5,4 @@ pub mod Utf8
 pub mod Encoding
 pub mod Text
 pub mod Tag
+pub mod Maps

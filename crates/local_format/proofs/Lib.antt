@@ -1,0 +1,3 @@
+pub mod OutLaws
+pub mod FieldLaws
+pub mod TagLaws

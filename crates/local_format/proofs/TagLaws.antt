@@ -1,0 +1,71 @@
+-- Laws of comparing byte strings.
+use mathlib.Core.Path.{_≡_, refl, ap, ap₂, sym, _∙_}
+use Prim.Native.Nat.{ℕ, zero, suc, _+_, _-_, _≤_, _<_}
+use native.Mathlib.Omega.{arith}
+use native.Mathlib.Numerals.{add-one}
+use mathlib.Core.List.{List, [], _∷_}
+use mathlib.Core.Bool.{Bool, true, false, _&&_}
+use lib.Dec.{eqb, leb}
+use borrow.Author.Tests.{eqb-true, eq-eqb, le-leb, lt-leb, leb-true}
+use lib.ListN.{length, getD, take, drop, drop-of-length-le}
+use lib.Seq.{drop-cons}
+use Rattle.local_format.specs.Tag.{equal, tagAt}
+
+and-false : (a : Bool) → (a && false) ≡ false
+and-false true = refl
+and-false false = refl
+
+pub unequal : (a b : List ℕ) → (length a ≡ length b → ⊥) → false ≡ equal a b
+unfolding equal
+unequal [] [] h = absurd (h refl)
+unequal [] (y ∷ ys) h = refl
+unequal (x ∷ xs) [] h = refl
+unequal (x ∷ xs) (y ∷ ys) h =
+    sym (ap (λ (t : Bool). eqb x y && t) (sym (unequal xs ys (λ e. h (ap suc e)))) ∙ and-false (eqb x y))
+
+-- what `equal` says
+pub equal-is : (a b : List ℕ) → equal a b ≡ true → a ≡ b
+unfolding equal
+equal-is [] [] h = refl
+equal-is [] (y ∷ ys) h = let z : _≡_ {A = List ℕ} [] (y ∷ ys) = cc in z
+equal-is (x ∷ xs) [] h = let z : _≡_ {A = List ℕ} (x ∷ xs) [] = cc in z
+equal-is (x ∷ xs) (y ∷ ys) h = go (eqb x y) refl (equal-is xs ys) h
+  where
+    go : (t : Bool) → eqb x y ≡ t → (equal xs ys ≡ true → xs ≡ ys) → (t && equal xs ys) ≡ true → x ∷ xs ≡ y ∷ ys
+    go true e ih k = ap₂ (λ (z : ℕ) (zs : List ℕ). z ∷ zs) (eqb-true x y e) (ih k)
+    go false e ih k = let z : x ∷ xs ≡ y ∷ ys = cc in z
+
+module _ (a b : List ℕ) (i : ℕ) where
+  pub turn : i < length a → i < length b
+      → equal (drop i a) (drop i b) ≡ (eqb (getD a i 0) (getD b i 0) && equal (drop (i + 1) a) (drop (i + 1) b))
+  unfolding equal
+  turn h k = rw (add-one, drop-cons a i 0 h, drop-cons b i 0 k)
+
+  pub ended : length a ≤ i → length b ≤ i → equal (drop i a) (drop i b) ≡ true
+  unfolding equal
+  ended h k = rw (drop-of-length-le a h, drop-of-length-le b k)
+
+module _ (tag s : List ℕ) (at : ℕ) where
+  pub tag-cut : length s < at + length tag → false ≡ tagAt tag s at
+  unfolding tagAt
+  tag-cut h = simp (lt-leb (at + length tag) (length s) h)
+
+  pub tag-whole : at + length tag ≤ length s → equal (take (length tag) (drop at s)) tag ≡ tagAt tag s at
+  unfolding tagAt
+  tag-whole h = simp (le-leb (at + length tag) (length s) h)
+
+-- ---- What a tag at a place says
+pub equal-self : (a : List ℕ) → equal a a ≡ true
+unfolding equal
+equal-self [] = refl
+equal-self (x ∷ xs) = simp (eq-eqb x x refl) (equal-self xs)
+
+both : (a b : Bool) → (a && b) ≡ true → (a ≡ true) × (b ≡ true)
+both true b e = (refl, e)
+both false b e = (cc, cc)
+
+pub tag-there : (tag s : List ℕ) (at : ℕ) → tagAt tag s at ≡ true → (at + length tag ≤ length s) × (take (length tag) (drop at s) ≡ tag)
+unfolding tagAt
+tag-there tag s at e =
+    let p = both (leb (at + length tag) (length s)) (equal (take (length tag) (drop at s)) tag) e in
+    (leb-true (at + length tag) (length s) (p .0), equal-is (take (length tag) (drop at s)) tag (p .1))
