@@ -1,0 +1,3 @@
+pub mod RuleLaws
+pub mod ViewLaws
+pub mod PassLaws

@@ -1,0 +1,2 @@
+// Evidence sections.
+mod pass;
