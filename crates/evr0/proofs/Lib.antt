@@ -1,3 +1,3 @@
+pub mod FrameLaws
 pub mod RuleLaws
 pub mod ViewLaws
-pub mod PassLaws

@@ -1,2 +1,4 @@
+pub mod Maps
+pub mod Answer
 pub mod View
 pub mod PassMaps

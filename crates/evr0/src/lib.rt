@@ -1,2 +1,3 @@
-// Evidence sections.
+// Evidence sections (EVR0).
+mod frame;
 mod pass;

@@ -4,3 +4,4 @@ pub mod Proposition
 pub mod Proof
 pub mod Witness
 pub mod Section
+pub mod Demand

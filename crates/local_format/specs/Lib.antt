@@ -6,3 +6,4 @@ pub mod Encoding
 pub mod Text
 pub mod Tag
 pub mod Maps
+pub mod Number

@@ -1,0 +1,6 @@
+pub mod RowsLaws
+pub mod StateLaws
+pub mod RowChecks
+pub mod CheckedTables
+pub mod SectionSteps
+pub mod Demand
