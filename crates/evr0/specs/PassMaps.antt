@@ -3,27 +3,18 @@ use Prim.Native.Nat.{ℕ}
 use mathlib.Core.List.{List}
 use Rattle.local_format.specs.Out.{Out, ok, refused}
 use Rattle.local_format.specs.Maps.{refusalOut}
-use Rattle.derivation.specs.Rule as of
 use Rattle.derivation.specs.Section as section
-use Rattle.evr0_records.specs.Maps.{countsOut}
+use Rattle.evr0_records.specs.Maps.{countsOut, ruleOut}
 use Rattle.evr0_records.specs.declared.check.Checked.{Checked}
 use Rattle.evr0_records.specs.declared.check.Checked.the-variants as checked
 use Rattle.evr0.specs.View as view
 use Rattle.evr0.specs.declared.pass.Layout.{Layout}
-use Rattle.evr0.specs.declared.pass.Rule.{Rule}
-use Rattle.evr0.specs.declared.pass.Rule.the-variants.{PosWitness1, NegWitness1, JoinSameP1, OpTOnly1}
 use Rattle.evr0.specs.declared.pass.Proof.{Proof}
 use Rattle.evr0.specs.declared.pass.Depth.{Depth}
 use Rattle.evr0.specs.declared.pass.Depth.the-variants as depth
 
 abbrev pub layoutOut : Layout → view.Layout
 layoutOut l = record { counts = countsOut (l .counts); witnessesAt = l .«witnesses_at»; parentsAt = l .«parents_at» }
-
-abbrev pub ruleOut : Rule → of.Rule
-ruleOut PosWitness1 = of.posWitness1
-ruleOut NegWitness1 = of.negWitness1
-ruleOut JoinSameP1 = of.joinSameP1
-ruleOut OpTOnly1 = of.opTOnly1
 
 abbrev pub proofOut : Proof → section.Proof
 proofOut p =
@@ -32,7 +23,7 @@ proofOut p =
       proposition = p .«proposition_index» .0;
       rule = ruleOut (p .rule);
       authority = p .«authority_context»;
-      firstWitness = p .«witness_first»;
+      firstWitness = p .«witness_first» .0;
       witnessCount = p .«witness_count»;
       firstParent = p .«parent_first»;
       parentCount = p .«parent_count»;

@@ -3,18 +3,20 @@ ghost use mathlib.Core.Path.{_≡_};
 ghost use mathlib.Core.Bool.{_&&_};
 ghost use mathlib.Core.List.{List};
 ghost use Prim.Native.Nat.{ℕ, _+_, _*_, _≤_, max};
-ghost use lib.Dec.{eqb};
+ghost use lib.Dec.{eqb, ltb, leb};
 ghost use lib.ListN.{length, take};
 ghost use Rattle.local_format.specs.Field.{le};
-ghost use Rattle.derivation.specs.Rule.{Rule as RuleOf, known, ruleNamed, fourRules, polarityFits};
+ghost use Rattle.derivation.specs.Rule.{Rule as RuleOf, known, ruleNamed, fourRules};
 ghost use Rattle.derivation.specs.Pass as of;
-ghost use Rattle.evr0_records.specs.Maps.{checkedOut};
+ghost use Rattle.evr0_records.specs.Maps.{checkedOut, ruleOut};
 ghost use Rattle.evr0.specs.View.{view, proofView, afterName, nameAt, TablesThere};
-ghost use Rattle.evr0.specs.PassMaps.{layoutOut, ruleOut, proofOut, depthOut, filled};
+ghost use Rattle.evr0.specs.PassMaps.{layoutOut, proofOut, depthOut, filled};
 use evr0_records::check::Checked;
 use evr0_records::counts::Counts;
 use evr0_records::number::ProofNumber;
 use evr0_records::number::PropositionIndex;
+use evr0_records::number::WitnessNumber;
+use evr0_records::rule::Rule;
 use local_format::refusal::Refusal;
 
 // The counts of the tables, and where those of the witnesses and of the parents start.
@@ -24,20 +26,13 @@ pub struct Layout {
     pub parents_at: usize,
 }
 
-pub enum Rule {
-    PosWitness1,
-    NegWitness1,
-    JoinSameP1,
-    OpTOnly1,
-}
-
 // A proof with its rule settled.
 pub struct Proof {
     pub proof_id: ProofNumber,
     pub proposition_index: PropositionIndex,
     pub rule: Rule,
     pub authority_context: u32,
-    pub witness_first: u32,
+    pub witness_first: WitnessNumber,
     pub witness_count: u32,
     pub parent_first: u32,
     pub parent_count: u32,
@@ -64,15 +59,15 @@ fn u32_at(bytes: &[u8], at: usize) -> u32
 }
 
 // The rule of a name that is one of the four, which differ in their first byte.
-fn rule_named(name: &[u8]) -> Rule
+fn rule_of(name: &[u8]) -> Rule
     requires { ⌜ ((r : RuleOf) × (ruleNamed fourRules (now name) ≡ known r)) ⌝ }
     ensures { λ r. ⌜ ruleNamed fourRules (now (name .entry)) ≡ known (ruleOut r) ⌝ }
 {
     match name[0] {
-        b'P' => Rule::PosWitness1,
-        b'N' => Rule::NegWitness1,
-        b'J' => Rule::JoinSameP1,
-        _ => Rule::OpTOnly1,
+        b'P' => Rule::PosWitness,
+        b'N' => Rule::NegWitness,
+        b'J' => Rule::JoinSameP,
+        _ => Rule::OpTOnly,
     }
 }
 
@@ -92,18 +87,28 @@ fn proof_at(payload: &[u8], start: usize) -> Proof
 {
     let name = start + 10;
     let rest = after_name(payload, start);
-    let rule = rule_named(&payload[name..rest]);
+    let rule = rule_of(&payload[name..rest]);
     Proof {
         proof_id: ProofNumber(u32_at(payload, start)),
         proposition_index: PropositionIndex(u32_at(payload, start + 4)),
         rule,
         authority_context: u32_at(payload, rest),
-        witness_first: u32_at(payload, rest + 4),
+        witness_first: WitnessNumber(u32_at(payload, rest + 4)),
         witness_count: u32_at(payload, rest + 8),
         parent_first: u32_at(payload, rest + 12),
         parent_count: u32_at(payload, rest + 16),
         authorized_operation: payload[rest + 20],
     }
+}
+
+// Whether a parent's number is below its proof's, and at least `least`.
+fn rises(parent: usize, number: usize, least: usize) -> bool
+    ensures { λ r. ⌜ r ≡ (ltb parent number && leb least parent) ⌝ }
+{
+    if parent < number {
+        return least <= parent;
+    }
+    false
 }
 
 // Whether the proof at `start` has the proposition and the authority of `proof`.
@@ -144,10 +149,8 @@ fn parents_from(
     while cell < end {
         let at = tables.parents_at + 4 * cell;
         let parent = ProofNumber(u32_at(payload, at)).place();
-        if number <= parent {
-            return Depth::Refused(local_format::refusal::refuse(25, at));
-        }
-        if parent < least {
+        let rise = rises(parent, number, least);
+        if !rise {
             return Depth::Refused(local_format::refusal::refuse(25, at));
         }
         let agree = agrees(payload, starts[parent] as usize, proof);
@@ -161,25 +164,13 @@ fn parents_from(
     Depth::Found(deepest)
 }
 
-// Whether a witness has the polarity that a rule asks.
-fn polarity_fits(rule: Rule, polarity: u8) -> bool
-    ensures { λ r. ⌜ r ≡ polarityFits (ruleOut rule) polarity ⌝ }
-{
-    match rule {
-        Rule::PosWitness1 => polarity == 1,
-        Rule::NegWitness1 => polarity == 0,
-        Rule::JoinSameP1 => true,
-        Rule::OpTOnly1 => true,
-    }
-}
-
 // The witnesses of `proof`.
 fn witnesses_from(payload: &[u8], tables: Layout, proof: Proof) -> Checked
     requires { ⌜ tables .«witnesses_at» + 84 * tables .counts .witnesses ≤ length (now payload) ⌝ }
-    requires { ⌜ proof .«witness_first» + proof .«witness_count» ≤ tables .counts .witnesses ⌝ }
-    ensures { λ r. ⌜ ((starts : List ℕ) → checkedOut r ≡ of.witnessesFrom (tables .«parents_at») (view fourRules (now (payload .entry)) starts (layoutOut tables)) (proofOut proof) (proof .«witness_count») (proof .«witness_first»)) ⌝ }
+    requires { ⌜ proof .«witness_first» .0 + proof .«witness_count» ≤ tables .counts .witnesses ⌝ }
+    ensures { λ r. ⌜ ((starts : List ℕ) → checkedOut r ≡ of.witnessesFrom (tables .«parents_at») (view fourRules (now (payload .entry)) starts (layoutOut tables)) (proofOut proof) (proof .«witness_count») (proof .«witness_first» .0)) ⌝ }
 {
-    let mut witness = evr0_records::number::wide(proof.witness_first);
+    let mut witness = proof.witness_first.place();
     let end = witness + evr0_records::number::wide(proof.witness_count);
     while witness < end {
         let at = tables.witnesses_at + 84 * witness;
@@ -187,7 +178,7 @@ fn witnesses_from(payload: &[u8], tables: Layout, proof: Proof) -> Checked
             return evr0_records::check::refused(28, 0);
         }
         let rule = proof.rule;
-        let fits = polarity_fits(rule, payload[at + 8]);
+        let fits = evr0_records::rule::polarity_fits(rule, payload[at + 8]);
         if !fits {
             return evr0_records::check::refused(29, 0);
         }
@@ -200,7 +191,7 @@ fn witnesses_from(payload: &[u8], tables: Layout, proof: Proof) -> Checked
 fn depth_of(payload: &[u8], starts: &[u64], tables: Layout, depths: &[u64], proof: Proof) -> Depth
     requires { ⌜ TablesThere fourRules (now payload) (now starts) (layoutOut tables) ⌝ }
     requires { ⌜ proof .«parent_first» + proof .«parent_count» ≤ tables .counts .parents ⌝ }
-    requires { ⌜ proof .«witness_first» + proof .«witness_count» ≤ tables .counts .witnesses ⌝ }
+    requires { ⌜ proof .«witness_first» .0 + proof .«witness_count» ≤ tables .counts .witnesses ⌝ }
     requires { ⌜ (proof .«proof_id» .0 ≤ length (now starts)) × (proof .«proof_id» .0 ≤ length (now depths)) ⌝ }
     ensures { λ r. ⌜ depthOut r ≡ of.depthOf (tables .«parents_at») (view fourRules (now (payload .entry)) (now (starts .entry)) (layoutOut tables)) (proofOut proof) (take (proof .«proof_id» .0) (now (depths .entry))) ⌝ }
 {

@@ -43,7 +43,8 @@ returns-2 c =
     rw (
       c .before .u32-at2 .ensures,
       b .after-name .ensures,
-      eq-eqb (le 4 (a .payload .now) (a .start + 4)) (a .proof .«proposition_index» .0) (sym (b .before .before .before .u32-at .ensures) ∙ b .before .if1 .left))
+      eq-eqb (le 4 (a .payload .now) (a .start + 4)) (a .proof .«proposition_index» .0) (sym (b .before .before .before .u32-at .ensures) ∙ b .before .if1 .left),
+    )
 
 pub agrees-spec : {M : Type 1} → statement M
 agrees-spec =

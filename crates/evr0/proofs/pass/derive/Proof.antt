@@ -12,11 +12,11 @@ use Rattle.local_format.proofs.OutLaws.{told}
 use Rattle.derivation.specs.Rule.{fourRules}
 use Rattle.derivation.specs.Section as derivation
 use Rattle.derivation.specs.Pass as pass
+use Rattle.derivation.proofs.Laws.{pass-none, pass-refused, pass-turn}
 use Rattle.evr0.specs.declared.pass.Layout.{Layout}
 use Rattle.evr0.specs.View.{view}
 use Rattle.evr0.specs.PassMaps.{layoutOut, proofOut, depthOut}
 use Rattle.evr0.proofs.ViewLaws.{proof-total, proof-at}
-use Rattle.evr0.proofs.PassLaws.{depths-none, depths-refused, depths-on}
 use Rattle.evr0.proofs.pass.derive.Statement.{statement}
 use Rattle.evr0.proofs.pass.derive.Tie as tie
 
@@ -38,7 +38,7 @@ unfolding pass.depths
 loop-holds c =
     let a = c .before .before .before .args in
     let e : length (a .starts .now) - 0 ≡ derivation.proofTotal (section (a .payload .now) (a .starts .now) (a .tables)) =
-        omega (arith, proof-total fourRules (a .payload .now) (a .starts .now) (layoutOut (a .tables))) in
+    omega (arith, proof-total fourRules (a .payload .now) (a .starts .now) (layoutOut (a .tables))) in
     (omega arith, refl, rw e)
 
 proof-at-requires : tie.Need-proof-at-requires Inv-loop μ-loop
@@ -57,11 +57,16 @@ depth-of-requires : tie.Need-depth-of-requires Inv-loop μ-loop
 depth-of-requires c κs =
     let t = c .before in
     let s = t .before .before .before .before .before .before .before in
-    let there = s .pre .0 .proofs (t .before .before .before .loop .i) (t .before .before .loop-test .taken) in
-    (s .pre .0,
-      (subst (λ (q : derivation.Proof). q .firstParent + q .parentCount ≤ s .args .tables .counts .parents) (sym (t .proof-at .ensures)) (there .parents),
-      (subst (λ (q : derivation.Proof). q .firstWitness + q .witnessCount ≤ s .args .tables .counts .witnesses) (sym (t .proof-at .ensures)) (there .witnesses),
-      (omega (arith, number-is t), omega (arith, number-is t)))))
+    let there = s .pre .0 .proofs (t .before .before .before .loop .i) (t .before .before .loop-test .taken) in (
+      s .pre .0,
+      (
+        subst (λ (q : derivation.Proof). q .firstParent + q .parentCount ≤ s .args .tables .counts .parents) (sym (t .proof-at .ensures)) (there .parents),
+        (
+          subst (λ (q : derivation.Proof). q .firstWitness + q .witnessCount ≤ s .args .tables .counts .witnesses) (sym (t .proof-at .ensures)) (there .witnesses),
+          (omega (arith, number-is t), omega (arith, number-is t)),
+        ),
+      ),
+    )
 
 -- the code's depth of the proof reached is the definition's
 depth-is : (c : tie.After-depth-of Inv-loop μ-loop)
@@ -80,21 +85,26 @@ depth-is c =
 returns : tie.Need-returns Inv-loop μ-loop
 returns c =
     let d = c .before .before .before in
+    let a = d .before .before .before .before .before .before .before .before .before .args in
     let l = d .before .before .before .before .before .loop in
-    depths-refused _ _ (l .i) _ (take (l .i) (l .depths)) (d .before .before .before .before .loop-test .taken) _ (depth-is d ∙ ap depthOut (c .before .found .given .1))
+    sym (pass-refused (a .tables .«parents_at») (section (a .payload .now) (a .starts .now) (a .tables)) _ (l .i) (take (l .i) (l .depths)) _ (omega arith)
+    (depth-is d ∙ ap depthOut (c .before .found .given .1)))
     ∙ l .inv .2
 
 loop-again : tie.Need-loop-again Inv-loop μ-loop
 loop-again c =
     let d = c .before .before .before in
-    let s = d .before .before .before .before .before .before .before .before .before in
+    let start = d .before .before .before .before .before .before .before .before .before in
+    let a = start .args in
     let l = d .before .before .before .before .before .loop in
     let depth = c .before .found2 .given .0 .0 in
-    let h : l .i < length (l .depths) = omega (arith, s .pre .1) in (
+    let h : l .i < length (l .depths) = omega (arith, start .pre .1) in
+    let left : length (a .starts .now) - (l .i + 1) ≡ length (a .starts .now) - l .i - 1 = omega arith in (
       omega arith,
       length-set (l .depths) (l .i) depth ∙ l .inv .1,
-      rw (add-one (l .i), take-suc-set (l .depths) (l .i) depth h, ← add-one (l .i))
-      (depths-on _ _ (l .i) _ (take (l .i) (l .depths)) (d .before .before .before .before .loop-test .taken) depth (depth-is d ∙ ap depthOut (c .before .found2 .given .1))
+      rw (left, add-one (l .i), take-suc-set (l .depths) (l .i) depth h, ← add-one (l .i))
+      (sym (pass-turn (a .tables .«parents_at») (section (a .payload .now) (a .starts .now) (a .tables)) _ (l .i) (take (l .i) (l .depths)) depth (omega arith)
+      (depth-is d ∙ ap depthOut (c .before .found2 .given .1)))
       ∙ l .inv .2),
     )
 
@@ -104,7 +114,7 @@ returns-2 c =
     let l = c .before .loop in
     let e : length (a .starts .now) ≡ l .i = omega arith in
     ap (λ (k : ℕ). ok (take k (l .depths))) e
-    ∙ depths-none (a .tables .«parents_at») (section (a .payload .now) (a .starts .now) (a .tables)) (l .i) _ (take (l .i) (l .depths)) (c .loop-test .left)
+    ∙ sym (pass-none (a .tables .«parents_at») (section (a .payload .now) (a .starts .now) (a .tables)) _ (l .i) (take (l .i) (l .depths)) (omega arith))
     ∙ l .inv .2
 
 pub derive-spec : {M : Type 1} → statement M

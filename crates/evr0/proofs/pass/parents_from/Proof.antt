@@ -1,23 +1,25 @@
 -- Each turn is one step of the definition: what is answered from the cell reached on is the whole answer.
-use Prim.Native.Nat.{ℕ, _+_, _-_, _*_, _≤_, _<_}
-use mathlib.Core.Path.{_≡_, refl, sym, ap, _∙_}
+use Prim.Native.Nat.{ℕ, _+_, _-_, _≤_, _<_}
+use mathlib.Core.Path.{_≡_, sym, ap, _∙_}
 use mathlib.Core.List.{List}
-use mathlib.Core.Bool.{Bool, true, false}
+use mathlib.Core.Bool.{Bool, true, _&&_}
 use native.Mathlib.Omega.{arith}
-use lib.ListN.{length, getD, take}
+use lib.Dec.{ltb, leb}
+use lib.ListN.{length, take}
 use lib.Seq.{getD-take}
 use borrow.Author.Needs.{needs}
-use borrow.Author.Tests.{not-true, not-false}
+use borrow.Author.Tests.{not-true, not-false, ltb-true}
 use Rattle.local_format.specs.Out.{Out, refused}
 use Rattle.derivation.specs.Rule.{fourRules}
 use Rattle.derivation.specs.Section.{Section, parentAt}
 use Rattle.derivation.specs.Pass as pass
+use Rattle.derivation.proofs.Tests.{both}
+use Rattle.derivation.proofs.Laws.{parents-none, parents-25, parents-26, parents-turn}
 use Rattle.evr0.specs.declared.pass.Layout.{Layout}
 use Rattle.evr0.specs.declared.pass.Proof.{Proof}
 use Rattle.evr0.specs.View.{view}
 use Rattle.evr0.specs.PassMaps.{layoutOut, proofOut}
 use Rattle.evr0.proofs.ViewLaws.{parent-at, agrees-at}
-use Rattle.evr0.proofs.PassLaws.{parents-none, parents-above, parents-not-rising, parents-apart, parents-on}
 use Rattle.evr0.proofs.pass.parents_from.Statement.{statement}
 use Rattle.evr0.proofs.pass.parents_from.Tie as tie
 
@@ -25,7 +27,8 @@ abbrev section : List ℕ → List ℕ → Layout → Section
 section payload starts tables = view fourRules payload starts (layoutOut tables)
 
 abbrev from : List ℕ → List ℕ → Layout → List ℕ → Proof → ℕ → ℕ → ℕ → ℕ → Out ℕ
-from payload starts tables depths proof = pass.parentsFrom (tables .«parents_at») (section payload starts tables) (proofOut proof) (take (proof .«proof_id» .0) depths)
+from payload starts tables depths proof =
+    pass.parentsFrom (tables .«parents_at») (section payload starts tables) (proofOut proof) (take (proof .«proof_id» .0) depths)
 
 abbrev Inv-loop : tie.InvT-loop
 Inv-loop payload starts tables depths proof number cell₀ end least₀ deepest₀ cell least deepest =
@@ -43,89 +46,101 @@ loop-holds c =
     let e : c .before .wide .result + c .wide2 .result - c .before .wide .result ≡ a .proof .«parent_count» = omega arith in
     (c .before .before .place .ensures, omega arith, rw (e, c .before .wide .ensures))
 
--- ---- A turn, once the parent is read
-abbrev Turn : Type 0
-Turn = tie.After-place2 Inv-loop μ-loop
+-- ---- A turn, once the parent's number is tested
+module _ (c : tie.After-rises Inv-loop μ-loop) where
+  abbrev s : Section
+  s = let a = c .before .before .before .before .before .before .before .before .before .before .before .before .args in section (a .payload .now) (a .starts .now) (a .tables)
 
-abbrev sectionOf : Turn → Section
-sectionOf c = let a = c .before .before .before .before .before .before .before .before .before .before .before .args in section (a .payload .now) (a .starts .now) (a .tables)
+  parent-is : parentAt s (c .before .before .before .before .before .loop .cell) ≡ c .before .place2 .result
+  parent-is =
+      let a = c .before .before .before .before .before .before .before .before .before .before .before .before .args in
+      parent-at fourRules (a .payload .now) (a .starts .now) (layoutOut (a .tables)) (c .before .before .before .before .before .loop .cell) (omega arith)
+      ∙ sym (c .before .before .u32-at .ensures)
+      ∙ sym (c .before .place2 .ensures)
 
-parent-is : (c : Turn) → parentAt (sectionOf c) (c .before .before .before .before .loop .cell) ≡ c .place2 .result
-parent-is c =
-    let a = c .before .before .before .before .before .before .before .before .before .before .before .args in
-    let l = c .before .before .before .before .loop in
-    parent-at fourRules (a .payload .now) (a .starts .now) (layoutOut (a .tables)) (l .cell) (omega arith)
-    ∙ sym (c .before .u32-at .ensures)
-    ∙ sym (c .place2 .ensures)
+  rise-is : (ltb (parentAt s (c .before .before .before .before .before .loop .cell)) (c .before .before .before .before .before .before .before .before .before .before .before .before .args .proof .«proof_id» .0) && leb (c .before .before .before .before .before .loop .least) (parentAt s (c .before .before .before .before .before .loop .cell))) ≡ c .rises .result
+  rise-is = rw (parent-is, ← c .before .before .before .before .before .loop .inv .0) (sym (c .rises .ensures))
+
+  below : c .rises .result ≡ true → c .before .place2 .result < c .before .before .before .before .before .before .before .before .before .before .before .before .args .proof .«proof_id» .0
+  below h =
+      let number = c .before .before .before .before .before .before .before .before .place .result in
+      let test = both (ltb (c .before .place2 .result) number) (leb (c .before .before .before .before .before .loop .least) (c .before .place2 .result)) (sym (c .rises .ensures) ∙ h) in
+      omega (arith, ltb-true (c .before .place2 .result) number (test .0))
 
 returns : tie.Need-returns Inv-loop μ-loop
 returns c =
     let t = c .before .before in
-    let a = t .before .before .before .before .before .before .before .before .before .before .before .args in
-    let l = t .before .before .before .before .loop in
+    let a = t .before .before .before .before .before .before .before .before .before .before .before .before .args in
+    let l = t .before .before .before .before .before .loop in
     ap refused (c .refuse .ensures)
-    ∙ parents-above (a .tables .«parents_at») (sectionOf t) (proofOut (a .proof)) (take (a .proof .«proof_id» .0) (a .depths .now)) (l .cell) _ (l .least) (l .deepest)
-    (t .before .before .before .loop-test .taken) (omega (arith, parent-is t))
+    ∙ sym (parents-25 (a .tables .«parents_at») (s t) (proofOut (a .proof)) (take (a .proof .«proof_id» .0) (a .depths .now)) _ (l .cell) (l .least) (l .deepest) (omega arith)
+    (rise-is t ∙ not-true (t .rises .result) (c .before .if1 .taken)))
     ∙ l .inv .2
 
-returns-2 : tie.Need-returns-2 Inv-loop μ-loop
-returns-2 c =
-    let t = c .before .before .before in
-    let a = t .before .before .before .before .before .before .before .before .before .before .before .args in
-    let l = t .before .before .before .before .loop in
-    ap refused (c .refuse2 .ensures)
-    ∙ parents-not-rising (a .tables .«parents_at») (sectionOf t) (proofOut (a .proof)) (take (a .proof .«proof_id» .0) (a .depths .now)) (l .cell) _ (l .least) (l .deepest)
-    (t .before .before .before .loop-test .taken) (omega (arith, parent-is t)) (omega (arith, parent-is t))
-    ∙ l .inv .2
+-- ---- A turn, once the parent is compared with its proof
+module _ (c : tie.After-agrees Inv-loop μ-loop) where
+  abbrev turn : tie.After-rises Inv-loop μ-loop
+  turn = c .before .before .before
+
+  rise : turn .rises .result ≡ true
+  rise = not-false (turn .rises .result) (c .before .before .if1 .left)
+
+  agree-is : let a = turn .before .before .before .before .before .before .before .before .before .before .before .before .args in pass.agrees (s turn) (proofOut (a .proof)) (parentAt (s turn) (turn .before .before .before .before .before .loop .cell)) ≡ c .agrees .result
+  agree-is =
+      let start = turn .before .before .before .before .before .before .before .before .before .before .before .before in
+      let a = start .args in
+      ap (pass.agrees (s turn) (proofOut (a .proof))) (parent-is turn)
+      ∙ agrees-at fourRules (a .payload .now) (a .starts .now) (layoutOut (a .tables)) (proofOut (a .proof)) (turn .before .place2 .result) (omega (arith, start .pre .1 .1 .0, below turn rise))
+      ∙ sym (c .agrees .ensures)
+
+shared-slice-read-agrees : tie.Need-shared-slice-read-agrees Inv-loop μ-loop
+shared-slice-read-agrees c = let t = c .before .before in omega (arith, t .before .before .before .before .before .before .before .before .before .before .before .before .pre .1 .1 .0, below t (not-false (t .rises .result) (c .before .if1 .left)))
 
 agrees-requires : tie.Need-agrees-requires Inv-loop μ-loop
 agrees-requires c κs =
-    let t = c .before .before .before in
-    let s = t .before .before .before .before .before .before .before .before .before .before .before in
-    s .pre .0 .proofs (t .place2 .result) (omega (arith, s .pre .1 .1 .0)) .inside
+    let t = c .before .before in
+    let start = t .before .before .before .before .before .before .before .before .before .before .before .before in
+    start .pre .0 .proofs (t .before .place2 .result) (omega (arith, start .pre .1 .1 .0, below t (not-false (t .rises .result) (c .before .if1 .left)))) .inside
 
--- the test that the code makes is the definition's
-agreed : (c : tie.After-agrees Inv-loop μ-loop) → pass.agrees (sectionOf (c .before .before .before .before)) (proofOut (c .before .before .before .before .before .before .before .before .before .before .before .before .before .before .before .args .proof)) (parentAt (sectionOf (c .before .before .before .before)) (c .before .before .before .before .before .before .before .before .loop .cell)) ≡ c .agrees .result
-agreed c =
-    let t = c .before .before .before .before in
-    let s = t .before .before .before .before .before .before .before .before .before .before .before in
-    let a = s .args in
-    ap (pass.agrees (sectionOf t) (proofOut (a .proof))) (parent-is t)
-    ∙ agrees-at fourRules (a .payload .now) (a .starts .now) (layoutOut (a .tables)) (proofOut (a .proof)) (t .place2 .result) (omega (arith, s .pre .1 .1 .0))
-    ∙ sym (c .agrees .ensures)
-
-returns-3 : tie.Need-returns-3 Inv-loop μ-loop
-returns-3 c =
-    let t = c .before .before .before .before .before .before in
-    let a = t .before .before .before .before .before .before .before .before .before .before .before .args in
-    let l = t .before .before .before .before .loop in
-    ap refused (c .refuse3 .ensures)
-    ∙ parents-apart (a .tables .«parents_at») (sectionOf t) (proofOut (a .proof)) (take (a .proof .«proof_id» .0) (a .depths .now)) (l .cell) _ (l .least) (l .deepest)
-    (t .before .before .before .loop-test .taken) (omega (arith, parent-is t)) (omega (arith, parent-is t))
-    (agreed (c .before .before) ∙ not-true (c .before .before .agrees .result) (c .before .if3 .taken))
+returns-2 : tie.Need-returns-2 Inv-loop μ-loop
+returns-2 c =
+    let g = c .before .before in
+    let t = turn g in
+    let a = t .before .before .before .before .before .before .before .before .before .before .before .before .args in
+    let l = t .before .before .before .before .before .loop in
+    ap refused (c .refuse2 .ensures)
+    ∙ sym (parents-26 (a .tables .«parents_at») (s t) (proofOut (a .proof)) (take (a .proof .«proof_id» .0) (a .depths .now)) _ (l .cell) (l .least) (l .deepest) (omega arith)
+    (rise-is t ∙ rise g) (agree-is g ∙ not-true (g .agrees .result) (c .before .if2 .taken)))
     ∙ l .inv .2
+
+shared-slice-read-larger : tie.Need-shared-slice-read-larger Inv-loop μ-loop
+shared-slice-read-larger c = let g = c .before .before in omega (arith, g .before .before .before .before .before .before .before .before .before .before .before .before .before .before .before .pre .1 .1 .1, below (turn g) (rise g))
+
+add-least : tie.Need-add-least Inv-loop μ-loop
+add-least c = let g = c .before .before .before in omega (arith, below (turn g) (rise g))
 
 loop-again : tie.Need-loop-again Inv-loop μ-loop
 loop-again c =
     let g = c .before .before .before in
-    let t = g .before .before .before .before in
-    let a = t .before .before .before .before .before .before .before .before .before .before .before .args in
-    let l = t .before .before .before .before .loop in
-    let h : t .place2 .result < a .proof .«proof_id» .0 = omega arith in (
+    let t = turn g in
+    let a = t .before .before .before .before .before .before .before .before .before .before .before .before .args in
+    let l = t .before .before .before .before .before .loop in
+    let end = t .before .before .before .before .before .before .before .wide .result + t .before .before .before .before .before .before .wide2 .result in
+    let left : end - (l .cell + 1) ≡ end - l .cell - 1 = omega arith in (
       l .inv .0,
       l .inv .1,
-      rw (c .larger .ensures, ← getD-take (a .proof .«proof_id» .0) (a .depths .now) (t .place2 .result) 0 h, ← parent-is t)
-      (parents-on (a .tables .«parents_at») (sectionOf t) (proofOut (a .proof)) (take (a .proof .«proof_id» .0) (a .depths .now)) (l .cell) _ (l .least) (l .deepest)
-      (t .before .before .before .loop-test .taken) (omega (arith, parent-is t)) (omega (arith, parent-is t))
-      (agreed g ∙ not-false (g .agrees .result) (c .before .before .if3 .left))
+      rw (left, c .larger .ensures)
+      (sym (rw (parent-is t, getD-take (a .proof .«proof_id» .0) (a .depths .now) (t .before .place2 .result) 0 (below t (rise g)))
+      at (parents-turn (a .tables .«parents_at») (s t) (proofOut (a .proof)) (take (a .proof .«proof_id» .0) (a .depths .now)) (end - l .cell) (l .cell) (l .least) (l .deepest) (omega arith)
+      (rise-is t ∙ rise g) (agree-is g ∙ not-false (g .agrees .result) (c .before .before .if2 .left))))
       ∙ l .inv .2),
     )
 
-returns-4 : tie.Need-returns-4 Inv-loop μ-loop
-returns-4 c =
+returns-3 : tie.Need-returns-3 Inv-loop μ-loop
+returns-3 c =
     let a = c .before .before .before .before .before .before .before .before .args in
     let l = c .before .loop in
-    parents-none (a .tables .«parents_at») (section (a .payload .now) (a .starts .now) (a .tables)) (proofOut (a .proof)) (take (a .proof .«proof_id» .0) (a .depths .now)) (l .cell) _ (l .least) (l .deepest) (c .loop-test .left)
+    sym (parents-none (a .tables .«parents_at») (section (a .payload .now) (a .starts .now) (a .tables)) (proofOut (a .proof)) (take (a .proof .«proof_id» .0) (a .depths .now)) _ (l .cell) (l .least) (l .deepest) (omega arith))
     ∙ l .inv .2
 
 pub parents-from-spec : {M : Type 1} → statement M
@@ -144,19 +159,18 @@ parents-from-spec =
     (λ c κs. search needs)
     (λ c κs. search needs)
     (λ c κs. search needs)
+    (λ c κs. search needs)
     returns
+    (λ c. search needs)
+    shared-slice-read-agrees
+    agrees-requires
     (λ c κs. search needs)
     returns-2
     (λ c. search needs)
-    (λ c. search needs)
-    agrees-requires
+    shared-slice-read-larger
     (λ c κs. search needs)
-    returns-3
-    (λ c. search needs)
-    (λ c. search needs)
-    (λ c κs. search needs)
-    (λ c. search needs)
+    add-least
     (λ c. search needs)
     (λ c. search needs)
     loop-again
-    returns-4)
+    returns-3)

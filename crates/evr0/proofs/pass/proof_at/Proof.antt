@@ -6,14 +6,14 @@ use Rattle.local_format.specs.Field.{le}
 use Rattle.local_format.proofs.FieldLaws.{le-1}
 use Rattle.derivation.specs.Rule.{known, ruleNamed, fourRules}
 use Rattle.evr0.specs.View.{proofView}
-use Rattle.evr0.specs.PassMaps.{ruleOut}
+use Rattle.evr0_records.specs.Maps.{ruleOut}
 use borrow.Author.Needs.{needs}
 use Rattle.evr0.proofs.pass.proof_at.Statement.{statement}
 use Rattle.evr0.proofs.pass.proof_at.Tie as tie
 use Rattle.evr0.proofs.pass.proof_at.Reads as reads
 use Rattle.evr0.proofs.pass.proof_at.Lts as lts
 use Rattle.evr0.proofs.pass.after_name.Reads as after-name-reads
-use Rattle.evr0.proofs.pass.rule_named.Reads as rule-named-reads
+use Rattle.evr0.proofs.pass.rule_of.Reads as rule-of-reads
 use Rattle.evr0.proofs.pass.u32_at.Reads as u32-at-reads
 
 -- src/pass.rt:93:16
@@ -25,20 +25,20 @@ after-name-requires : tie.Need-after-name-requires
 after-name-requires c κs = search needs
 
 -- src/pass.rt:95:27
-sub-rule-named : tie.Need-sub-rule-named
-sub-rule-named c = search needs
+sub-rule-of : tie.Need-sub-rule-of
+sub-rule-of c = search needs
 
 -- src/pass.rt:95:27
-part-rule-named-start : tie.Need-part-rule-named-start
-part-rule-named-start c = search needs
+part-rule-of-start : tie.Need-part-rule-of-start
+part-rule-of-start c = search needs
 
 -- src/pass.rt:95:27
-part-rule-named-end : tie.Need-part-rule-named-end
-part-rule-named-end c = search needs
+part-rule-of-end : tie.Need-part-rule-of-end
+part-rule-of-end c = search needs
 
 -- src/pass.rt:95:9
-rule-named-requires : tie.Need-rule-named-requires
-rule-named-requires c κs =
+rule-of-requires : tie.Need-rule-of-requires
+rule-of-requires c κs =
     let a = c .before .before .before .args in
     let e : c .before .after-name .result - (a .start + 10) ≡ le 2 (a .payload .now) (a .start + 8) = omega arith in
     rw e (c .before .before .before .pre .1)
@@ -92,12 +92,12 @@ u32-at-requires-7 : tie.Need-u32-at-requires-7
 u32-at-requires-7 c κs = search needs
 
 -- src/pass.rt:105:39
-add-t23 : tie.Need-add-t23
-add-t23 c = search needs
+add-t24 : tie.Need-add-t24
+add-t24 c = search needs
 
 -- src/pass.rt:105:31
-shared-slice-read-t25 : tie.Need-shared-slice-read-t25
-shared-slice-read-t25 c = search needs
+shared-slice-read-t26 : tie.Need-shared-slice-read-t26
+shared-slice-read-t26 c = search needs
 
 -- src/pass.rt:88:1
 returns : tie.Need-returns
@@ -107,7 +107,7 @@ returns c =
     let b = n .before .before in
     let a = b .before .before .args in
     let e : b .after-name .result - (a .start + 10) ≡ le 2 (a .payload .now) (a .start + 8) = omega arith in
-    let rule : ruleNamed fourRules (take (le 2 (a .payload .now) (a .start + 8)) (drop (a .start + 10) (a .payload .now))) ≡ known (ruleOut (n .rule-named .result)) = rw e at (n .rule-named .ensures) in
+    let rule : ruleNamed fourRules (take (le 2 (a .payload .now) (a .start + 8)) (drop (a .start + 10) (a .payload .now))) ≡ known (ruleOut (n .rule-of .result)) = rw e at (n .rule-of .ensures) in
     rw (
       rule,
       c .before .before .before .before .before .before .before .u32-at .ensures,
@@ -118,7 +118,8 @@ returns c =
       c .before .before .u32-at6 .ensures,
       c .before .u32-at7 .ensures,
       le-1 (a .payload .now) (b .after-name .result + 20),
-      b .after-name .ensures)
+      b .after-name .ensures,
+    )
 
 pub proof-at-spec : {M : Type 1} → statement M
 proof-at-spec =
@@ -126,10 +127,10 @@ proof-at-spec =
     (tie.spec
     add-name
     after-name-requires
-    sub-rule-named
-    part-rule-named-start
-    part-rule-named-end
-    rule-named-requires
+    sub-rule-of
+    part-rule-of-start
+    part-rule-of-end
+    rule-of-requires
     u32-at-requires
     add-u32-at
     u32-at-requires-2
@@ -142,6 +143,6 @@ proof-at-spec =
     u32-at-requires-6
     add-u32-at-5
     u32-at-requires-7
-    add-t23
-    shared-slice-read-t25
+    add-t24
+    shared-slice-read-t26
     returns)

@@ -1,6 +1,6 @@
 -- Each turn is one step of the definition: what is answered from the witness reached on is the whole answer.
-use Prim.Native.Nat.{ℕ, _+_, _-_, _*_, _≤_, _<_}
-use mathlib.Core.Path.{_≡_, refl, sym, ap, _∙_}
+use Prim.Native.Nat.{ℕ, _+_, _-_, _*_, _≤_}
+use mathlib.Core.Path.{_≡_, sym, ap, _∙_}
 use mathlib.Core.List.{List}
 use native.Mathlib.Omega.{arith}
 use borrow.Author.Needs.{needs}
@@ -10,12 +10,12 @@ use Rattle.local_format.proofs.FieldLaws.{le-1}
 use Rattle.derivation.specs.Rule.{fourRules, polarityFits}
 use Rattle.derivation.specs.Section as derivation
 use Rattle.derivation.specs.Pass as pass
+use Rattle.derivation.proofs.Laws.{witnesses-none, witnesses-28, witnesses-29, witnesses-turn}
 use Rattle.evr0.specs.declared.pass.Layout.{Layout}
 use Rattle.evr0.specs.declared.pass.Proof.{Proof}
 use Rattle.evr0.specs.View.{witnessView, view}
-use Rattle.evr0.specs.PassMaps.{layoutOut, ruleOut, proofOut}
+use Rattle.evr0.specs.PassMaps.{layoutOut, proofOut}
 use Rattle.evr0.proofs.ViewLaws.{witness-at}
-use Rattle.evr0.proofs.PassLaws.{witnesses-none, witnesses-other, witnesses-against, witnesses-on}
 use Rattle.evr0.proofs.pass.witnesses_from.Statement.{statement}
 use Rattle.evr0.proofs.pass.witnesses_from.Tie as tie
 
@@ -30,7 +30,7 @@ Inv-loop payload tables proof witness₀ end witness =
     (end ≤ tables .counts .witnesses)
     × ((starts : List ℕ)
     → from payload starts tables proof (end - witness) witness
-    ≡ from payload starts tables proof (proof .«witness_count») (proof .«witness_first»))
+    ≡ from payload starts tables proof (proof .«witness_count») (proof .«witness_first» .0))
 
 abbrev μ-loop : tie.MeasureT-loop
 μ-loop payload tables proof witness₀ end witness = end - witness
@@ -38,17 +38,15 @@ abbrev μ-loop : tie.MeasureT-loop
 loop-holds : tie.Need-loop-holds Inv-loop μ-loop
 loop-holds c =
     let a = c .before .before .before .args in
-    let e : c .before .wide .result + c .wide2 .result - c .before .wide .result ≡ a .proof .«witness_count» = omega arith in
-    (omega arith, λ starts. rw (e, c .before .wide .ensures))
+    let e : c .before .place .result + c .wide .result - c .before .place .result ≡ a .proof .«witness_count» = omega arith in
+    (omega arith, λ starts. rw (e, c .before .place .ensures))
 
 -- ---- A turn, once the witness's proposition is read
 module _ (c : tie.After-u32-at Inv-loop μ-loop) (starts : List ℕ) where
   abbrev witness : derivation.Witness
-  witness =
-      let a = c .before .before .before .before .before .before .before .args in
-      derivation.witnessAt (section (a .payload .now) starts (a .tables)) (c .before .before .before .loop .witness)
+  witness = let a = c .before .before .before .before .before .before .before .args in derivation.witnessAt (section (a .payload .now) starts (a .tables)) (c .before .before .before .loop .witness)
 
-  witness-is : witness ≡ witnessView (c .before .before .before .before .before .before .before .args .payload .now) (c .before .before .before .before .before .before .before .args .tables .«witnesses_at» + 84 * c .before .before .before .loop .witness)
+  witness-is : let a = c .before .before .before .before .before .before .before .args in witness ≡ witnessView (a .payload .now) (a .tables .«witnesses_at» + 84 * c .before .before .before .loop .witness)
   witness-is =
       let a = c .before .before .before .before .before .before .before .args in
       witness-at fourRules (a .payload .now) starts (layoutOut (a .tables)) (c .before .before .before .loop .witness) (omega arith)
@@ -63,30 +61,35 @@ returns c starts =
     let a = t .before .before .before .before .before .before .before .args in
     let l = t .before .before .before .loop in
     c .refused .ensures
-    ∙ witnesses-other (a .tables .«parents_at») (section (a .payload .now) starts (a .tables)) (proofOut (a .proof)) (l .witness) _
-    (t .before .before .loop-test .taken) (λ e. c .before .if1 .taken (sym (proposition-is t starts) ∙ e))
+    ∙ sym (witnesses-28 (a .tables .«parents_at») (section (a .payload .now) starts (a .tables)) (proofOut (a .proof)) _ (l .witness) (omega arith)
+    (λ e. c .before .if1 .taken (sym (proposition-is t starts) ∙ e)))
     ∙ l .inv .1 starts
 
-polarity-is : (c : tie.After-polarity-fits Inv-loop μ-loop) (starts : List ℕ)
-    → polarityFits (proofOut (c .before .before .before .before .before .before .before .before .before .before .before .args .proof) .rule) (witness (c .before .before .before .before) starts .polarity) ≡ c .polarity-fits .result
-unfolding witnessView
-polarity-is c starts =
-    let t = c .before .before .before .before in
-    let a = t .before .before .before .before .before .before .before .args in
-    let l = t .before .before .before .loop in
-    ap (polarityFits (proofOut (a .proof) .rule)) (ap (λ (w : derivation.Witness). w .polarity) (witness-is t starts) ∙ sym (le-1 (a .payload .now) (a .tables .«witnesses_at» + 84 * l .witness + 8)))
-    ∙ sym (c .polarity-fits .ensures)
+-- ---- A turn, once the witness's polarity is tested
+module _ (c : tie.After-polarity-fits Inv-loop μ-loop) (starts : List ℕ) where
+  abbrev turn : tie.After-u32-at Inv-loop μ-loop
+  turn = c .before .before .before .before
+
+  same-proposition : witness turn starts .proposition ≡ turn .before .before .before .before .before .before .before .args .proof .«proposition_index» .0
+  same-proposition = proposition-is turn starts ∙ c .before .before .if1 .left
+
+  fits-is : polarityFits (proofOut (turn .before .before .before .before .before .before .before .args .proof) .rule) (witness turn starts .polarity) ≡ c .polarity-fits .result
+  unfolding witnessView
+  fits-is =
+      let a = turn .before .before .before .before .before .before .before .args in
+      ap (polarityFits (proofOut (a .proof) .rule))
+      (ap (λ (w : derivation.Witness). w .polarity) (witness-is turn starts) ∙ sym (le-1 (a .payload .now) (a .tables .«witnesses_at» + 84 * turn .before .before .before .loop .witness + 8)))
+      ∙ sym (c .polarity-fits .ensures)
 
 returns-2 : tie.Need-returns-2 Inv-loop μ-loop
 returns-2 c starts =
     let f = c .before .before in
-    let t = f .before .before .before .before in
+    let t = turn f starts in
     let a = t .before .before .before .before .before .before .before .args in
     let l = t .before .before .before .loop in
     c .refused2 .ensures
-    ∙ witnesses-against (a .tables .«parents_at») (section (a .payload .now) starts (a .tables)) (proofOut (a .proof)) (l .witness) _
-    (t .before .before .loop-test .taken) (proposition-is t starts ∙ f .before .before .if1 .left)
-    (polarity-is f starts ∙ not-true (f .polarity-fits .result) (c .before .if2 .taken))
+    ∙ sym (witnesses-29 (a .tables .«parents_at») (section (a .payload .now) starts (a .tables)) (proofOut (a .proof)) _ (l .witness) (omega arith)
+    (same-proposition f starts) (fits-is f starts ∙ not-true (f .polarity-fits .result) (c .before .if2 .taken)))
     ∙ l .inv .1 starts
 
 loop-again : tie.Need-loop-again Inv-loop μ-loop
@@ -94,20 +97,21 @@ loop-again c =
     let f = c .before in
     let t = f .before .before .before .before in
     let a = t .before .before .before .before .before .before .before .args in
-    let l = t .before .before .before .loop in (
+    let l = t .before .before .before .loop in
+    let end = t .before .before .before .before .before .place .result + t .before .before .before .before .wide .result in
+    let left : end - (l .witness + 1) ≡ end - l .witness - 1 = omega arith in (
       l .inv .0,
-      λ starts. witnesses-on (a .tables .«parents_at») (section (a .payload .now) starts (a .tables)) (proofOut (a .proof)) (l .witness) _
-          (t .before .before .loop-test .taken) (proposition-is t starts ∙ f .before .before .if1 .left)
-          (polarity-is f starts ∙ not-false (f .polarity-fits .result) (c .if2 .left))
-          ∙ l .inv .1 starts,
+      λ starts. rw left
+          (sym (witnesses-turn (a .tables .«parents_at») (section (a .payload .now) starts (a .tables)) (proofOut (a .proof)) _ (l .witness) (omega arith)
+          (same-proposition f starts) (fits-is f starts ∙ not-false (f .polarity-fits .result) (c .if2 .left)))
+          ∙ l .inv .1 starts),
     )
 
 returns-3 : tie.Need-returns-3 Inv-loop μ-loop
 returns-3 c starts =
     let a = c .before .before .before .before .before .args in
     let l = c .before .loop in
-    witnesses-none (a .tables .«parents_at») (section (a .payload .now) starts (a .tables)) (proofOut (a .proof)) (l .witness) _ (c .loop-test .left)
-    ∙ l .inv .1 starts
+    sym (witnesses-none (a .tables .«parents_at») (section (a .payload .now) starts (a .tables)) (proofOut (a .proof)) _ (l .witness) (omega arith)) ∙ l .inv .1 starts
 
 pub witnesses-from-spec : {M : Type 1} → statement M
 witnesses-from-spec =

@@ -4,10 +4,10 @@ use lib.ListN.{getD}
 use borrow.Author.Tests.{ne-eqb}
 use Rattle.derivation.specs.Rule.{known}
 use Rattle.evr0.proofs.RuleLaws.{ruleBy, by-first}
-use Rattle.evr0.proofs.pass.rule_named.Statement.{statement}
-use Rattle.evr0.proofs.pass.rule_named.Tie as tie
-use Rattle.evr0.proofs.pass.rule_named.Reads as reads
-use Rattle.evr0.proofs.pass.rule_named.Lts as lts
+use Rattle.evr0.proofs.pass.rule_of.Statement.{statement}
+use Rattle.evr0.proofs.pass.rule_of.Tie as tie
+use Rattle.evr0.proofs.pass.rule_of.Reads as reads
+use Rattle.evr0.proofs.pass.rule_of.Lts as lts
 
 -- src/pass.rt:71:11
 shared-slice-read-match : tie.Need-shared-slice-read-match
@@ -27,11 +27,11 @@ returns-3 c = (c .before .before .pre .1 ∙ ap known (by-first _ _ (c .before .
 
 -- src/pass.rt:67:1
 returns-4 : tie.Need-returns-4
-returns-4 c = 
+returns-4 c =
     let h = c .match .rest in
     let b = getD (c .before .before .args .name .now) 0 0 in
     (c .before .before .pre .1 ∙ ap known (by-first _ _ (c .before .before .pre .1) .1)) ∙ rw (ne-eqb b 0x50 (h .0 .0 .1), ne-eqb b 0x4E (h .0 .1), ne-eqb b 0x4A (h .1))
 
-pub rule-named-spec : {M : Type 1} → statement M
-rule-named-spec =
+pub rule-of-spec : {M : Type 1} → statement M
+rule-of-spec =
     tie.close (tie.spec shared-slice-read-match returns returns-2 returns-3 returns-4)
