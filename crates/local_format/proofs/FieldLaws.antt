@@ -12,7 +12,7 @@ use borrow.Author.Tests.{le-leb, lt-leb, leb-true, leb-false}
 use Rattle.local_format.specs.Refusal.{Refusal, refusal}
 use Rattle.local_format.specs.Out.{Out, ok, refused}
 use Rattle.local_format.specs.Field.{Field, whole, cut, Got, le, fieldAt, orCut, field}
-use Rattle.local_format.proofs.OutLaws.{told, never, refused-same}
+use Rattle.local_format.proofs.OutLaws.{told, never, refused-same, RefusesWithin, refused-within}
 
 -- ---- A reader's answer
 module _ (width : ℕ) (s : List ℕ) (at : ℕ) where
@@ -66,8 +66,16 @@ module _ (number width : ℕ) (s : List ℕ) (at : ℕ) where
       go false h k = (sym (refused-same k), leb-false (at + width) (length s) h)
 
   -- a refusal stands within the list where the field starts there
+  pub field-within : at ≤ length s → RefusesWithin (length s) (field number width s at)
+  unfolding fieldAt
+  field-within h = go (leb (at + width) (length s))
+    where
+      go : (t : Bool) → RefusesWithin (length s) (orCut number at (cond t (whole (record { value = le width s at; next = at + width })) cut))
+      go true = tt
+      go false = h
+
   pub field-refused-within : {r : Refusal} → at ≤ length s → field number width s at ≡ refused r → r .offset ≤ length s
-  field-refused-within {r} h e = let k : r .offset ≡ at = cc (field-refused e .0) in omega arith
+  field-refused-within h e = refused-within (length s) e (field-within h)
 
 -- a field that is there
 pub field-there : (number width : ℕ) (s : List ℕ) (at : ℕ) → at + width ≤ length s

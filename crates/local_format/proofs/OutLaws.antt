@@ -132,3 +132,22 @@ module _ {A : Type 0} where
     pub based-bind : (base : ℕ) (x : Out A) (f : A → Out B) → based base (x >>= f) ≡ (based base x >>= λ a. based base (f a))
     based-bind base (ok a) f = refl
     based-bind base (refused r) f = refl
+
+-- ---- Where a refusal stands
+-- a refusal of this answer has an offset up to n
+abbrev pub RefusesWithin : {A : Type 0} → ℕ → Out A → Type 0
+RefusesWithin n (ok a) = Unit {0}
+RefusesWithin n (refused r) = r .offset ≤ n
+
+module _ (n : ℕ) where
+  pub refused-within : {A : Type 0} {x : Out A} {r : Refusal} → x ≡ refused r → RefusesWithin n x → r .offset ≤ n
+  refused-within e h = rw e at h
+
+  pub within-bind : {A B : Type 0} (x : Out A) (f : A → Out B) → RefusesWithin n x → ((a : A) → x ≡ ok a → RefusesWithin n (f a))
+      → RefusesWithin n (x >>= f)
+  within-bind (ok a) f h k = k a refl
+  within-bind (refused r) f h k = h
+
+  pub within-check : {B : Type 0} (t : Bool) (number at : ℕ) (y : Out B) → at ≤ n → RefusesWithin n y → RefusesWithin n (check t number at >> y)
+  within-check true number at y h k = k
+  within-check false number at y h k = h

@@ -3,3 +3,5 @@ pub mod field;
 pub mod part;
 pub mod refusal;
 pub mod tag;
+pub mod text;
+pub mod utf8;

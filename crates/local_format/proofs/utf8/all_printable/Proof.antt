@@ -1,0 +1,53 @@
+use mathlib.Core.Path.{_≡_, refl, ap₂, sym, _∙_}
+use Prim.Native.Nat.{ℕ, _+_, _-_, _≤_, _<_, min, max}
+use native.Mathlib.Omega.{arith}
+use borrow.Author.Needs.{needs}
+use lib.ListN.{length}
+use mathlib.Core.Bool.{Bool}
+use Rattle.local_format.specs.Scan.{allPrintable}
+use Rattle.local_format.proofs.ScanLaws.{printableFrom, printable-turn, printable-none, printable-end}
+use Rattle.local_format.proofs.utf8.all_printable.Statement.{statement}
+use Rattle.local_format.proofs.utf8.all_printable.Tie as tie
+
+abbrev Inv-loop : tie.InvT-loop
+Inv-loop s low₀ high₀ i₀ low high i = (i ≤ length s) × (printableFrom low high s i ≡ allPrintable s)
+
+abbrev μ-loop : tie.MeasureT-loop
+μ-loop s low₀ high₀ i₀ low high i = length s - i
+
+loop-holds : tie.Need-loop-holds Inv-loop μ-loop
+loop-holds c = (omega arith, refl)
+
+loop-again : tie.Need-loop-again Inv-loop μ-loop
+loop-again c =
+    let l = c .before .before .before .before .loop in
+    let s = c .before .before .before .before .before .before .args .bytes .now in (
+      omega arith,
+      rw (c .before .least .ensures, c .greatest .ensures) (printable-turn s (l .i) (l .low) (l .high) (omega arith) ∙ l .inv .1),
+    )
+
+returns : tie.Need-returns Inv-loop μ-loop
+returns c =
+    let l = c .before .before .loop in
+    printable-none _ (l .i) (l .low) (l .high) (omega arith) (c .if1 .taken) ∙ l .inv .1
+
+returns-2 : tie.Need-returns-2 Inv-loop μ-loop
+returns-2 c =
+    let l = c .before .before .loop in
+    printable-end _ (l .i) (l .low) (l .high) (omega arith) (c .if1 .left) ∙ l .inv .1
+
+pub all-printable-spec : {M : Type 1} → statement M
+all-printable-spec =
+    tie.close
+    (tie.spec
+    Inv-loop
+    μ-loop
+    loop-holds
+    (λ c. search needs)
+    (λ c κs. search needs)
+    (λ c κs. search needs)
+    (λ c. search needs)
+    (λ c. search needs)
+    loop-again
+    returns
+    returns-2)
