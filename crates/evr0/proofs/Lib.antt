@@ -1,3 +1,4 @@
 pub mod FrameLaws
 pub mod RuleLaws
 pub mod ViewLaws
+pub mod ViewOf

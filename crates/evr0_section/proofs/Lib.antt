@@ -4,3 +4,4 @@ pub mod RowChecks
 pub mod CheckedTables
 pub mod SectionSteps
 pub mod Demand
+pub mod RecordLaws

@@ -103,9 +103,9 @@ loop-again c =
       omega arith,
       length-set (l .depths) (l .i) depth ∙ l .inv .1,
       rw (left, add-one (l .i), take-suc-set (l .depths) (l .i) depth h, ← add-one (l .i))
-      (sym (pass-turn (a .tables .«parents_at») (section (a .payload .now) (a .starts .now) (a .tables)) _ (l .i) (take (l .i) (l .depths)) depth (omega arith)
-      (depth-is d ∙ ap depthOut (c .before .found2 .given .1)))
-      ∙ l .inv .2),
+          (sym (pass-turn (a .tables .«parents_at») (section (a .payload .now) (a .starts .now) (a .tables)) _ (l .i) (take (l .i) (l .depths)) depth (omega arith)
+          (depth-is d ∙ ap depthOut (c .before .found2 .given .1)))
+          ∙ l .inv .2),
     )
 
 returns-2 : tie.Need-returns-2 Inv-loop μ-loop

@@ -130,10 +130,10 @@ loop-again c =
       l .inv .0,
       l .inv .1,
       rw (left, c .larger .ensures)
-      (sym (rw (parent-is t, getD-take (a .proof .«proof_id» .0) (a .depths .now) (t .before .place2 .result) 0 (below t (rise g)))
-      at (parents-turn (a .tables .«parents_at») (s t) (proofOut (a .proof)) (take (a .proof .«proof_id» .0) (a .depths .now)) (end - l .cell) (l .cell) (l .least) (l .deepest) (omega arith)
-      (rise-is t ∙ rise g) (agree-is g ∙ not-false (g .agrees .result) (c .before .before .if2 .left))))
-      ∙ l .inv .2),
+          (sym (rw (parent-is t, getD-take (a .proof .«proof_id» .0) (a .depths .now) (t .before .place2 .result) 0 (below t (rise g)))
+          at (parents-turn (a .tables .«parents_at») (s t) (proofOut (a .proof)) (take (a .proof .«proof_id» .0) (a .depths .now)) (end - l .cell) (l .cell) (l .least) (l .deepest) (omega arith)
+          (rise-is t ∙ rise g) (agree-is g ∙ not-false (g .agrees .result) (c .before .before .if2 .left))))
+          ∙ l .inv .2),
     )
 
 returns-3 : tie.Need-returns-3 Inv-loop μ-loop
