@@ -1,0 +1,4 @@
+pub mod PlaceLaws
+pub mod OrderLaws
+pub mod ProofLaws
+pub mod HeadLaws

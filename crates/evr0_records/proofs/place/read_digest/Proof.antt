@@ -1,0 +1,22 @@
+use native.Mathlib.Omega.{arith}
+use Rattle.evr0_records.proofs.PlaceLaws.{ends, digest-cut, digest-whole}
+use borrow.Author.Needs.{needs}
+use Rattle.evr0_records.proofs.place.read_digest.Statement.{statement}
+use Rattle.evr0_records.proofs.place.read_digest.Tie as tie
+
+returns : tie.Need-returns
+returns c = rw (c .refuse .ensures) (digest-cut _ _ (c .before .before .tail .ensures) (c .before .if1 .taken))
+
+add-t4 : tie.Need-add-t4
+add-t4 c =
+    let t = c .before .before in
+    let a = t .before .before .args in
+    omega (arith, ends (a .bytes .now) (a .at) (t .tail .ensures) 32 (omega arith) (omega arith))
+
+returns-2 : tie.Need-returns-2
+returns-2 c = digest-whole _ _ (c .before .before .tail .ensures) _ (omega arith) (c .copy-digest .ensures)
+
+pub read-digest-spec : {M : Type 1} → statement M
+read-digest-spec =
+    tie.close
+    (tie.spec (λ c κs. search needs) (λ c κs. search needs) returns (λ c κs. search needs) add-t4 returns-2)

@@ -1,0 +1,232 @@
+// Proof records and their checks.
+ghost use mathlib.Core.Path.{_≡_};
+ghost use Rattle.local_format.specs.Out.{refuse};
+ghost use Rattle.derivation.specs.Rule.{fourRules};
+ghost use Rattle.evr0_section.specs.Proof.{proofOf, hasNumbers, checkProof};
+ghost use Rattle.evr0_records.specs.Tests.{isNext, isContiguous, endsWithin};
+ghost use Rattle.evr0_records.specs.Maps.{countsOut, unownedOut, ruleOut, proofRecord, proofOut, settledOut};
+use crate::counts::Counts;
+use crate::number::ProofNumber;
+use crate::number::PropositionIndex;
+use crate::number::WitnessNumber;
+use crate::place::Place;
+use crate::rule::Named;
+use crate::rule::Rule;
+use crate::span::Span;
+use local_format::field::U8;
+use local_format::field::U32;
+use local_format::refusal::Refusal;
+use local_format::text::Text;
+
+pub struct Proof {
+    pub proof_id: ProofNumber,
+    pub proposition_index: PropositionIndex,
+    pub rule_id: Span,
+    pub authority_context: u32,
+    pub witness_first: WitnessNumber,
+    pub witness_count: u32,
+    pub parent_first: u32,
+    pub parent_count: u32,
+    pub authorized_operation: u8,
+}
+
+pub enum ProofRead {
+    Read { proof: Proof, size: usize },
+    Refused(Refusal),
+}
+
+// The next proof's number, and the next unowned witness and parent cell.
+pub struct Unowned {
+    pub proof: usize,
+    pub witness: usize,
+    pub parent: usize,
+}
+
+pub enum Settled {
+    By(Rule),
+    Refused(Refusal),
+}
+
+fn cut(at: usize) -> ProofRead
+    ensures { λ r. ⌜ proofOut r ≡ refuse 5 at ⌝ }
+{
+    ProofRead::Refused(local_format::refusal::refuse(5, at))
+}
+
+// The proof at the front of `tail`.
+pub fn read_proof(tail: &[u8]) -> ProofRead
+    ensures { λ r. ⌜ proofOut r ≡ proofOf (now (tail .entry)) ⌝ }
+{
+    let number = local_format::field::read_u32_le(tail, 0);
+    let U32::Value {
+        value: proof_id,
+        next: proposition_at,
+    } = number
+    else {
+        return cut(0);
+    };
+    let proposition = local_format::field::read_u32_le(tail, proposition_at);
+    let U32::Value {
+        value: proposition_index,
+        next: rule_at,
+    } = proposition
+    else {
+        return cut(proposition_at);
+    };
+    let rule = local_format::text::read_text(tail, rule_at);
+    let Text::Whole {
+        start,
+        len,
+        chars,
+        next: authority_at,
+    } = rule
+    else {
+        return ProofRead::Refused(local_format::text::text_refusal(rule));
+    };
+    let authority = local_format::field::read_u32_le(tail, authority_at);
+    let U32::Value {
+        value: authority_context,
+        next: witness_first_at,
+    } = authority
+    else {
+        return cut(authority_at);
+    };
+    let first_witness = local_format::field::read_u32_le(tail, witness_first_at);
+    let U32::Value {
+        value: witness_first,
+        next: witness_count_at,
+    } = first_witness
+    else {
+        return cut(witness_first_at);
+    };
+    let witnesses = local_format::field::read_u32_le(tail, witness_count_at);
+    let U32::Value {
+        value: witness_count,
+        next: parent_first_at,
+    } = witnesses
+    else {
+        return cut(witness_count_at);
+    };
+    let first_parent = local_format::field::read_u32_le(tail, parent_first_at);
+    let U32::Value {
+        value: parent_first,
+        next: parent_count_at,
+    } = first_parent
+    else {
+        return cut(parent_first_at);
+    };
+    let parents = local_format::field::read_u32_le(tail, parent_count_at);
+    let U32::Value {
+        value: parent_count,
+        next: operation_at,
+    } = parents
+    else {
+        return cut(parent_count_at);
+    };
+    let operation = local_format::field::read_u8(tail, operation_at);
+    let U8::Value {
+        value: authorized_operation,
+        next: zeros_at,
+    } = operation
+    else {
+        return cut(operation_at);
+    };
+    let zeros = crate::place::read_zeros(tail, zeros_at);
+    let Place::Next(size) = zeros else {
+        return ProofRead::Refused(crate::place::place_refusal(zeros));
+    };
+    ProofRead::Read {
+        proof: Proof {
+            proof_id: ProofNumber(proof_id),
+            proposition_index: PropositionIndex(proposition_index),
+            rule_id: Span {
+                start,
+                len,
+                chars,
+                next: authority_at,
+            },
+            authority_context,
+            witness_first: WitnessNumber(witness_first),
+            witness_count,
+            parent_first,
+            parent_count,
+            authorized_operation,
+        },
+        size,
+    }
+}
+
+fn unsettled(number: u8) -> Settled
+    ensures { λ r. ⌜ settledOut r ≡ refuse number 0 ⌝ }
+{
+    Settled::Refused(local_format::refusal::refuse(number, 0))
+}
+
+// Whether a proof's witness count, parent count and operation are the rule's.
+fn has_numbers(rule: Rule, proof: Proof) -> bool
+    ensures { λ r. ⌜ r ≡ hasNumbers (ruleOut rule) (proofRecord proof) ⌝ }
+{
+    let shape = crate::rule::shape_of(rule);
+    if proof.witness_count != shape.witnesses {
+        return false;
+    }
+    if proof.parent_count != shape.parents {
+        return false;
+    }
+    proof.authorized_operation == shape.operation
+}
+
+// Whether a proof's number is its place, and its proposition is there.
+fn is_next(counts: Counts, unowned: Unowned, proof: Proof) -> bool
+    ensures { λ r. ⌜ r ≡ isNext (countsOut counts) (unownedOut unowned) (proofRecord proof) ⌝ }
+{
+    if proof.proof_id.place() != unowned.proof {
+        return false;
+    }
+    proof.proposition_index.place() < counts.propositions
+}
+
+// Whether a proof's first witness and first parent are the next unowned.
+fn is_contiguous(unowned: Unowned, proof: Proof) -> bool
+    ensures { λ r. ⌜ r ≡ isContiguous (unownedOut unowned) (proofRecord proof) ⌝ }
+{
+    if proof.witness_first.place() != unowned.witness {
+        return false;
+    }
+    crate::number::wide(proof.parent_first) == unowned.parent
+}
+
+// Whether a proof's witnesses and parents end within their tables. The sums are wide.
+fn ends_within(counts: Counts, proof: Proof) -> bool
+    ensures { λ r. ⌜ r ≡ endsWithin (countsOut counts) (proofRecord proof) ⌝ }
+{
+    let witnesses = proof.witness_first.place() + crate::number::wide(proof.witness_count);
+    if counts.witnesses < witnesses {
+        return false;
+    }
+    let parents = crate::number::wide(proof.parent_first) + crate::number::wide(proof.parent_count);
+    parents <= counts.parents
+}
+
+// The rule of a proof that is the next one; `name` is what its rule text holds.
+pub fn check_proof(counts: Counts, unowned: Unowned, name: &[u8], proof: Proof) -> Settled
+    ensures { λ r. ⌜ settledOut r ≡ checkProof fourRules (countsOut counts) (unownedOut unowned) (now (name .entry)) (proofRecord proof) ⌝ }
+{
+    if !is_next(counts, unowned, proof) {
+        return unsettled(17);
+    }
+    if !is_contiguous(unowned, proof) {
+        return unsettled(18);
+    }
+    if !ends_within(counts, proof) {
+        return unsettled(19);
+    }
+    let named = crate::rule::rule_named(name);
+    let Named::Known(rule) = named else {
+        return unsettled(20);
+    };
+    if !has_numbers(rule, proof) {
+        return unsettled(21);
+    }
+    Settled::By(rule)
+}

@@ -1,0 +1,141 @@
+// Witness records.
+ghost use mathlib.Core.Path.{_≡_};
+ghost use mathlib.Core.List.{List};
+ghost use Prim.Native.Nat.{ℕ};
+ghost use Rattle.local_format.specs.Out.{refused};
+ghost use Rattle.local_format.specs.Maps.{refusalOut};
+ghost use Rattle.evr0_section.specs.Witness.{witnessOf, checkWitness};
+ghost use Rattle.evr0_records.specs.Maps.{countsOut, checkedOut, witnessRecord, witnessOut};
+use crate::check::Checked;
+use crate::counts::Counts;
+use crate::number::PropositionIndex;
+use crate::number::WitnessNumber;
+use crate::place::Place;
+use local_format::field::U8;
+use local_format::field::U32;
+use local_format::refusal::Refusal;
+
+pub struct Witness {
+    pub witness_id: WitnessNumber,
+    pub proposition_index: PropositionIndex,
+    pub polarity: u8,
+    pub source_start: u32,
+    pub source_end: u32,
+}
+
+pub enum WitnessAnswer {
+    Read { witness: Witness, size: usize },
+    Refused(Refusal),
+}
+
+// The digests stand beside the answer: zeros where it is a refusal.
+pub struct WitnessRead {
+    pub file_digest: [u8; 32],
+    pub origin_digest: [u8; 32],
+    pub answer: WitnessAnswer,
+}
+
+fn refused_witness(refusal: Refusal) -> WitnessRead
+    ensures { λ r. ⌜ witnessOut r ≡ refused (refusalOut refusal) ⌝ }
+{
+    WitnessRead {
+        file_digest: [0u8; 32],
+        origin_digest: [0u8; 32],
+        answer: WitnessAnswer::Refused(refusal),
+    }
+}
+
+// The witness at the front of `tail`.
+pub fn read_witness(tail: &[u8]) -> WitnessRead
+    ensures { λ r. ⌜ witnessOut r ≡ witnessOf 4 (now (tail .entry)) ⌝ }
+{
+    let number = local_format::field::read_u32_le(tail, 0);
+    let U32::Value {
+        value: witness_id,
+        next: proposition_at,
+    } = number
+    else {
+        return refused_witness(local_format::refusal::refuse(5, 0));
+    };
+    let proposition = local_format::field::read_u32_le(tail, proposition_at);
+    let U32::Value {
+        value: proposition_index,
+        next: polarity_at,
+    } = proposition
+    else {
+        return refused_witness(local_format::refusal::refuse(5, proposition_at));
+    };
+    let sign = local_format::field::read_u8(tail, polarity_at);
+    let U8::Value {
+        value: polarity,
+        next: zeros_at,
+    } = sign
+    else {
+        return refused_witness(local_format::refusal::refuse(5, polarity_at));
+    };
+    let zeros = crate::place::read_zeros(tail, zeros_at);
+    let Place::Next(file_at) = zeros else {
+        return refused_witness(crate::place::place_refusal(zeros));
+    };
+    let file = crate::place::read_digest(tail, file_at);
+    let file_place = file.place;
+    let Place::Next(start_at) = file_place else {
+        return refused_witness(crate::place::place_refusal(file_place));
+    };
+    let start = local_format::field::read_u32_le(tail, start_at);
+    let U32::Value {
+        value: source_start,
+        next: end_at,
+    } = start
+    else {
+        return refused_witness(local_format::refusal::refuse(5, start_at));
+    };
+    let end = local_format::field::read_u32_le(tail, end_at);
+    let U32::Value {
+        value: source_end,
+        next: origin_at,
+    } = end
+    else {
+        return refused_witness(local_format::refusal::refuse(5, end_at));
+    };
+    let origin = crate::place::read_digest(tail, origin_at);
+    let origin_place = origin.place;
+    let Place::Next(size) = origin_place else {
+        return refused_witness(crate::place::place_refusal(origin_place));
+    };
+    let file_digest = file.bytes;
+    let origin_digest = origin.bytes;
+    WitnessRead {
+        file_digest,
+        origin_digest,
+        answer: WitnessAnswer::Read {
+            witness: Witness {
+                witness_id: WitnessNumber(witness_id),
+                proposition_index: PropositionIndex(proposition_index),
+                polarity,
+                source_start,
+                source_end,
+            },
+            size,
+        },
+    }
+}
+
+// The checks of a witness that is the next one, `place`.
+pub fn check_witness(counts: Counts, place: usize, witness: Witness) -> Checked
+    ensures { λ r. ⌜ ((file origin : List ℕ) → checkedOut r ≡ checkWitness (countsOut counts) place (witnessRecord file origin witness)) ⌝ }
+{
+    if witness.witness_id.place() != place {
+        return crate::check::refused(23, 0);
+    }
+    if counts.propositions <= witness.proposition_index.place() {
+        return crate::check::refused(23, 0);
+    }
+    if 1 < witness.polarity {
+        return crate::check::refused(23, 0);
+    }
+    if witness.source_end < witness.source_start {
+        return crate::check::refused(23, 0);
+    }
+    Checked::Passed
+}
