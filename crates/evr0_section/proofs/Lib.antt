@@ -5,3 +5,4 @@ pub mod CheckedTables
 pub mod SectionSteps
 pub mod Demand
 pub mod RecordLaws
+pub mod Progress

@@ -1,0 +1,4 @@
+pub mod Decimal
+pub mod Written
+pub mod Output
+pub mod Runs

@@ -1,0 +1,4 @@
+// What the program `evidence` prints, as bytes in a lent buffer.
+mod decimal;
+mod line;
+mod write;

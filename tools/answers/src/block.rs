@@ -1,0 +1,58 @@
+//! Function tables. Places are places in the block.
+
+#[derive(Debug, Clone, PartialEq, Eq)]
+pub struct Block {
+    pub has_debug: bool,
+    pub has_ownership: bool,
+    pub strings_end: usize,
+    pub instructions: usize,
+    /// The places of the strings' lengths, and the strings.
+    pub string_starts: Vec<u64>,
+    pub strings: Vec<String>,
+    pub symbols: Vec<Symbol>,
+    /// The places of the paths' event kinds, and the paths.
+    pub path_starts: Vec<u64>,
+    pub paths: Vec<Path>,
+}
+
+#[derive(Debug, Clone, Copy, PartialEq, Eq)]
+pub struct Symbol {
+    pub pc: u32,
+    pub line: u32,
+    pub column: u16,
+}
+
+#[derive(Debug, Clone, PartialEq, Eq)]
+pub struct Path {
+    pub event: Event,
+    pub root: u32,
+    pub components: Vec<Component>,
+}
+
+#[derive(Debug, Clone, Copy, PartialEq, Eq)]
+pub enum Event {
+    Borrow(Activation),
+    Write(Execution),
+}
+
+#[derive(Debug, Clone, Copy, PartialEq, Eq)]
+pub enum Activation {
+    None,
+    FrameEntry,
+    StoreSite(u32),
+}
+
+#[derive(Debug, Clone, Copy, PartialEq, Eq)]
+pub enum Execution {
+    None,
+    StoreSite(u32),
+    RecordSite(u32),
+}
+
+#[derive(Debug, Clone, Copy, PartialEq, Eq)]
+pub enum Component {
+    TupleIndex(u16),
+    FieldSymbol(u32),
+    Variant { variant: u32, index: u16 },
+    SequenceIndex(u32),
+}
