@@ -1,28 +1,26 @@
 -- Tables that were read are those that the payload's bytes hold at their places: row by row, along the trace of each table.
-use Prim.Native.Nat.{ℕ, zero, suc, _+_, _-_, _*_, _≤_, _<_}
-use mathlib.Core.Path.{_≡_, refl, sym, ap, ap₂, _∙_, subst}
-use mathlib.Core.List.{List, [], _∷_, map}
+use Prim.Native.Nat.{ℕ, zero, suc, _+_, _-_, _*_, _<_}
+use mathlib.Core.Path.{_≡_, refl, ap, ap₂, _∙_}
+use mathlib.Core.List.{List, _∷_, map}
 use native.Mathlib.Nat.{zero-add}
 use native.Mathlib.Omega.{arith}
-use lib.ListN.{length, getD, drop, length-map, length-drop}
+use lib.ListN.{length, getD, drop}
 use lib.Seq.{drop-drop}
 use Rattle.local_format.specs.Out.{Out, ok}
 use Rattle.local_format.specs.Field.{le}
 use Rattle.local_format.specs.Text.{bytesAt}
-use Rattle.local_format.proofs.OutLaws.{ok-same}
-use Rattle.derivation.specs.Rule.{Rule, Named, known, ruleNamed}
-use Rattle.derivation.specs.Section as derivation
-use Rattle.evr0_section.specs.Rows.{Sized, Row, Entry, Rows, rows}
+use Rattle.derivation.specs.Rule.{Rule, known, ruleNamed}
+use Rattle.evr0_section.specs.Rows.{Sized, Row, Entry}
 use Rattle.evr0_section.specs.Head.{Counts, Room}
-use Rattle.evr0_section.specs.Proof.{ProofRecord, Settled, Unowned, proofOf, proofRow}
-use Rattle.evr0_section.specs.Witness.{WitnessRecord, witnessOf, witnessRow, parentRow}
+use Rattle.evr0_section.specs.Proof.{ProofRecord, Settled, Unowned, proofRow}
+use Rattle.evr0_section.specs.Witness.{WitnessRecord, witnessRow, parentRow}
 use Rattle.evr0_section.specs.Section.{Tables, proofItem, witnessItem, parentItem, sectionOf, tablesOf}
-use Rattle.evr0_section.proofs.RowsLaws.{entry, Trace, none, more, trace, trace-length}
+use Rattle.evr0_section.proofs.RowsLaws.{entry, Trace, none, more, trace}
 use Rattle.evr0_section.proofs.RowChecks.{GoodProof, proof-known, proof-behind, witness-behind}
 use Rattle.evr0_section.proofs.RecordLaws.{ProofLies, proof-lies, witness-lies, parent-lies}
 use Rattle.evr0_section.proofs.CheckedTables.{Steps, steps}
 use Rattle.evr0.specs.Answer.{startsOf}
-use Rattle.evr0.specs.View.{Layout, places, nameAt, afterName, ruleIn, proofView, witnessView, view, ProofThere, TablesThere}
+use Rattle.evr0.specs.View.{Layout, places, nameAt, proofView, witnessView, view, ProofThere, TablesThere}
 
 -- ---- Any table
 

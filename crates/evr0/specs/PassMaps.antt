@@ -3,6 +3,7 @@ use Prim.Native.Nat.{ℕ}
 use mathlib.Core.List.{List}
 use Rattle.local_format.specs.Out.{Out, ok, refused}
 use Rattle.local_format.specs.Maps.{refusalOut}
+use Rattle.derivation.specs.Rule.{fourRules}
 use Rattle.derivation.specs.Section as section
 use Rattle.evr0_records.specs.Maps.{countsOut, ruleOut}
 use Rattle.evr0_records.specs.declared.check.Checked.{Checked}
@@ -15,6 +16,10 @@ use Rattle.evr0.specs.declared.pass.Depth.the-variants as depth
 
 abbrev pub layoutOut : Layout → view.Layout
 layoutOut l = record { counts = countsOut (l .counts); witnessesAt = l .«witnesses_at»; parentsAt = l .«parents_at» }
+
+-- the tables of a payload, under the four rules
+abbrev pub tablesIn : List ℕ → List ℕ → Layout → section.Section
+tablesIn payload starts l = view.view fourRules payload starts (layoutOut l)
 
 abbrev pub proofOut : Proof → section.Proof
 proofOut p =

@@ -67,11 +67,15 @@ view rules p starts l =
 
 -- ---- What the last pass relies on
 
+-- a name that one of the rules has
+abbrev pub Known : List Rule → List ℕ → Type 0
+Known rules name = (r : Rule) × (ruleNamed rules name ≡ known r)
+
 -- the proof at a start is the i-th and lies in the payload, with 24 bytes after its rule's name; its rule is known, and what it owns is there
 pub record ProofThere (rules : List Rule) (p : List ℕ) (l : Layout) (start i : ℕ) : Type 0 where
   pub inside : afterName p start + 24 ≤ length p
   pub number : proofView rules p start .number ≡ i
-  pub named : (r : Rule) × (ruleNamed rules (nameAt p start) ≡ known r)
+  pub named : Known rules (nameAt p start)
   pub witnesses : proofView rules p start .firstWitness + proofView rules p start .witnessCount ≤ l .counts .witnesses
   pub parents : proofView rules p start .firstParent + proofView rules p start .parentCount ≤ l .counts .parents
 
@@ -79,3 +83,11 @@ pub record TablesThere (rules : List Rule) (p starts : List ℕ) (l : Layout) : 
   pub proofs : (i : ℕ) → i < length starts → ProofThere rules p l (getD starts i 0) i
   pub witnesses : l .witnessesAt + 84 * l .counts .witnesses ≤ length p
   pub parents : l .parentsAt + 4 * l .counts .parents ≤ length p
+
+-- a proof of these tables, after those whose depths are known
+pub record ProofDue (rules : List Rule) (p starts : List ℕ) (l : Layout) (depths : List ℕ) (q : Proof) : Type 0 where
+  pub tables : TablesThere rules p starts l
+  pub witnesses : q .firstWitness + q .witnessCount ≤ l .counts .witnesses
+  pub parents : q .firstParent + q .parentCount ≤ l .counts .parents
+  pub started : q .number ≤ length starts
+  pub known : q .number ≤ length depths

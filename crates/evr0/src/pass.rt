@@ -6,11 +6,11 @@ ghost use Prim.Native.Nat.{ℕ, _+_, _*_, _≤_, max};
 ghost use lib.Dec.{eqb, ltb, leb};
 ghost use lib.ListN.{length, take};
 ghost use Rattle.local_format.specs.Field.{le};
-ghost use Rattle.derivation.specs.Rule.{Rule as RuleOf, known, ruleNamed, fourRules};
+ghost use Rattle.derivation.specs.Rule.{known, ruleNamed, fourRules};
 ghost use Rattle.derivation.specs.Pass as of;
 ghost use Rattle.evr0_records.specs.Maps.{checkedOut, ruleOut};
-ghost use Rattle.evr0.specs.View.{view, proofView, afterName, nameAt, TablesThere};
-ghost use Rattle.evr0.specs.PassMaps.{layoutOut, proofOut, depthOut, filled};
+ghost use Rattle.evr0.specs.View.{proofView, afterName, nameAt, Known, TablesThere, ProofDue};
+ghost use Rattle.evr0.specs.PassMaps.{layoutOut, tablesIn, proofOut, depthOut, filled};
 use evr0_records::check::Checked;
 use evr0_records::counts::Counts;
 use evr0_records::number::ProofNumber;
@@ -60,7 +60,7 @@ fn u32_at(bytes: &[u8], at: usize) -> u32
 
 // The rule of a name that is one of the four, which differ in their first byte.
 fn rule_of(name: &[u8]) -> Rule
-    requires { ⌜ ((r : RuleOf) × (ruleNamed fourRules (now name) ≡ known r)) ⌝ }
+    requires { ⌜ Known fourRules (now name) ⌝ }
     ensures { λ r. ⌜ ruleNamed fourRules (now (name .entry)) ≡ known (ruleOut r) ⌝ }
 {
     match name[0] {
@@ -82,7 +82,7 @@ fn after_name(payload: &[u8], start: usize) -> usize
 // The proof at `start`, its rule settled.
 fn proof_at(payload: &[u8], start: usize) -> Proof
     requires { ⌜ afterName (now payload) start + 24 ≤ length (now payload) ⌝ }
-    requires { ⌜ ((r : RuleOf) × (ruleNamed fourRules (nameAt (now payload) start) ≡ known r)) ⌝ }
+    requires { ⌜ Known fourRules (nameAt (now payload) start) ⌝ }
     ensures { λ r. ⌜ proofOut r ≡ proofView fourRules (now (payload .entry)) start ⌝ }
 {
     let name = start + 10;
@@ -116,7 +116,9 @@ fn agrees(payload: &[u8], start: usize, proof: Proof) -> bool
     requires { ⌜ afterName (now payload) start + 24 ≤ length (now payload) ⌝ }
     ensures { λ r. ⌜ r ≡ (eqb (proofView fourRules (now (payload .entry)) start .proposition) (proofOut proof .proposition) && eqb (proofView fourRules (now (payload .entry)) start .authority) (proofOut proof .authority)) ⌝ }
 {
-    if u32_at(payload, start + 4) != proof.proposition_index.0 {
+    let own = proof.proposition_index.0;
+    let proposition = u32_at(payload, start + 4);
+    if proposition != own {
         return false;
     }
     u32_at(payload, after_name(payload, start)) == proof.authority_context
@@ -136,10 +138,8 @@ fn parents_from(
     depths: &[u64],
     proof: Proof,
 ) -> Depth
-    requires { ⌜ TablesThere fourRules (now payload) (now starts) (layoutOut tables) ⌝ }
-    requires { ⌜ proof .«parent_first» + proof .«parent_count» ≤ tables .counts .parents ⌝ }
-    requires { ⌜ (proof .«proof_id» .0 ≤ length (now starts)) × (proof .«proof_id» .0 ≤ length (now depths)) ⌝ }
-    ensures { λ r. ⌜ depthOut r ≡ of.parentsFrom (tables .«parents_at») (view fourRules (now (payload .entry)) (now (starts .entry)) (layoutOut tables)) (proofOut proof) (take (proof .«proof_id» .0) (now (depths .entry))) (proof .«parent_count») (proof .«parent_first») 0 0 ⌝ }
+    requires { ⌜ ProofDue fourRules (now payload) (now starts) (layoutOut tables) (now depths) (proofOut proof) ⌝ }
+    ensures { λ r. ⌜ depthOut r ≡ of.parentsFrom (tables .«parents_at») (tablesIn (now (payload .entry)) (now (starts .entry)) tables) (proofOut proof) (take (proof .«proof_id» .0) (now (depths .entry))) (proof .«parent_count») (proof .«parent_first») 0 0 ⌝ }
 {
     let number = proof.proof_id.place();
     let mut cell = evr0_records::number::wide(proof.parent_first);
@@ -168,13 +168,15 @@ fn parents_from(
 fn witnesses_from(payload: &[u8], tables: Layout, proof: Proof) -> Checked
     requires { ⌜ tables .«witnesses_at» + 84 * tables .counts .witnesses ≤ length (now payload) ⌝ }
     requires { ⌜ proof .«witness_first» .0 + proof .«witness_count» ≤ tables .counts .witnesses ⌝ }
-    ensures { λ r. ⌜ ((starts : List ℕ) → checkedOut r ≡ of.witnessesFrom (tables .«parents_at») (view fourRules (now (payload .entry)) starts (layoutOut tables)) (proofOut proof) (proof .«witness_count») (proof .«witness_first» .0)) ⌝ }
+    ensures { λ r. ⌜ ((starts : List ℕ) → checkedOut r ≡ of.witnessesFrom (tables .«parents_at») (tablesIn (now (payload .entry)) starts tables) (proofOut proof) (proof .«witness_count») (proof .«witness_first» .0)) ⌝ }
 {
     let mut witness = proof.witness_first.place();
     let end = witness + evr0_records::number::wide(proof.witness_count);
     while witness < end {
         let at = tables.witnesses_at + 84 * witness;
-        if u32_at(payload, at + 4) != proof.proposition_index.0 {
+        let own = proof.proposition_index.0;
+        let found = u32_at(payload, at + 4);
+        if found != own {
             return evr0_records::check::refused(28, 0);
         }
         let rule = proof.rule;
@@ -189,11 +191,8 @@ fn witnesses_from(payload: &[u8], tables: Layout, proof: Proof) -> Checked
 
 // One proof, after those whose depths are known.
 fn depth_of(payload: &[u8], starts: &[u64], tables: Layout, depths: &[u64], proof: Proof) -> Depth
-    requires { ⌜ TablesThere fourRules (now payload) (now starts) (layoutOut tables) ⌝ }
-    requires { ⌜ proof .«parent_first» + proof .«parent_count» ≤ tables .counts .parents ⌝ }
-    requires { ⌜ proof .«witness_first» .0 + proof .«witness_count» ≤ tables .counts .witnesses ⌝ }
-    requires { ⌜ (proof .«proof_id» .0 ≤ length (now starts)) × (proof .«proof_id» .0 ≤ length (now depths)) ⌝ }
-    ensures { λ r. ⌜ depthOut r ≡ of.depthOf (tables .«parents_at») (view fourRules (now (payload .entry)) (now (starts .entry)) (layoutOut tables)) (proofOut proof) (take (proof .«proof_id» .0) (now (depths .entry))) ⌝ }
+    requires { ⌜ ProofDue fourRules (now payload) (now starts) (layoutOut tables) (now depths) (proofOut proof) ⌝ }
+    ensures { λ r. ⌜ depthOut r ≡ of.depthOf (tables .«parents_at») (tablesIn (now (payload .entry)) (now (starts .entry)) tables) (proofOut proof) (take (proof .«proof_id» .0) (now (depths .entry))) ⌝ }
 {
     let parents = parents_from(payload, starts, tables, depths, proof);
     match parents {
@@ -215,7 +214,7 @@ fn depth_of(payload: &[u8], starts: &[u64], tables: Layout, depths: &[u64], proo
 pub fn derive(payload: &[u8], starts: &[u64], tables: Layout, depths: &mut [u64]) -> Checked
     requires { ⌜ TablesThere fourRules (now payload) (now starts) (layoutOut tables) ⌝ }
     requires { ⌜ length (now starts) ≤ length (now depths) ⌝ }
-    ensures { λ r. ⌜ filled r (take (length (now (starts .entry))) (now (depths .exit))) ≡ of.depths (tables .«parents_at») (view fourRules (now (payload .entry)) (now (starts .entry)) (layoutOut tables)) ⌝ }
+    ensures { λ r. ⌜ filled r (take (length (now (starts .entry))) (now (depths .exit))) ≡ of.depths (tables .«parents_at») (tablesIn (now (payload .entry)) (now (starts .entry)) tables) ⌝ }
 {
     let mut i: usize = 0;
     while i < starts.len() {

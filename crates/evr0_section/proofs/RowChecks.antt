@@ -5,7 +5,7 @@ use mathlib.Core.Bool.{_&&_}
 use mathlib.Core.List.{List, List·Memᴰ}
 use lib.Dec.{ltb, leb, eqb}
 use borrow.Author.Tests.{ltb-true, leb-true, eqb-true}
-use Rattle.local_format.specs.Out.{Out, ok}
+use Rattle.local_format.specs.Out.{ok}
 use Rattle.local_format.specs.Text.{bytesAt}
 use Rattle.local_format.proofs.OutLaws.{bind-ok, then-ok, check-ok, checked-ok, ok-same}
 use Rattle.derivation.specs.Rule.{Rule, Named, known, unknown, ruleNamed}

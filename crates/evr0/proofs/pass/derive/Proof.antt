@@ -1,34 +1,27 @@
 -- Each turn is one step of the definition: the depths in the table, then those of the proofs from here on, are all depths.
 use Prim.Native.Nat.{ℕ, _+_, _-_, _≤_, _<_}
 use mathlib.Core.Path.{_≡_, refl, sym, ap, subst, _∙_}
-use mathlib.Core.List.{List}
 use native.Mathlib.Omega.{arith}
 use native.Mathlib.Numerals.{add-one}
-use lib.ListN.{length, getD, take, set, length-set}
+use lib.ListN.{length, take, length-set}
 use lib.Seq.{take-suc-set}
 use borrow.Author.Needs.{needs}
 use Rattle.local_format.specs.Out.{ok}
-use Rattle.local_format.proofs.OutLaws.{told}
 use Rattle.derivation.specs.Rule.{fourRules}
 use Rattle.derivation.specs.Section as derivation
 use Rattle.derivation.specs.Pass as pass
 use Rattle.derivation.proofs.Laws.{pass-none, pass-refused, pass-turn}
-use Rattle.evr0.specs.declared.pass.Layout.{Layout}
-use Rattle.evr0.specs.View.{view}
-use Rattle.evr0.specs.PassMaps.{layoutOut, proofOut, depthOut}
+use Rattle.evr0.specs.PassMaps.{layoutOut, tablesIn, depthOut}
 use Rattle.evr0.proofs.ViewLaws.{proof-total, proof-at}
 use Rattle.evr0.proofs.pass.derive.Statement.{statement}
 use Rattle.evr0.proofs.pass.derive.Tie as tie
-
-abbrev section : List ℕ → List ℕ → Layout → derivation.Section
-section payload starts tables = view fourRules payload starts (layoutOut tables)
 
 abbrev Inv-loop : tie.InvT-loop
 Inv-loop payload starts tables depths₀ i₀ depths i =
     (i ≤ length starts)
     × (length depths ≡ length depths₀)
-    × (pass.depthsFrom (tables .«parents_at») (section payload starts tables) (length starts - i) i (take i depths)
-    ≡ pass.depths (tables .«parents_at») (section payload starts tables))
+    × (pass.depthsFrom (tables .«parents_at») (tablesIn payload starts tables) (length starts - i) i (take i depths)
+    ≡ pass.depths (tables .«parents_at») (tablesIn payload starts tables))
 
 abbrev μ-loop : tie.MeasureT-loop
 μ-loop payload starts tables depths₀ i₀ depths i = length starts - i
@@ -37,7 +30,7 @@ loop-holds : tie.Need-loop-holds Inv-loop μ-loop
 unfolding pass.depths
 loop-holds c =
     let a = c .before .before .before .args in
-    let e : length (a .starts .now) - 0 ≡ derivation.proofTotal (section (a .payload .now) (a .starts .now) (a .tables)) =
+    let e : length (a .starts .now) - 0 ≡ derivation.proofTotal (tablesIn (a .payload .now) (a .starts .now) (a .tables)) =
     omega (arith, proof-total fourRules (a .payload .now) (a .starts .now) (layoutOut (a .tables))) in
     (omega arith, refl, rw e)
 
@@ -57,28 +50,26 @@ depth-of-requires : tie.Need-depth-of-requires Inv-loop μ-loop
 depth-of-requires c κs =
     let t = c .before in
     let s = t .before .before .before .before .before .before .before in
-    let there = s .pre .0 .proofs (t .before .before .before .loop .i) (t .before .before .loop-test .taken) in (
-      s .pre .0,
-      (
-        subst (λ (q : derivation.Proof). q .firstParent + q .parentCount ≤ s .args .tables .counts .parents) (sym (t .proof-at .ensures)) (there .parents),
-        (
-          subst (λ (q : derivation.Proof). q .firstWitness + q .witnessCount ≤ s .args .tables .counts .witnesses) (sym (t .proof-at .ensures)) (there .witnesses),
-          (omega (arith, number-is t), omega (arith, number-is t)),
-        ),
-      ),
-    )
+    let there = s .pre .0 .proofs (t .before .before .before .loop .i) (t .before .before .loop-test .taken) in
+    record {
+      tables = s .pre .0;
+      witnesses = subst (λ (q : derivation.Proof). q .firstWitness + q .witnessCount ≤ s .args .tables .counts .witnesses) (sym (t .proof-at .ensures)) (there .witnesses);
+      parents = subst (λ (q : derivation.Proof). q .firstParent + q .parentCount ≤ s .args .tables .counts .parents) (sym (t .proof-at .ensures)) (there .parents);
+      started = omega (arith, number-is t);
+      known = omega (arith, number-is t);
+    }
 
 -- the code's depth of the proof reached is the definition's
 depth-is : (c : tie.After-depth-of Inv-loop μ-loop)
     → let a = c .before .before .before .before .before .before .before .before .before .args in
     let l = c .before .before .before .before .before .loop in
-    let s = section (a .payload .now) (a .starts .now) (a .tables) in
+    let s = tablesIn (a .payload .now) (a .starts .now) (a .tables) in
     pass.depthOf (a .tables .«parents_at») s (derivation.proofAt s (l .i)) (take (l .i) (l .depths)) ≡ depthOut (c .depth-of .result)
 depth-is c =
     let t = c .before .before in
     let a = t .before .before .before .before .before .before .before .args in
     let l = t .before .before .before .loop in
-    let s = section (a .payload .now) (a .starts .now) (a .tables) in
+    let s = tablesIn (a .payload .now) (a .starts .now) (a .tables) in
     rw (proof-at fourRules (a .payload .now) (a .starts .now) (layoutOut (a .tables)) (l .i) (t .before .before .loop-test .taken), ← t .proof-at .ensures, ← number-is t)
     (sym (c .depth-of .ensures))
 
@@ -87,7 +78,7 @@ returns c =
     let d = c .before .before .before in
     let a = d .before .before .before .before .before .before .before .before .before .args in
     let l = d .before .before .before .before .before .loop in
-    sym (pass-refused (a .tables .«parents_at») (section (a .payload .now) (a .starts .now) (a .tables)) _ (l .i) (take (l .i) (l .depths)) _ (omega arith)
+    sym (pass-refused (a .tables .«parents_at») (tablesIn (a .payload .now) (a .starts .now) (a .tables)) _ (l .i) (take (l .i) (l .depths)) _ (omega arith)
     (depth-is d ∙ ap depthOut (c .before .found .given .1)))
     ∙ l .inv .2
 
@@ -103,7 +94,7 @@ loop-again c =
       omega arith,
       length-set (l .depths) (l .i) depth ∙ l .inv .1,
       rw (left, add-one (l .i), take-suc-set (l .depths) (l .i) depth h, ← add-one (l .i))
-          (sym (pass-turn (a .tables .«parents_at») (section (a .payload .now) (a .starts .now) (a .tables)) _ (l .i) (take (l .i) (l .depths)) depth (omega arith)
+          (sym (pass-turn (a .tables .«parents_at») (tablesIn (a .payload .now) (a .starts .now) (a .tables)) _ (l .i) (take (l .i) (l .depths)) depth (omega arith)
           (depth-is d ∙ ap depthOut (c .before .found2 .given .1)))
           ∙ l .inv .2),
     )
@@ -114,7 +105,7 @@ returns-2 c =
     let l = c .before .loop in
     let e : length (a .starts .now) ≡ l .i = omega arith in
     ap (λ (k : ℕ). ok (take k (l .depths))) e
-    ∙ sym (pass-none (a .tables .«parents_at») (section (a .payload .now) (a .starts .now) (a .tables)) _ (l .i) (take (l .i) (l .depths)) (omega arith))
+    ∙ sym (pass-none (a .tables .«parents_at») (tablesIn (a .payload .now) (a .starts .now) (a .tables)) _ (l .i) (take (l .i) (l .depths)) (omega arith))
     ∙ l .inv .2
 
 pub derive-spec : {M : Type 1} → statement M

@@ -2,10 +2,10 @@
 use Prim.Native.Nat.{ℕ, _+_, _-_, _≤_, _<_}
 use mathlib.Core.Path.{_≡_, sym, ap, _∙_}
 use mathlib.Core.List.{List}
-use mathlib.Core.Bool.{Bool, true, _&&_}
+use mathlib.Core.Bool.{true, _&&_}
 use native.Mathlib.Omega.{arith}
 use lib.Dec.{ltb, leb}
-use lib.ListN.{length, take}
+use lib.ListN.{take}
 use lib.Seq.{getD-take}
 use borrow.Author.Needs.{needs}
 use borrow.Author.Tests.{not-true, not-false, ltb-true}
@@ -17,18 +17,14 @@ use Rattle.derivation.proofs.Tests.{both}
 use Rattle.derivation.proofs.Laws.{parents-none, parents-25, parents-26, parents-turn}
 use Rattle.evr0.specs.declared.pass.Layout.{Layout}
 use Rattle.evr0.specs.declared.pass.Proof.{Proof}
-use Rattle.evr0.specs.View.{view}
-use Rattle.evr0.specs.PassMaps.{layoutOut, proofOut}
+use Rattle.evr0.specs.PassMaps.{layoutOut, tablesIn, proofOut}
 use Rattle.evr0.proofs.ViewLaws.{parent-at, agrees-at}
 use Rattle.evr0.proofs.pass.parents_from.Statement.{statement}
 use Rattle.evr0.proofs.pass.parents_from.Tie as tie
 
-abbrev section : List ℕ → List ℕ → Layout → Section
-section payload starts tables = view fourRules payload starts (layoutOut tables)
-
 abbrev from : List ℕ → List ℕ → Layout → List ℕ → Proof → ℕ → ℕ → ℕ → ℕ → Out ℕ
 from payload starts tables depths proof =
-    pass.parentsFrom (tables .«parents_at») (section payload starts tables) (proofOut proof) (take (proof .«proof_id» .0) depths)
+    pass.parentsFrom (tables .«parents_at») (tablesIn payload starts tables) (proofOut proof) (take (proof .«proof_id» .0) depths)
 
 abbrev Inv-loop : tie.InvT-loop
 Inv-loop payload starts tables depths proof number cell₀ end least₀ deepest₀ cell least deepest =
@@ -49,7 +45,7 @@ loop-holds c =
 -- ---- A turn, once the parent's number is tested
 module _ (c : tie.After-rises Inv-loop μ-loop) where
   abbrev s : Section
-  s = let a = c .before .before .before .before .before .before .before .before .before .before .before .before .args in section (a .payload .now) (a .starts .now) (a .tables)
+  s = let a = c .before .before .before .before .before .before .before .before .before .before .before .before .args in tablesIn (a .payload .now) (a .starts .now) (a .tables)
 
   parent-is : parentAt s (c .before .before .before .before .before .loop .cell) ≡ c .before .place2 .result
   parent-is =
@@ -90,17 +86,17 @@ module _ (c : tie.After-agrees Inv-loop μ-loop) where
       let start = turn .before .before .before .before .before .before .before .before .before .before .before .before in
       let a = start .args in
       ap (pass.agrees (s turn) (proofOut (a .proof))) (parent-is turn)
-      ∙ agrees-at fourRules (a .payload .now) (a .starts .now) (layoutOut (a .tables)) (proofOut (a .proof)) (turn .before .place2 .result) (omega (arith, start .pre .1 .1 .0, below turn rise))
+      ∙ agrees-at fourRules (a .payload .now) (a .starts .now) (layoutOut (a .tables)) (proofOut (a .proof)) (turn .before .place2 .result) (omega (arith, start .pre .started, below turn rise))
       ∙ sym (c .agrees .ensures)
 
 shared-slice-read-agrees : tie.Need-shared-slice-read-agrees Inv-loop μ-loop
-shared-slice-read-agrees c = let t = c .before .before in omega (arith, t .before .before .before .before .before .before .before .before .before .before .before .before .pre .1 .1 .0, below t (not-false (t .rises .result) (c .before .if1 .left)))
+shared-slice-read-agrees c = let t = c .before .before in omega (arith, t .before .before .before .before .before .before .before .before .before .before .before .before .pre .started, below t (not-false (t .rises .result) (c .before .if1 .left)))
 
 agrees-requires : tie.Need-agrees-requires Inv-loop μ-loop
 agrees-requires c κs =
     let t = c .before .before in
     let start = t .before .before .before .before .before .before .before .before .before .before .before .before in
-    start .pre .0 .proofs (t .before .place2 .result) (omega (arith, start .pre .1 .1 .0, below t (not-false (t .rises .result) (c .before .if1 .left)))) .inside
+    start .pre .tables .proofs (t .before .place2 .result) (omega (arith, start .pre .started, below t (not-false (t .rises .result) (c .before .if1 .left)))) .inside
 
 returns-2 : tie.Need-returns-2 Inv-loop μ-loop
 returns-2 c =
@@ -114,7 +110,7 @@ returns-2 c =
     ∙ l .inv .2
 
 shared-slice-read-larger : tie.Need-shared-slice-read-larger Inv-loop μ-loop
-shared-slice-read-larger c = let g = c .before .before in omega (arith, g .before .before .before .before .before .before .before .before .before .before .before .before .before .before .before .pre .1 .1 .1, below (turn g) (rise g))
+shared-slice-read-larger c = let g = c .before .before in omega (arith, g .before .before .before .before .before .before .before .before .before .before .before .before .before .before .before .pre .known, below (turn g) (rise g))
 
 add-least : tie.Need-add-least Inv-loop μ-loop
 add-least c = let g = c .before .before .before in omega (arith, below (turn g) (rise g))
@@ -140,7 +136,7 @@ returns-3 : tie.Need-returns-3 Inv-loop μ-loop
 returns-3 c =
     let a = c .before .before .before .before .before .before .before .before .args in
     let l = c .before .loop in
-    sym (parents-none (a .tables .«parents_at») (section (a .payload .now) (a .starts .now) (a .tables)) (proofOut (a .proof)) (take (a .proof .«proof_id» .0) (a .depths .now)) _ (l .cell) (l .least) (l .deepest) (omega arith))
+    sym (parents-none (a .tables .«parents_at») (tablesIn (a .payload .now) (a .starts .now) (a .tables)) (proofOut (a .proof)) (take (a .proof .«proof_id» .0) (a .depths .now)) _ (l .cell) (l .least) (l .deepest) (omega arith))
     ∙ l .inv .2
 
 pub parents-from-spec : {M : Type 1} → statement M

@@ -13,17 +13,14 @@ use Rattle.derivation.specs.Pass as pass
 use Rattle.derivation.proofs.Laws.{witnesses-none, witnesses-28, witnesses-29, witnesses-turn}
 use Rattle.evr0.specs.declared.pass.Layout.{Layout}
 use Rattle.evr0.specs.declared.pass.Proof.{Proof}
-use Rattle.evr0.specs.View.{witnessView, view}
-use Rattle.evr0.specs.PassMaps.{layoutOut, proofOut}
+use Rattle.evr0.specs.View.{witnessView}
+use Rattle.evr0.specs.PassMaps.{layoutOut, tablesIn, proofOut}
 use Rattle.evr0.proofs.ViewLaws.{witness-at}
 use Rattle.evr0.proofs.pass.witnesses_from.Statement.{statement}
 use Rattle.evr0.proofs.pass.witnesses_from.Tie as tie
 
-abbrev section : List ℕ → List ℕ → Layout → derivation.Section
-section payload starts tables = view fourRules payload starts (layoutOut tables)
-
 abbrev from : List ℕ → List ℕ → Layout → Proof → ℕ → ℕ → Out (Unit {0})
-from payload starts tables proof = pass.witnessesFrom (tables .«parents_at») (section payload starts tables) (proofOut proof)
+from payload starts tables proof = pass.witnessesFrom (tables .«parents_at») (tablesIn payload starts tables) (proofOut proof)
 
 abbrev Inv-loop : tie.InvT-loop
 Inv-loop payload tables proof witness₀ end witness =
@@ -44,7 +41,7 @@ loop-holds c =
 -- ---- A turn, once the witness's proposition is read
 module _ (c : tie.After-u32-at Inv-loop μ-loop) (starts : List ℕ) where
   abbrev witness : derivation.Witness
-  witness = let a = c .before .before .before .before .before .before .before .args in derivation.witnessAt (section (a .payload .now) starts (a .tables)) (c .before .before .before .loop .witness)
+  witness = let a = c .before .before .before .before .before .before .before .args in derivation.witnessAt (tablesIn (a .payload .now) starts (a .tables)) (c .before .before .before .loop .witness)
 
   witness-is : let a = c .before .before .before .before .before .before .before .args in witness ≡ witnessView (a .payload .now) (a .tables .«witnesses_at» + 84 * c .before .before .before .loop .witness)
   witness-is =
@@ -57,18 +54,18 @@ module _ (c : tie.After-u32-at Inv-loop μ-loop) (starts : List ℕ) where
 
 returns : tie.Need-returns Inv-loop μ-loop
 returns c starts =
-    let t = c .before .before .before in
+    let t = c .before .before in
     let a = t .before .before .before .before .before .before .before .args in
     let l = t .before .before .before .loop in
     c .refused .ensures
-    ∙ sym (witnesses-28 (a .tables .«parents_at») (section (a .payload .now) starts (a .tables)) (proofOut (a .proof)) _ (l .witness) (omega arith)
+    ∙ sym (witnesses-28 (a .tables .«parents_at») (tablesIn (a .payload .now) starts (a .tables)) (proofOut (a .proof)) _ (l .witness) (omega arith)
     (λ e. c .before .if1 .taken (sym (proposition-is t starts) ∙ e)))
     ∙ l .inv .1 starts
 
 -- ---- A turn, once the witness's polarity is tested
 module _ (c : tie.After-polarity-fits Inv-loop μ-loop) (starts : List ℕ) where
   abbrev turn : tie.After-u32-at Inv-loop μ-loop
-  turn = c .before .before .before .before
+  turn = c .before .before .before
 
   same-proposition : witness turn starts .proposition ≡ turn .before .before .before .before .before .before .before .args .proof .«proposition_index» .0
   same-proposition = proposition-is turn starts ∙ c .before .before .if1 .left
@@ -88,21 +85,21 @@ returns-2 c starts =
     let a = t .before .before .before .before .before .before .before .args in
     let l = t .before .before .before .loop in
     c .refused2 .ensures
-    ∙ sym (witnesses-29 (a .tables .«parents_at») (section (a .payload .now) starts (a .tables)) (proofOut (a .proof)) _ (l .witness) (omega arith)
+    ∙ sym (witnesses-29 (a .tables .«parents_at») (tablesIn (a .payload .now) starts (a .tables)) (proofOut (a .proof)) _ (l .witness) (omega arith)
     (same-proposition f starts) (fits-is f starts ∙ not-true (f .polarity-fits .result) (c .before .if2 .taken)))
     ∙ l .inv .1 starts
 
 loop-again : tie.Need-loop-again Inv-loop μ-loop
 loop-again c =
     let f = c .before in
-    let t = f .before .before .before .before in
+    let t = f .before .before .before in
     let a = t .before .before .before .before .before .before .before .args in
     let l = t .before .before .before .loop in
     let end = t .before .before .before .before .before .place .result + t .before .before .before .before .wide .result in
     let left : end - (l .witness + 1) ≡ end - l .witness - 1 = omega arith in (
       l .inv .0,
       λ starts. rw left
-          (sym (witnesses-turn (a .tables .«parents_at») (section (a .payload .now) starts (a .tables)) (proofOut (a .proof)) _ (l .witness) (omega arith)
+          (sym (witnesses-turn (a .tables .«parents_at») (tablesIn (a .payload .now) starts (a .tables)) (proofOut (a .proof)) _ (l .witness) (omega arith)
           (same-proposition f starts) (fits-is f starts ∙ not-false (f .polarity-fits .result) (c .if2 .left)))
           ∙ l .inv .1 starts),
     )
@@ -111,7 +108,7 @@ returns-3 : tie.Need-returns-3 Inv-loop μ-loop
 returns-3 c starts =
     let a = c .before .before .before .before .before .args in
     let l = c .before .loop in
-    sym (witnesses-none (a .tables .«parents_at») (section (a .payload .now) starts (a .tables)) (proofOut (a .proof)) _ (l .witness) (omega arith)) ∙ l .inv .1 starts
+    sym (witnesses-none (a .tables .«parents_at») (tablesIn (a .payload .now) starts (a .tables)) (proofOut (a .proof)) _ (l .witness) (omega arith)) ∙ l .inv .1 starts
 
 pub witnesses-from-spec : {M : Type 1} → statement M
 witnesses-from-spec =
