@@ -5,9 +5,10 @@ use Rattle.local_format.specs.Out.{Out, ok, refused}
 use Rattle.local_format.specs.Maps.{refusalOut}
 use Rattle.derivation.specs.Rule.{fourRules}
 use Rattle.derivation.specs.Section as section
-use Rattle.evr0_records.specs.Maps.{countsOut, ruleOut}
-use Rattle.evr0_records.specs.declared.check.Checked.{Checked}
-use Rattle.evr0_records.specs.declared.check.Checked.the-variants as checked
+use Rattle.evr0_head.specs.Maps.{countsOut}
+use Rattle.evr0_records.specs.Maps.{ruleOut}
+use Rattle.evr0_head.specs.declared.check.Checked.{Checked}
+use Rattle.evr0_head.specs.declared.check.Checked.the-variants as checked
 use Rattle.evr0.specs.View as view
 use Rattle.evr0.specs.declared.pass.Layout.{Layout}
 use Rattle.evr0.specs.declared.pass.Proof.{Proof}

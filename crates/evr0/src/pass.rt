@@ -8,14 +8,15 @@ ghost use lib.ListN.{length, take};
 ghost use Rattle.local_format.specs.Field.{le};
 ghost use Rattle.derivation.specs.Rule.{known, ruleNamed, fourRules};
 ghost use Rattle.derivation.specs.Pass as of;
-ghost use Rattle.evr0_records.specs.Maps.{checkedOut, ruleOut};
+ghost use Rattle.evr0_head.specs.Maps.{checkedOut};
+ghost use Rattle.evr0_records.specs.Maps.{ruleOut};
 ghost use Rattle.evr0.specs.View.{proofView, afterName, nameAt, Known, TablesThere, ProofDue};
 ghost use Rattle.evr0.specs.PassMaps.{layoutOut, tablesIn, proofOut, depthOut, filled};
-use evr0_records::check::Checked;
-use evr0_records::counts::Counts;
-use evr0_records::number::ProofNumber;
-use evr0_records::number::PropositionIndex;
-use evr0_records::number::WitnessNumber;
+use evr0_head::check::Checked;
+use evr0_head::counts::Counts;
+use evr0_head::number::ProofNumber;
+use evr0_head::number::PropositionIndex;
+use evr0_head::number::WitnessNumber;
 use evr0_records::rule::Rule;
 use local_format::refusal::Refusal;
 
@@ -142,8 +143,8 @@ fn parents_from(
     ensures { λ r. ⌜ depthOut r ≡ of.parentsFrom (tables .«parents_at») (tablesIn (now (payload .entry)) (now (starts .entry)) tables) (proofOut proof) (take (proof .«proof_id» .0) (now (depths .entry))) (proof .«parent_count») (proof .«parent_first») 0 0 ⌝ }
 {
     let number = proof.proof_id.place();
-    let mut cell = evr0_records::number::wide(proof.parent_first);
-    let end = cell + evr0_records::number::wide(proof.parent_count);
+    let mut cell = evr0_head::number::wide(proof.parent_first);
+    let end = cell + evr0_head::number::wide(proof.parent_count);
     let mut least: usize = 0;
     let mut deepest: u64 = 0;
     while cell < end {
@@ -171,18 +172,18 @@ fn witnesses_from(payload: &[u8], tables: Layout, proof: Proof) -> Checked
     ensures { λ r. ⌜ ((starts : List ℕ) → checkedOut r ≡ of.witnessesFrom (tables .«parents_at») (tablesIn (now (payload .entry)) starts tables) (proofOut proof) (proof .«witness_count») (proof .«witness_first» .0)) ⌝ }
 {
     let mut witness = proof.witness_first.place();
-    let end = witness + evr0_records::number::wide(proof.witness_count);
+    let end = witness + evr0_head::number::wide(proof.witness_count);
     while witness < end {
         let at = tables.witnesses_at + 84 * witness;
         let own = proof.proposition_index.0;
         let found = u32_at(payload, at + 4);
         if found != own {
-            return evr0_records::check::refused(28, 0);
+            return evr0_head::check::refused(28, 0);
         }
         let rule = proof.rule;
         let fits = evr0_records::rule::polarity_fits(rule, payload[at + 8]);
         if !fits {
-            return evr0_records::check::refused(29, 0);
+            return evr0_head::check::refused(29, 0);
         }
         witness += 1;
     }

@@ -2,7 +2,7 @@ use mathlib.Core.Path.{sym, ap, _∙_}
 use lib.ListN.{take}
 use Rattle.local_format.specs.Out.{refused}
 use Rattle.local_format.proofs.OutLaws.{told}
-use Rattle.evr0_records.specs.Maps.{checkedOut}
+use Rattle.evr0_head.specs.Maps.{checkedOut}
 use Rattle.evr0.specs.PassMaps.{tablesIn, proofOut, depthOut}
 use Rattle.derivation.proofs.Laws.{depth-refused, depth-27, depth-unwitnessed, depth-ok}
 use borrow.Author.Needs.{needs}
