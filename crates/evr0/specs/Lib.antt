@@ -1,5 +1,7 @@
 pub mod Maps
 pub mod Answer
 pub mod Front
+pub mod View
+pub mod PassMaps
 pub mod Payload
 pub mod PayloadMaps

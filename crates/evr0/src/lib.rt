@@ -1,5 +1,6 @@
 // Evidence sections (EVR0).
 mod frame;
+mod pass;
 mod payload;
 mod rows;
 mod tables;
