@@ -5,3 +5,4 @@ pub mod ParentLaws
 pub mod RuleLaws
 pub mod ViewLaws
 pub mod ViewOf
+pub mod PayloadLaws

@@ -13,11 +13,23 @@ use Rattle.evr0_section.specs.Proof.{Settled, Unowned, proofRow}
 use Rattle.evr0_section.specs.Witness.{WitnessRecord, witnessRow, parentRow}
 use Rattle.evr0.specs.Maps.{noneOwned}
 
+-- the witnesses and the parents
+pub record Rest : Type 0 where
+  pub witnesses : Rows WitnessRecord ℕ
+  pub parents : Rows ℕ (Unit {0})
+
+-- from a place on, up to the payload's end
+unfoldable pub restAfter : Counts → List ℕ → ℕ → Out Rest
+restAfter counts p at = do
+  witnesses ← rows (witnessRow 4 counts) (counts .witnesses) 0 p at
+  parents ← rows parentRow (counts .parents) tt p (witnesses .next)
+  check (eqb (parents .next) (length p)) 24 (parents .next)
+  ok (record { witnesses = witnesses; parents = parents })
+
 pub record Four : Type 0 where
   pub propositions : Rows Proposition Before
   pub proofs : Rows Settled Unowned
-  pub witnesses : Rows WitnessRecord ℕ
-  pub parents : Rows ℕ (Unit {0})
+  pub rest : Rest
 
 -- the four tables, from a place on
 unfoldable pub tablesAfter : List Rule → Counts → List ℕ → ℕ → Out Four
@@ -25,7 +37,5 @@ tablesAfter rules counts p at = do
   propositions ← rows propositionRow (counts .propositions) first p at
   proofs ← rows (proofRow rules counts) (counts .proofs) noneOwned p (propositions .next)
   check (eqb (proofs .state .witness) (counts .witnesses) && eqb (proofs .state .parent) (counts .parents)) 22 (proofs .next)
-  witnesses ← rows (witnessRow 4 counts) (counts .witnesses) 0 p (proofs .next)
-  parents ← rows parentRow (counts .parents) tt p (witnesses .next)
-  check (eqb (parents .next) (length p)) 24 (parents .next)
-  ok (record { propositions = propositions; proofs = proofs; witnesses = witnesses; parents = parents })
+  rest ← restAfter counts p (proofs .next)
+  ok (record { propositions = propositions; proofs = proofs; rest = rest })

@@ -4,7 +4,7 @@ use mathlib.Core.List.{List, []}
 use Rattle.local_format.specs.Out.{Out, ok, refused, _>>=_}
 use Rattle.local_format.specs.Maps.{refusalOut}
 use Rattle.evr0.specs.Maps.{startsOf}
-use Rattle.evr0.specs.Payload.{Four}
+use Rattle.evr0.specs.Payload.{Rest, Four}
 use Rattle.evr0.specs.declared.payload.Places as places
 use Rattle.evr0.specs.declared.payload.Places.the-variants as read
 
@@ -16,7 +16,13 @@ pub record Places : Type 0 where
 abbrev pub placesIn : Out Four → Out Places
 placesIn x = do
   t ← x
-  ok (record { witnessesAt = t .proofs .next; parentsAt = t .witnesses .next })
+  ok (record { witnessesAt = t .proofs .next; parentsAt = t .rest .witnesses .next })
+
+-- where the parents start
+abbrev pub parentsIn : Out Rest → Out ℕ
+parentsIn x = do
+  t ← x
+  ok (t .witnesses .next)
 
 abbrev pub placesOut : places.Places → Out Places
 placesOut (read.Read w p) = ok (record { witnessesAt = w; parentsAt = p })

@@ -9,8 +9,8 @@ ghost use Rattle.derivation.specs.Rule.{fourRules};
 ghost use Rattle.evr0_head.specs.Maps.{countsOut};
 ghost use Rattle.evr0.specs.Front.{Front};
 ghost use Rattle.evr0.specs.Maps.{tableOut, proofTableOut};
-ghost use Rattle.evr0.specs.Payload.{tablesAfter};
-ghost use Rattle.evr0.specs.PayloadMaps.{placesIn, placesOut, propositionStartsIn, proofStartsIn};
+ghost use Rattle.evr0.specs.Payload.{restAfter, tablesAfter};
+ghost use Rattle.evr0.specs.PayloadMaps.{parentsIn, placesIn, placesOut, propositionStartsIn, proofStartsIn};
 
 use crate::tables::ProofTable;
 use crate::tables::Table;
@@ -58,6 +58,25 @@ fn all_owned(unowned: Unowned, counts: Counts) -> bool
     unowned.parent == counts.parents
 }
 
+// The witnesses and the parents, from `at` to the payload's end: where the parents start.
+fn read_rest(payload: &[u8], counts: Counts, at: usize) -> Table
+    requires { ⌜ (counts .parents ≤ 262144) × (at ≤ length (now payload)) ⌝ }
+    ensures { λ r. ⌜ tableOut r ≡ parentsIn (restAfter (countsOut counts) (now (payload .entry)) at) ⌝ }
+{
+    let witnesses = crate::tables::read_witnesses(payload, counts, at);
+    let Table::Read { next: parents_at } = witnesses else {
+        return witnesses;
+    };
+    let parents = crate::tables::read_parents(payload, counts.parents, parents_at);
+    let Table::Read { next: end } = parents else {
+        return parents;
+    };
+    if end != payload.len() {
+        return Table::Refused(local_format::refusal::refuse(24, end));
+    }
+    Table::Read { next: parents_at }
+}
+
 // The four tables from `at` on, with the starts of the propositions and of the proofs at the front of the lent tables.
 pub fn read_tables(
     payload: &[u8],
@@ -87,17 +106,10 @@ pub fn read_tables(
     if !all_owned(unowned, counts) {
         return Places::Refused(local_format::refusal::refuse(22, witnesses_at));
     }
-    let third = crate::tables::read_witnesses(payload, counts, witnesses_at);
-    let Table::Read { next: parents_at } = third else {
-        return Places::Refused(table_refusal(third));
+    let rest = read_rest(payload, counts, witnesses_at);
+    let Table::Read { next: parents_at } = rest else {
+        return Places::Refused(table_refusal(rest));
     };
-    let fourth = crate::tables::read_parents(payload, counts.parents, parents_at);
-    let Table::Read { next: end } = fourth else {
-        return Places::Refused(table_refusal(fourth));
-    };
-    if end != payload.len() {
-        return Places::Refused(local_format::refusal::refuse(24, end));
-    }
     Places::Read {
         witnesses_at,
         parents_at,

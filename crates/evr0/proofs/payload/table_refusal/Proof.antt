@@ -1,3 +1,7 @@
+-- Meets its contract, by the variant that was found.
+use mathlib.Core.Path.{sym, ap, _∙_}
+use Rattle.local_format.specs.Maps.{refusalOf}
+use Rattle.evr0.specs.Maps.{tableOut}
 use borrow.Author.Needs.{needs}
 use Rattle.evr0.proofs.payload.table_refusal.Statement.{statement}
 use Rattle.evr0.proofs.payload.table_refusal.Tie as tie
@@ -19,11 +23,11 @@ refuse-requires c κs = search needs
 
 -- src/payload.rt:30:1
 returns : tie.Need-returns
-returns c = ?
+returns c = rw (c .before .table .given .1)
 
 -- src/payload.rt:30:1
 returns-2 : tie.Need-returns-2
-returns-2 c = ?
+returns-2 c = c .refuse .ensures ∙ sym (ap (λ x. refusalOf (tableOut x)) (c .before .enum-told .given .1))
 
 pub table-refusal-spec : {M : Type 1} → statement M
 table-refusal-spec =
