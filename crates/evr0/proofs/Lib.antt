@@ -6,3 +6,5 @@ pub mod RuleLaws
 pub mod ViewLaws
 pub mod ViewOf
 pub mod PayloadLaws
+pub mod SectionLaws
+pub mod CheckLaws

@@ -5,3 +5,4 @@ pub mod View
 pub mod PassMaps
 pub mod Payload
 pub mod PayloadMaps
+pub mod AnswerMaps

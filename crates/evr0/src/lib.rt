@@ -3,4 +3,5 @@ mod frame;
 mod pass;
 mod payload;
 mod rows;
+pub mod section;
 mod tables;
