@@ -65,7 +65,7 @@ module _ {A : Type 0} (read : ℕ → Out (Taken A)) (count at : ℕ) where
         let s : take (i + 1) (set xs i place) ≡ take i xs ++ place ∷ [] = rw add-one (take-suc-set xs i place room) in
         inv
         ∙ ap (λ (x : Out (Table A)). after (take i xs) (kept x)) (first-read read count i place more e)
-        ∙ after-one (take i xs) (record { start = place; value = t .value }) (records read (count - (i + 1)) (t .next))
+        ∙ after-one (take i xs) (record { start = place; value = t .value; next = t .next }) (records read (count - (i + 1)) (t .next))
         ∙ ap (λ (ys : List ℕ). after ys (kept (records read (count - (i + 1)) (t .next)))) (sym s)
 
   pub filled : (place : ℕ) (xs : List ℕ) → Filling count place xs → count ≤ length xs

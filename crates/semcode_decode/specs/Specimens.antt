@@ -28,7 +28,7 @@ answered base x =
       block = block;
       path = (do
         chosen ← pathNumber 0 block
-        ok (chosen .value));
+        ok (chosen .entry .value));
     }
 
 -- one borrow without components, in a block without strings and debug symbols
@@ -43,7 +43,7 @@ oneBorrowBlock activation root end =
       ownership =
           record {
             found = true;
-            table = record { start = 8; entries = record { start = 8; value = oneBorrow activation root end } ∷ []; end = end };
+            table = record { start = 8; entries = record { start = 8; value = oneBorrow activation root end; next = end } ∷ []; end = end };
           };
     }
 

@@ -70,6 +70,11 @@ abbrev pub orUnknown : ℕ → ℕ → Kinded → Out Event
 orUnknown number at (known e) = ok e
 orUnknown number at unknown = refuse number at
 
+-- the byte of an event's kind
+abbrev pub kindOfEvent : Event → ℕ
+kindOfEvent (borrow activation) = 0
+kindOfEvent (write execution) = 1
+
 -- ---- The path
 
 pub record Path : Type 0 where
