@@ -3,12 +3,12 @@ use mathlib.Core.Path.{_≡_, refl, ap, sym, _∙_}
 use Prim.Native.Nat.{ℕ, zero, suc, _+_, _-_, _*_, _/_, _≤_, _<_}
 use native.Mathlib.Omega.{arith}
 use mathlib.Core.Bool.{Bool, true, false, cond}
-use mathlib.Core.List.{List, [], _∷_, map}
+use mathlib.Core.List.{List, [], _∷_}
 use lib.Dec.{leb}
 use lib.ListN.{length, getD}
 use borrow.Author.Tests.{leb-true, leb-false}
-use Rattle.local_format.specs.Out.{Out, ok, refused, refuse, check, _>>=_, _>>_}
-use Rattle.local_format.specs.Field.{Got, field}
+use Rattle.local_format.specs.Out.{Out, ok, refuse, _>>=_, _>>_}
+use Rattle.local_format.specs.Field.{field}
 use Rattle.local_format.specs.Tag.{tagAt, dbg0, own0}
 use Rattle.local_format.specs.Text.{Span}
 use Rattle.local_format.proofs.OutLaws.{never, ok-same, bind-ok, checked-ok}
@@ -16,8 +16,8 @@ use Rattle.semcode_records.specs.Records.{Taken, taken, Entry, Table, noRecords
 use Rattle.semcode_records.specs.Symbol.{Symbol, symbolAt}
 use Rattle.semcode_records.specs.Path.{Path, pathAt}
 use Rattle.semcode_records.proofs.RecordsLaws.{none-left, ends-before, as-many}
-use Rattle.semcode_records.proofs.SymbolLaws.{symbols-whole, symbols-cut}
-use Rattle.semcode_decode.specs.Block.{Rooms, room, stringRecord, stringTable, symbolTable, pathTable, Section, sectionAt, Block, blockOf}
+use Rattle.semcode_records.proofs.SymbolLaws.{symbols-cut}
+use Rattle.semcode_decode.specs.Block.{Rooms, stringRecord, stringTable, symbolTable, pathTable, Section, sectionAt, Block, blockOf}
 use Rattle.semcode_decode.specs.Layout.{startsOf}
 use Rattle.semcode_decode.specs.Number.{numbered}
 

@@ -3,11 +3,11 @@ use Prim.Native.Nat.{ℕ, zero, suc}
 use mathlib.Core.List.{List, [], _∷_}
 use Rattle.local_format.specs.Out.{Out, ok, refuse, _>>=_}
 use Rattle.local_format.specs.Text.{Span}
-use Rattle.semcode_records.specs.Records.{Taken, taken, Entry, Table}
+use Rattle.semcode_records.specs.Records.{Taken, taken, Entry}
 use Rattle.semcode_records.specs.Symbol.{Symbol}
 use Rattle.semcode_records.specs.Component.{Component}
 use Rattle.semcode_records.specs.Path.{Path, Head, headOf}
-use Rattle.semcode_decode.specs.Block.{Section, Block, decodeBlock}
+use Rattle.semcode_decode.specs.Block.{Block, decodeBlock}
 use Rattle.semcode_decode.specs.Layout.{roomsOf}
 
 -- the block decoded anew, with two tables lent and no list of symbols: there is room for all that 36 lets pass

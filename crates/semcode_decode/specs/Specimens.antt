@@ -5,8 +5,8 @@ use mathlib.Core.Bool.{true, false}
 use Rattle.local_format.specs.Out.{Out, ok, refuse, held, _>>=_}
 use Rattle.semcode_records.specs.Records.{noRecords}
 use Rattle.semcode_records.specs.Path.{Path, Activation, noActivation, frameEntry, borrow}
-use Rattle.semcode_decode.specs.Block.{Rooms, Section, Block, decodeBlock}
-use Rattle.semcode_decode.specs.Number.{Chosen, pathNumber}
+use Rattle.semcode_decode.specs.Block.{Rooms, Block, decodeBlock}
+use Rattle.semcode_decode.specs.Number.{pathNumber}
 
 pub record Specimen : Type 0 where
   pub bytes : List ℕ

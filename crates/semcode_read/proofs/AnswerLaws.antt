@@ -1,20 +1,20 @@
 -- A block decoded anew, with the tables that the decoder leaves: what is then read of a record, and that the tables stay.
-use mathlib.Core.Path.{_≡_, refl, ap, sym, _∙_}
+use mathlib.Core.Path.{_≡_, ap, sym, _∙_}
 use Prim.Native.Nat.{ℕ, _+_, _*_, _≤_, _<_}
 use native.Mathlib.Omega.{arith}
 use mathlib.Core.List.{List}
 use lib.ListN.{length, getD}
 use Rattle.local_format.specs.Refusal.{Refusal}
 use Rattle.local_format.specs.Out.{Out, ok, refused, refuse}
-use Rattle.local_format.specs.Text.{Span, stringAt}
+use Rattle.local_format.specs.Text.{stringAt}
 use Rattle.local_format.proofs.OutLaws.{based-ok}
 use Rattle.lent_table.specs.Lent.{lent}
 use Rattle.semcode_records.specs.Records.{Entry}
-use Rattle.semcode_records.specs.Symbol.{Symbol, symbolAt}
+use Rattle.semcode_records.specs.Symbol.{symbolAt}
 use Rattle.semcode_records.specs.Path.{headAt}
 use Rattle.semcode_decode.specs.Block.{Rooms, Block, blockOf}
 use Rattle.semcode_decode.specs.Layout.{Layout, layoutOf, layout, stringStarts, pathStarts, roomsOf}
-use Rattle.semcode_decode.specs.Number.{decodeAnew, numbered, Chosen, choose, stringNumber, symbolNumber, pathNumber, takenIn, textIn, headIn}
+use Rattle.semcode_decode.specs.Number.{decodeAnew, numbered, choose, stringNumber, symbolNumber, pathNumber, takenIn, textIn, headIn}
 use Rattle.semcode_decode.proofs.ReadLaws.{not-there}
 use Rattle.semcode_read.specs.After.{Lent}
 use Rattle.semcode_read.proofs.NumberLaws.{tables-kept, lent-entry, block-refused, not-picked, layout-ok, string-found, symbol-found, path-found}

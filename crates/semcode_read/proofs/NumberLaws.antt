@@ -2,26 +2,24 @@
 use mathlib.Core.Path.{_≡_, refl, ap, sym, _∙_}
 use Prim.Native.Nat.{ℕ, _+_, _-_, _*_, _≤_, _<_}
 use native.Mathlib.Omega.{arith}
-use mathlib.Core.List.{List, [], _++_}
+use mathlib.Core.List.{List, []}
 use lib.ListN.{length, getD, replicate, length-append, length-map, List·getD-append}
 use Rattle.local_format.specs.Refusal.{Refusal}
-use Rattle.local_format.specs.Out.{Out, ok, refused, refuse, based, _>>=_}
+use Rattle.local_format.specs.Out.{Out, ok, refused, refuse}
 use Rattle.local_format.specs.Text.{Span, stringAt}
-use Rattle.local_format.proofs.OutLaws.{never, refused-same, ok-same, bind-ok, based-ok}
+use Rattle.local_format.proofs.OutLaws.{never, ok-same, bind-ok}
 use Rattle.lent_table.specs.Lent.{lent}
-use Rattle.semcode_records.specs.Records.{Taken, taken, Entry, Table, records, ends}
-use Rattle.semcode_records.specs.Symbol.{Symbol, symbolAt}
-use Rattle.semcode_records.specs.Component.{Component, componentAt}
-use Rattle.semcode_records.specs.Path.{Path, kindOfEvent, pathAt, Head, headOf, headAt}
-use Rattle.semcode_records.proofs.PathLaws.{path-components}
+use Rattle.semcode_records.specs.Records.{Taken, taken, Entry}
+use Rattle.semcode_records.specs.Symbol.{symbolAt}
+use Rattle.semcode_records.specs.Path.{pathAt, headAt}
 use Rattle.semcode_records.proofs.RecordsLaws.{as-many}
 use Rattle.semcode_records.proofs.SymbolLaws.{symbols-whole}
 use Rattle.semcode_decode.specs.Block.{Rooms, Block, stringRecord, blockOf}
-use Rattle.semcode_decode.specs.Layout.{Layout, layoutOf, layout, startsOf, stringStarts, pathStarts, roomsOf}
-use Rattle.semcode_decode.specs.Number.{decodeAnew, numbered, Chosen, choose, stringNumber, symbolNumber, pathNumber, componentNumber, blockIn, takenIn, textIn, headIn}
+use Rattle.semcode_decode.specs.Layout.{Layout, layoutOf, layout, stringStarts, pathStarts}
+use Rattle.semcode_decode.specs.Number.{numbered, Chosen, choose, stringNumber, symbolNumber, pathNumber, blockIn, takenIn, textIn, headIn}
 use Rattle.semcode_decode.proofs.BlockLaws.{layout-refused}
-use Rattle.semcode_decode.proofs.ReadLaws.{There, there, not-there, tables-read, symbol-start}
-use Rattle.semcode_read.specs.After.{Lent, componentAfter}
+use Rattle.semcode_decode.proofs.ReadLaws.{there, tables-read, symbol-start}
+use Rattle.semcode_read.specs.After.{Lent}
 
 -- ---- The lent tables
 module _ {A : Type 0} (y : Out (Chosen A)) (strings paths strings′ paths′ : List ℕ) where

@@ -3,9 +3,9 @@ use mathlib.Core.Path.{_≡_}
 use Prim.Native.Nat.{ℕ}
 use mathlib.Core.List.{List}
 use lib.ListN.{length}
-use Rattle.local_format.specs.Out.{Out, ok, _>>=_}
+use Rattle.local_format.specs.Out.{Out, _>>=_}
 use Rattle.lent_table.specs.Lent.{lent}
-use Rattle.semcode_records.specs.Records.{Taken, Table, records, ends}
+use Rattle.semcode_records.specs.Records.{Taken, records, ends}
 use Rattle.semcode_records.specs.Component.{Component, componentAt}
 use Rattle.semcode_decode.specs.Layout.{stringStarts, pathStarts}
 use Rattle.semcode_decode.specs.Number.{Chosen, blockIn}

@@ -8,7 +8,7 @@ use lib.ListN.{length}
 use package.borrow.Author.Tests.{eqb-true}
 use Rattle.local_format.specs.Refusal.{Refusal}
 use Rattle.local_format.specs.Out.{Out, ok, refused, _>>=_}
-use Rattle.local_format.specs.Field.{Got, field}
+use Rattle.local_format.specs.Field.{field}
 use Rattle.local_format.proofs.OutLaws.{never, refused-same, ok-same, bind-ok}
 use Rattle.semcode_records.specs.Records.{Taken, taken, Table, records, ends}
 use Rattle.semcode_records.specs.Component.{Component, componentAt}

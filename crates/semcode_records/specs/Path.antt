@@ -5,8 +5,8 @@ use mathlib.Core.Bool.{cond}
 use lib.Dec.{leb, eqb}
 use lib.ListN.{length}
 use Rattle.local_format.specs.Out.{Out, ok, refuse, check, _>>=_, _>>_}
-use Rattle.local_format.specs.Field.{Got, field}
-use Rattle.semcode_records.specs.Records.{Taken, taken, Entry, Table, records}
+use Rattle.local_format.specs.Field.{field}
+use Rattle.semcode_records.specs.Records.{Taken, taken, Table, records}
 use Rattle.semcode_records.specs.Component.{Component, componentAt}
 
 -- ---- The event

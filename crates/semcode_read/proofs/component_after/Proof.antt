@@ -1,3 +1,4 @@
+-- Meets its contract: the end of the components before it is the place of the component.
 use borrow.Author.Needs.{needs}
 use Rattle.semcode_read.proofs.component_after.Statement.{statement}
 use Rattle.semcode_read.proofs.component_after.Tie as tie
