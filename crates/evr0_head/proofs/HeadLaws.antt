@@ -185,7 +185,7 @@ module _ (room : Room) (p : List ℕ) where
       go (refused r) = refl
 
 -- ---- What the code's answer says of a head
-besides : {A : Type 0} (first second : A → List ℕ) (d : Out A) → beside first second d .answer ≡ d
+pub besides : {A : Type 0} (first second : A → List ℕ) (d : Out A) → beside first second d .answer ≡ d
 besides first second (ok a) = refl
 besides first second (refused r) = refl
 

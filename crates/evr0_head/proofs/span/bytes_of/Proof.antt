@@ -1,3 +1,4 @@
+-- A prefix of the tail, which is the whole tail where that is shorter.
 use Prim.Native.Nat.{ℕ}
 use mathlib.Core.List.{List}
 use mathlib.Core.Path.{sym, ap, _∙_}
