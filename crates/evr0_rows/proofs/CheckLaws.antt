@@ -1,12 +1,12 @@
 -- What the checks of a proof and of a witness establish.
 use Prim.Native.Nat.{ℕ, suc, _+_, _≤_, _<_}
-use mathlib.Core.Path.{_≡_, refl, sym, ap₂, _∙_}
+use mathlib.Core.Path.{_≡_, refl}
 use mathlib.Core.Bool.{Bool, true, false, _&&_}
 use mathlib.Core.List.{List}
 use native.Mathlib.Numerals.{add-one}
 use lib.Dec.{ltb, leb, eqb}
 use borrow.Author.Tests.{ltb-true, leb-true, eqb-true}
-use Rattle.local_format.specs.Out.{Out, ok, check, _>>=_, _>>_}
+use Rattle.local_format.specs.Out.{ok}
 use Rattle.local_format.proofs.OutLaws.{never, ok-same, bind-ok, check-ok, checked-ok}
 use Rattle.derivation.specs.Rule.{Rule, Named, known, unknown, ruleNamed}
 use Rattle.evr0_section.specs.Head.{Counts}

@@ -1,13 +1,13 @@
 -- Where the fields of a record stand and what they are, and where the record ends.
 use Prim.Native.Nat.{ℕ, _+_, _≤_}
-use mathlib.Core.Path.{_≡_, refl, ap, sym, _∙_}
+use mathlib.Core.Path.{_≡_, refl, ap, _∙_}
 use mathlib.Core.List.{List}
 use mathlib.Core.Bool.{not, _&&_}
 use native.Mathlib.Omega.{arith}
 use native.Mathlib.Nat.{add-assoc}
 use lib.Dec.{leb}
 use lib.ListN.{length}
-use Rattle.local_format.specs.Out.{Out, ok, check, _>>=_, _>>_}
+use Rattle.local_format.specs.Out.{ok}
 use Rattle.local_format.specs.Field.{Got, le}
 use Rattle.local_format.specs.Utf8.{decode, anyControl}
 use Rattle.local_format.specs.Text.{Span, orIll, bytesAt, sectionField, textAt}
@@ -15,7 +15,7 @@ use Rattle.local_format.proofs.OutLaws.{ok-same, bind-ok, checked-ok}
 use Rattle.local_format.proofs.FieldLaws.{field-ok}
 use Rattle.local_format.proofs.TextLaws.{text-ok}
 use Rattle.evr0_section.specs.Rows.{Sized, Row}
-use Rattle.evr0_section.specs.Head.{Digest, digestAt}
+use Rattle.evr0_section.specs.Head.{digestAt}
 use Rattle.evr0_section.specs.Proposition.{Proposition, propositionOf}
 use Rattle.evr0_section.specs.Proof.{ProofRecord, zerosAt, proofOf}
 use Rattle.evr0_section.specs.Witness.{WitnessRecord, witnessOf, parentRow}

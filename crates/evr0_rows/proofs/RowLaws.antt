@@ -1,33 +1,23 @@
 -- What a row says of its record, and where a row ends and its refusal stands.
 use Prim.Native.Nat.{ℕ, suc, _+_, _≤_}
-use mathlib.Core.Path.{_≡_, refl, ap, sym}
-use mathlib.Core.Bool.{Bool, _&&_}
+use mathlib.Core.Path.{_≡_, refl}
+use mathlib.Core.Bool.{_&&_}
 use mathlib.Core.List.{List}
 use native.Mathlib.Omega.{arith}
 use Prim.Native.Nat.{zero-le}
 use lib.Dec.{ltb, leb, eqb}
 use lib.ListN.{length}
-use Rattle.local_format.specs.Out.{Out, ok, refused, check, _>>=_, _>>_}
+use Rattle.local_format.specs.Out.{ok}
 use Rattle.local_format.specs.Field.{Got}
-use Rattle.local_format.specs.Text.{Span, bytesAt, sectionField, textAt}
+use Rattle.local_format.specs.Text.{bytesAt, sectionField, textAt}
 use Rattle.local_format.proofs.OutLaws.{ok-same, bind-ok, then-ok, checked-ok, RefusesWithin, within-bind, within-check}
 use Rattle.local_format.proofs.FieldLaws.{field-ok, field-within}
 use Rattle.local_format.proofs.TextLaws.{text-ok, text-refused-within}
 use Rattle.derivation.specs.Rule.{Rule, Named, known, unknown, ruleNamed}
-use Rattle.evr0_section.specs.Rows.{Sized, Row}
-use Rattle.evr0_section.specs.Head.{Counts, Digest, digestAt}
+use Rattle.evr0_section.specs.Rows.{Row}
+use Rattle.evr0_section.specs.Head.{Counts, digestAt}
 use Rattle.evr0_section.specs.Proposition.{Proposition, Before, after, keyOf, rises, propositionOf, propositionRow}
-use Rattle.evr0_section.specs.Proof.{
-  ProofRecord,
-  Unowned,
-  Settled,
-  orUnknown,
-  hasNumbers,
-  zerosAt,
-  proofOf,
-  checkProof,
-  proofRow,
-}
+use Rattle.evr0_section.specs.Proof.{ProofRecord, Unowned, Settled, orUnknown, hasNumbers, zerosAt, proofOf, checkProof, proofRow}
 use Rattle.evr0_section.specs.Witness.{WitnessRecord, witnessOf, checkWitness, witnessRow, parentRow}
 use Rattle.evr0_head.proofs.PlaceLaws.{all-within, zeros-ok, zeros-within, digest-ok, digest-within}
 use Rattle.evr0_rows.proofs.RecordLaws.{proposition-ok, proof-ok, witness-ok, parent-ok}

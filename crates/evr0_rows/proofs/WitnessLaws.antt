@@ -1,7 +1,5 @@
 -- What the code's answer says of a witness.
-use Prim.Native.Nat.{ℕ}
 use mathlib.Core.Path.{_≡_, ap, sym, _∙_}
-use mathlib.Core.List.{List}
 use Rattle.local_format.specs.Out.{Out}
 use Rattle.evr0_section.specs.Rows.{Sized}
 use Rattle.evr0_section.specs.Witness.{WitnessRecord}

@@ -1,5 +1,4 @@
 -- The refusal is the one that the place holds.
-use mathlib.Core.Path.{sym, ap}
 use borrow.Author.Needs.{needs}
 use Rattle.evr0_head.proofs.place.place_refusal.Statement.{statement}
 use Rattle.evr0_head.proofs.place.place_refusal.Tie as tie
