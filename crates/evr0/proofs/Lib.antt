@@ -1,1 +1,4 @@
 pub mod FrameLaws
+pub mod TableLaws
+pub mod RowLaws
+pub mod ParentLaws

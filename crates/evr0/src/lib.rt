@@ -1,3 +1,4 @@
 // Evidence sections (EVR0).
 mod frame;
 mod rows;
+mod tables;

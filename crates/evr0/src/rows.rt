@@ -5,17 +5,17 @@ ghost use Rattle.derivation.specs.Rule.{fourRules};
 ghost use Rattle.evr0_section.specs.Proposition.{propositionRow, rises, keyOf};
 ghost use Rattle.evr0_section.specs.Proof.{proofRow};
 ghost use Rattle.evr0_section.specs.Witness.{witnessRow};
-ghost use Rattle.evr0_records.specs.Maps.{countsOut, unownedOut, propositionRecord};
-ghost use Rattle.evr0.specs.Maps.{beforeOut, propositionRowOut, proofRowOut, sizeIn, sizeOut};
-use evr0_records::check::Checked;
-use evr0_records::counts::Counts;
+ghost use Rattle.evr0_head.specs.Maps.{countsOut};
+ghost use Rattle.evr0_records.specs.Maps.{unownedOut, propositionRecord, proofRecord};
+ghost use Rattle.evr0.specs.Maps.{beforeOut, propositionRowOut, afterRecord, keptIn, proofRowOut, sizeIn, sizeOut};
+use evr0_head::check::Checked;
+use evr0_head::counts::Counts;
 use evr0_records::proof::Proof;
 use evr0_records::proof::ProofRead;
 use evr0_records::proof::Settled;
 use evr0_records::proof::Unowned;
 use evr0_records::proposition::Proposition;
 use evr0_records::proposition::PropositionRead;
-use evr0_records::rule::Rule;
 use evr0_records::witness::WitnessAnswer;
 use local_format::refusal::Refusal;
 
@@ -60,29 +60,41 @@ pub fn next_proposition(payload: &[u8], at: usize, before: Before) -> Propositio
     PropositionRead::Refused(local_format::refusal::refuse(16, 0))
 }
 
+// The size of a proof, and what is unowned after it.
 pub enum ProofRow {
-    Read {
-        proof: Proof,
-        rule: Rule,
-        size: usize,
-    },
+    Read { size: usize, unowned: Unowned },
     Refused(Refusal),
+}
+
+// The number after a proof's, and what comes after its witnesses and parents.
+fn after_proof(proof: Proof) -> Unowned
+    ensures { λ r. ⌜ unownedOut r ≡ afterRecord (proofRecord proof) ⌝ }
+{
+    Unowned {
+        proof: proof.proof_id.place() + 1,
+        witness: proof.witness_first.place() + evr0_head::number::wide(proof.witness_count),
+        parent: evr0_head::number::wide(proof.parent_first)
+            + evr0_head::number::wide(proof.parent_count),
+    }
 }
 
 // The proof at `at`, which is to be the next one.
 pub fn next_proof(payload: &[u8], at: usize, counts: Counts, unowned: Unowned) -> ProofRow
-    ensures { λ r. ⌜ proofRowOut unowned r ≡ proofRow fourRules (countsOut counts) (unownedOut unowned) (drop at (now (payload .entry))) ⌝ }
+    ensures { λ r. ⌜ proofRowOut r ≡ keptIn (proofRow fourRules (countsOut counts) (unownedOut unowned) (drop at (now (payload .entry)))) ⌝ }
 {
     let tail = local_format::part::tail(payload, at);
     let read = evr0_records::proof::read_proof(tail);
     match read {
         ProofRead::Refused(r) => ProofRow::Refused(r),
         ProofRead::Read { proof, size } => {
-            let name = evr0_records::span::bytes_of(tail, proof.rule_id);
+            let name = evr0_head::span::bytes_of(tail, proof.rule_id);
             let settled = evr0_records::proof::check_proof(counts, unowned, name, proof);
             match settled {
                 Settled::Refused(r) => ProofRow::Refused(r),
-                Settled::By(rule) => ProofRow::Read { proof, rule, size },
+                Settled::By(_) => ProofRow::Read {
+                    size,
+                    unowned: after_proof(proof),
+                },
             }
         }
     }

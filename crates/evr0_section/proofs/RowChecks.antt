@@ -5,7 +5,7 @@ use mathlib.Core.Bool.{_&&_}
 use mathlib.Core.List.{List, List·Memᴰ}
 use lib.Dec.{ltb, leb, eqb}
 use borrow.Author.Tests.{ltb-true, leb-true, eqb-true}
-use Rattle.local_format.specs.Out.{Out, ok}
+use Rattle.local_format.specs.Out.{ok}
 use Rattle.local_format.specs.Text.{bytesAt}
 use Rattle.local_format.proofs.OutLaws.{bind-ok, then-ok, check-ok, checked-ok, ok-same}
 use Rattle.derivation.specs.Rule.{Rule, Named, known, unknown, ruleNamed}
@@ -40,7 +40,7 @@ module _ (rules : List Rule) (counts : Counts) where
   rule-known (known q) r e = ap known (ok-same e)
   rule-known unknown r e = cc
 
-  proof-checked : (u : Unowned) (name : List ℕ) (r : ProofRecord) (rule : Rule) (at : ℕ) → checkProof rules counts u name r ≡ ok rule
+  pub proof-checked : (u : Unowned) (name : List ℕ) (r : ProofRecord) (rule : Rule) (at : ℕ) → checkProof rules counts u name r ≡ ok rule
       → GoodProof u (proofItem (record { start = at; item = record { proof = r; rule = rule } }))
   unfolding checkProof hasNumbers
   proof-checked u name r rule at e =

@@ -1,5 +1,9 @@
--- Meets its contract: each return by what the callees ensure.
+-- Meets its contract: each return by what the callees ensure. What is unowned follows from 17 and 18.
+use Rattle.local_format.proofs.OutLaws.{told}
+use Rattle.derivation.specs.Rule.{fourRules}
 use Rattle.evr0_section.specs.Proof.{proofRow}
+use Rattle.evr0_records.specs.Maps.{settledOut}
+use Rattle.evr0.proofs.RowLaws.{after-checked}
 use borrow.Author.Needs.{needs}
 use Rattle.evr0.proofs.rows.next_proof.Statement.{statement}
 use Rattle.evr0.proofs.rows.next_proof.Tie as tie
@@ -32,13 +36,15 @@ returns-3 c =
     let b = k .before in
     let r = b .before .before .before .before in
     rw (
+      c .after-proof .ensures,
       ← r .before .tail .ensures,
       ← r .read-proof .ensures,
       b .before .before .read2 .given .1,
       ← b .bytes-of .ensures,
       ← k .check-proof .ensures,
-      c .before .settled2 .given .1,
+      c .before .enum-told .given .1,
     )
+    (after-checked fourRules _ _ _ _ _ _ (told settledOut (k .check-proof .ensures) (c .before .enum-told .given .1)))
 
 pub next-proof-spec : {M : Type 1} → statement M
 next-proof-spec =
@@ -52,6 +58,7 @@ next-proof-spec =
     (λ c κs. search needs)
     (λ c. search needs)
     (λ c. search needs)
+    (λ c κs. search needs)
     returns
     returns-2
     returns-3)
