@@ -6,7 +6,7 @@ ghost use Rattle.evr0_records.specs.Maps.{proofRecord};
 ghost use Rattle.derivation.specs.Down.{authorised};
 ghost use Rattle.evr0_section.specs.Section.{Section, sectionOf};
 ghost use Rattle.evr0_read.specs.Held.{Held};
-use evr0_records::number::PropositionIndex;
+use evr0_head::number::PropositionIndex;
 use evr0_records::proof::Proof;
 use evr0_records::proof::ProofRead;
 

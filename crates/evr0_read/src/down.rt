@@ -6,9 +6,9 @@ ghost use Rattle.derivation.specs.Down.{wayDown};
 ghost use Rattle.evr0_section.specs.Section.{Section, sectionOf};
 ghost use Rattle.evr0_read.specs.Held.{Held};
 ghost use Rattle.evr0_read.specs.Maps.{downOut};
-use evr0_records::number::ProofNumber;
-use evr0_records::number::WitnessNumber;
-use evr0_records::number::wide;
+use evr0_head::number::ProofNumber;
+use evr0_head::number::WitnessNumber;
+use evr0_head::number::wide;
 use evr0_records::proof::ProofRead;
 use local_format::field::U32;
 
