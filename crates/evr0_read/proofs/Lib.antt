@@ -2,3 +2,4 @@ pub mod FoundLaws
 pub mod HeldLaws
 pub mod DownLaws
 pub mod AuthorisedLaws
+pub mod EntryLaws

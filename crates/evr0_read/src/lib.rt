@@ -1,4 +1,5 @@
 // Records of an evidence section by number, the way down from a proof, and whether a proposition is authorised.
 mod authorised;
 mod down;
+mod entry;
 mod held;
