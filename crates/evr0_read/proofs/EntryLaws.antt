@@ -1,6 +1,6 @@
 -- A record by its number, as the reader at its start answers it; and that its text's place in the payload is one of 64 bits.
 use Prim.Native.Nat.{ℕ, _+_, _-_, _^_, _≤_, _<_}
-use mathlib.Core.Path.{_≡_, refl, sym, ap, _∙_, subst}
+use mathlib.Core.Path.{_≡_, refl, sym, ap, ap₂, subst}
 use mathlib.Core.List.{List}
 use native.Mathlib.Omega.{arith}
 use lib.ListN.{length, getD, drop, length-drop}
@@ -8,26 +8,30 @@ use borrow.Author.Tests.{lt-ltb, le-ltb}
 use Rattle.local_format.specs.Refusal.{Refusal}
 use Rattle.local_format.specs.Out.{Out, ok, refused, refuse, _>>=_}
 use Rattle.local_format.specs.Text.{Span, sectionField, textAt}
-use Rattle.local_format.proofs.OutLaws.{bind-ok, ok-same, on-ok, on-refused}
+use Rattle.local_format.proofs.OutLaws.{never, bind-ok, ok-same}
 use Rattle.local_format.proofs.TextLaws.{text-ok}
 use Rattle.evr0_section.specs.Rows.{Sized, Entry}
 use Rattle.evr0_section.specs.Proposition.{Proposition, propositionOf}
 use Rattle.evr0_section.specs.Proof.{ProofRecord, zerosAt, proofOf}
-use Rattle.evr0_read.specs.Entry.{entryIn}
+use Rattle.evr0_section.specs.Witness.{WitnessRecord}
+use Rattle.evr0_head.specs.Maps.{Beside}
+use Rattle.evr0_records.specs.Maps as records
+use Rattle.evr0_read.specs.Entry.{entryAt}
+use Rattle.evr0_read.specs.Maps.{witnessBeside}
 
-module _ {A : Type 0} (read : List ℕ → Out (Sized A)) (place : ℕ → A → A) (p starts : List ℕ) (k : ℕ) where
-  pub entry-none : length starts ≤ k → refuse 62 0 ≡ entryIn read place p starts k
-  unfolding entryIn
-  entry-none h = rw (le-ltb k (length starts) h)
+module _ {X A : Type 0} (read : List ℕ → Out X) (place : ℕ → X → A) (p : List ℕ) (count start k : ℕ) where
+  pub entry-none : count ≤ k → refuse 62 0 ≡ entryAt read place p count start k
+  unfolding entryAt
+  entry-none h = rw (le-ltb k count h)
 
-  pub entry-refused : {r : Refusal} → k < length starts → read (drop (getD starts k 0) p) ≡ refused r → refused r ≡ entryIn read place p starts k
-  unfolding entryIn
-  entry-refused h e = rw (lt-ltb k (length starts) h, e)
+  pub entry-refused : {r : Refusal} → k < count → read (drop start p) ≡ refused r → refused r ≡ entryAt read place p count start k
+  unfolding entryAt
+  entry-refused h e = rw (lt-ltb k count h, e)
 
-  pub entry-found : {x : Sized A} {y : A} → k < length starts → read (drop (getD starts k 0) p) ≡ ok x → y ≡ place (getD starts k 0) (x .item)
-      → ok (record { start = getD starts k 0; item = y }) ≡ entryIn read place p starts k
-  unfolding entryIn
-  entry-found h e f = rw (lt-ltb k (length starts) h, e, f)
+  pub entry-found : {x : X} {y : A} → k < count → read (drop start p) ≡ ok x → y ≡ place start x
+      → ok (record { start = start; item = y }) ≡ entryAt read place p count start k
+  unfolding entryAt
+  entry-found h e f = rw (lt-ltb k count h, e, f)
 
 -- ---- Texts
 
@@ -67,3 +71,18 @@ rule-lies s e =
 pub place-fits : (p : List ℕ) (start : ℕ) (t : Span) → length p < 2 ^ 64 → Lies (drop start p) t
     → (start + t .start ≤ 18446744073709551615) × (start + t .next ≤ 18446744073709551615)
 place-fits p start t l h = let d : t .next ≤ length p - start = rw length-drop at (h .next) in (omega (arith, h .some, h .start), omega (arith, h .some))
+
+-- ---- Witnesses: what stands beside the answer
+
+pub beside-answer : (x : Out (Sized WitnessRecord)) → records.witnessBeside x .answer ≡ x
+beside-answer (ok w) = refl
+beside-answer (refused r) = refl
+
+abbrev refusedWith : Refusal → List ℕ → List ℕ → Beside (Entry WitnessRecord)
+refusedWith r first second = record { first = first; second = second; answer = refused r }
+
+pub refused-beside : {b : Beside (Sized WitnessRecord)} (x : Out (Sized WitnessRecord)) {r : Refusal} → b ≡ records.witnessBeside x → x ≡ refused r
+    → refusedWith r (b .first) (b .second) ≡ witnessBeside (refused r)
+refused-beside (ok w) e h = absurd (never (sym h))
+refused-beside (refused q) {r} e h =
+    ap₂ (refusedWith r) (ap (λ (c : Beside (Sized WitnessRecord)). c .first) e) (ap (λ (c : Beside (Sized WitnessRecord)). c .second) e)

@@ -1,14 +1,15 @@
--- A record by its number, in a payload and the starts of its table; its text at its place in the payload.
+-- A record by its number, in a payload and from its start; its text at its place in the payload.
 use Prim.Native.Nat.{ℕ, _+_}
 use mathlib.Core.List.{List}
 use mathlib.Core.Bool.{cond}
-use lib.ListN.{length, getD, drop}
+use lib.ListN.{drop}
 use lib.Dec.{ltb}
 use Rattle.local_format.specs.Out.{Out, ok, refuse, _>>=_}
 use Rattle.local_format.specs.Text.{Span}
-use Rattle.evr0_section.specs.Rows.{Sized, Entry}
+use Rattle.evr0_section.specs.Rows.{Sized, Row, Entry}
 use Rattle.evr0_section.specs.Proposition.{Proposition}
 use Rattle.evr0_section.specs.Proof.{ProofRecord}
+use Rattle.evr0_section.specs.Witness.{WitnessRecord}
 
 -- a text of a record that starts at a place of the payload
 abbrev pub placed : ℕ → Span → Span
@@ -31,17 +32,24 @@ withRule r t =
       operation = r .operation;
     }
 
--- a record that starts at a place of the payload
-abbrev pub placedProposition : ℕ → Proposition → Proposition
-placedProposition start r = withKind r (placed start (r .kind))
+-- records that start at a place of the payload
+abbrev pub placedProposition : ℕ → Sized Proposition → Proposition
+placedProposition start x = withKind (x .item) (placed start (x .item .kind))
 
-abbrev pub placedProof : ℕ → ProofRecord → ProofRecord
-placedProof start r = withRule r (placed start (r .rule))
+abbrev pub placedProof : ℕ → Sized ProofRecord → ProofRecord
+placedProof start x = withRule (x .item) (placed start (x .item .rule))
 
-module _ {A : Type 0} (read : List ℕ → Out (Sized A)) (place : ℕ → A → A) where
-  unfoldable pub entryIn : List ℕ → List ℕ → ℕ → Out (Entry A)
-  entryIn p starts k =
+abbrev pub placedWitness : ℕ → Sized WitnessRecord → WitnessRecord
+placedWitness start x = x .item
+
+abbrev pub placedParent : ℕ → Row ℕ (Unit {0}) → ℕ
+placedParent start x = x .item
+
+module _ {X A : Type 0} (read : List ℕ → Out X) (place : ℕ → X → A) where
+  -- the record with the number k, of `count` records, which starts at a place of the payload p
+  unfoldable pub entryAt : List ℕ → ℕ → ℕ → ℕ → Out (Entry A)
+  entryAt p count start k =
       let there : Out (Entry A) = (do
-        x ← read (drop (getD starts k 0) p)
-        ok (record { start = getD starts k 0; item = place (getD starts k 0) (x .item) })) in
-      cond (ltb k (length starts)) there (refuse 62 0)
+        x ← read (drop start p)
+        ok (record { start = start; item = place start x })) in
+      cond (ltb k count) there (refuse 62 0)

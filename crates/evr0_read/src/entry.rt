@@ -1,11 +1,12 @@
 // Propositions and proofs by number, in a payload and the starts of its tables. A text stands at its place in the payload.
 ghost use mathlib.Core.Path.{_≡_};
 ghost use Prim.Native.Nat.{_+_, _≤_};
+ghost use lib.ListN.{length, getD};
 ghost use Rattle.evr0_section.specs.Proposition.{propositionOf};
 ghost use Rattle.evr0_section.specs.Proof.{proofOf};
 ghost use Rattle.evr0_head.specs.Maps.{spanOut};
 ghost use Rattle.evr0_records.specs.Maps.{propositionRecord, proofRecord};
-ghost use Rattle.evr0_read.specs.Entry.{placed, placedProposition, placedProof, entryIn};
+ghost use Rattle.evr0_read.specs.Entry.{placed, withKind, withRule, placedProposition, placedProof, entryAt};
 ghost use Rattle.evr0_read.specs.Maps.{propositionEntryOut, proofEntryOut};
 use evr0_head::number::ProofNumber;
 use evr0_head::number::PropositionIndex;
@@ -44,7 +45,7 @@ fn place_text(span: Span, start: usize) -> Span
 
 fn place_proposition(proposition: Proposition, start: usize) -> Proposition
     requires { ⌜ (start + proposition .kind .start ≤ 18446744073709551615) × (start + proposition .kind .next ≤ 18446744073709551615) ⌝ }
-    ensures { λ r. ⌜ propositionRecord r ≡ placedProposition start (propositionRecord proposition) ⌝ }
+    ensures { λ r. ⌜ propositionRecord r ≡ withKind (propositionRecord proposition) (placed start (spanOut (proposition .kind))) ⌝ }
 {
     let kind = proposition.kind;
     Proposition {
@@ -57,7 +58,7 @@ fn place_proposition(proposition: Proposition, start: usize) -> Proposition
 
 fn place_proof(proof: Proof, start: usize) -> Proof
     requires { ⌜ (start + proof .«rule_id» .start ≤ 18446744073709551615) × (start + proof .«rule_id» .next ≤ 18446744073709551615) ⌝ }
-    ensures { λ r. ⌜ proofRecord r ≡ placedProof start (proofRecord proof) ⌝ }
+    ensures { λ r. ⌜ proofRecord r ≡ withRule (proofRecord proof) (placed start (spanOut (proof .«rule_id»))) ⌝ }
 {
     let proof_id = proof.proof_id;
     let proposition_index = proof.proposition_index;
@@ -77,7 +78,7 @@ fn place_proof(proof: Proof, start: usize) -> Proof
 }
 
 pub fn proposition_in(payload: &[u8], starts: &[u64], number: PropositionIndex) -> PropositionEntry
-    ensures { λ r. ⌜ propositionEntryOut r ≡ entryIn propositionOf placedProposition (now (payload .entry)) (now (starts .entry)) (number .0) ⌝ }
+    ensures { λ r. ⌜ propositionEntryOut r ≡ entryAt propositionOf placedProposition (now (payload .entry)) (length (now (starts .entry))) (getD (now (starts .entry)) (number .0) 0) (number .0) ⌝ }
 {
     let i = number.place();
     if starts.len() <= i {
@@ -98,7 +99,7 @@ pub fn proposition_in(payload: &[u8], starts: &[u64], number: PropositionIndex) 
 }
 
 pub fn proof_entry_in(payload: &[u8], starts: &[u64], number: ProofNumber) -> ProofEntry
-    ensures { λ r. ⌜ proofEntryOut r ≡ entryIn proofOf placedProof (now (payload .entry)) (now (starts .entry)) (number .0) ⌝ }
+    ensures { λ r. ⌜ proofEntryOut r ≡ entryAt proofOf placedProof (now (payload .entry)) (length (now (starts .entry))) (getD (now (starts .entry)) (number .0) 0) (number .0) ⌝ }
 {
     let i = number.place();
     if starts.len() <= i {

@@ -1,5 +1,6 @@
 // Records of an evidence section by number, the way down from a proof, and whether a proposition is authorised.
 mod authorised;
+mod cell;
 mod down;
 mod entry;
 mod held;
