@@ -6,6 +6,7 @@ pub mod SectionSteps
 pub mod Numbers
 pub mod Stages
 pub mod Demand
+pub mod RecordLaws
 pub mod Progress
 pub mod Inside
 pub mod Computed
