@@ -3,3 +3,4 @@ pub mod HeldLaws
 pub mod DownLaws
 pub mod AuthorisedLaws
 pub mod EntryLaws
+pub mod NumberedLaws

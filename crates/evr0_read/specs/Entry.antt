@@ -32,12 +32,23 @@ withRule r t =
       operation = r .operation;
     }
 
--- records that start at a place of the payload
+-- what is shown of an entry: the record, with its text at its place in the payload
+abbrev pub shownProposition : ℕ → Proposition → Proposition
+shownProposition start r = withKind r (placed start (r .kind))
+
+abbrev pub shownProof : ℕ → ProofRecord → ProofRecord
+shownProof start r = withRule r (placed start (r .rule))
+
+abbrev pub shown : {A B : Type 0} → (ℕ → A → B) → Entry A → Entry B
+shown f e = record { start = e .start; item = f (e .start) (e .item) }
+
+-- ---- From a record that was read
+
 abbrev pub placedProposition : ℕ → Sized Proposition → Proposition
-placedProposition start x = withKind (x .item) (placed start (x .item .kind))
+placedProposition start x = shownProposition start (x .item)
 
 abbrev pub placedProof : ℕ → Sized ProofRecord → ProofRecord
-placedProof start x = withRule (x .item) (placed start (x .item .rule))
+placedProof start x = shownProof start (x .item)
 
 abbrev pub placedWitness : ℕ → Sized WitnessRecord → WitnessRecord
 placedWitness start x = x .item
