@@ -52,7 +52,7 @@ module _ (rules : List Rule) (counts : Counts) where
       let f = checked-ok (hasNumbers (d .0) r) 21 0 _ (d .2) in
       rule-known _ rule (d .1 ∙ f .1)
 
-  proof-checked : (u : Unowned) (name : List ℕ) (r : ProofRecord) (rule : Rule) (at : ℕ) → checkProof rules counts u name r ≡ ok rule
+  pub proof-checked : (u : Unowned) (name : List ℕ) (r : ProofRecord) (rule : Rule) (at : ℕ) → checkProof rules counts u name r ≡ ok rule
       → GoodProof u (proofItem (record { start = at; item = record { proof = r; rule = rule } }))
   unfolding checkProof hasNumbers
   proof-checked u name r rule at e =

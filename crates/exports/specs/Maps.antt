@@ -29,14 +29,11 @@ kindAt k =
 abbrev pub refusalFrom : refusal.Refusal → Refusal
 refusalFrom r = record { kind = kindAt (r .kind); number = r .number; offset = r .offset }
 
-abbrev pub scannedFrom : Bool → Bool → ℕ → Scanned
-scannedFrom text control chars = cond text (scan.text chars control) scan.notUtf8
-
 abbrev pub scanFrom : scanned.Scanned → Scanned
-scanFrom s = scannedFrom (s .text) (s .control) (s .chars)
+scanFrom s = cond (eqb (s .answer) 0) scan.notUtf8 (scan.text (s .chars) (eqb (s .answer) 2))
 
 abbrev pub utf8From : utf8.Utf8 → Utf8
-utf8From u = cond (u .whole) (scan.whole (scannedFrom (u .text) (u .control) (u .chars)) (u .next)) scan.cut
+utf8From u = cond (u .whole) (scan.whole (cond (u .text) (scan.text (u .chars) (u .control)) scan.notUtf8) (u .next)) scan.cut
 
 -- an answer that was accepted, or else its refusal
 abbrev pub outFrom : {A : Type 0} → Bool → A → refusal.Refusal → Out A

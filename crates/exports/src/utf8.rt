@@ -6,11 +6,10 @@ ghost use Rattle.exports.specs.Maps.{scanFrom, utf8From};
 use local_format::utf8::read_utf8;
 use local_format::utf8::scan;
 
-// Whether the bytes are UTF-8, whether a control character is among them, and their number of characters.
+// 0: not UTF-8; 1: UTF-8 without control characters; 2: UTF-8 with one. And the number of characters.
 #[repr(C)]
 pub struct Scanned {
-    pub text: bool,
-    pub control: bool,
+    pub answer: u8,
     pub chars: usize,
 }
 
@@ -18,17 +17,19 @@ pub struct Scanned {
 pub extern "C" fn falgnust_scan(bytes: &[u8]) -> Scanned
     ensures { λ r. ⌜ scanFrom r ≡ scanOf (decode (now (bytes .entry))) ⌝ }
 {
-    let local_format::utf8::Scanned::Text { chars, control } = scan(bytes) else {
-        return Scanned {
-            text: false,
-            control: false,
+    let scanned = scan(bytes);
+    match scanned {
+        local_format::utf8::Scanned::Text { chars, control } => {
+            if control {
+                Scanned { answer: 2, chars }
+            } else {
+                Scanned { answer: 1, chars }
+            }
+        }
+        local_format::utf8::Scanned::NotUtf8 => Scanned {
+            answer: 0,
             chars: 0,
-        };
-    };
-    Scanned {
-        text: true,
-        control,
-        chars,
+        },
     }
 }
 

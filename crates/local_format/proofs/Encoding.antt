@@ -7,12 +7,13 @@ use native.Mathlib.Omega.{arith}
 use native.Mathlib.Decide.{decLe}
 use mathlib.Core.List.{List, [], _∷_, _++_}
 use mathlib.Core.Bool.{Bool, true, false, cond, _&&_}
-use borrow.Author.Tests.{eq-eqb, ne-eqb, le-leb, lt-leb, leb-true, eqb-true, eqb-false}
+use borrow.Author.Tests.{ne-eqb, le-leb, lt-leb, leb-true}
 use lib.Dec.{eqb, leb}
 use lib.ListN.{length, length-append}
-use Rattle.local_format.specs.Utf8.{Part, Step, char, more, bad, going, leadOf, laterOf, table, fresh, stepOf, Decoded, points, ill, onto, after, decode, decodeFrom}
+use Rattle.local_format.specs.Utf8.{Step, char, more, bad, going, leadOf, laterOf, table, stepOf, Decoded, points, ill, onto, after, decode, decodeFrom}
 use Rattle.local_format.specs.Encoding.{Scalar, Scalars, none, also, later, encode, encodings}
-use Rattle.local_format.proofs.Utf8Laws.{part, bounds, both, lead-1, lead-none, lead-2, lead-3, lead-4, lead-past}
+use Rattle.local_format.proofs.BoolLaws.{both}
+use Rattle.local_format.proofs.Utf8Laws.{part, bounds, lead-1, lead-none, lead-2, lead-3, lead-4, lead-past}
 
 -- ---- Steps
 never-ill : (cs : List ℕ) → ill ≡ points cs → ⊥

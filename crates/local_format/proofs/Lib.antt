@@ -1,3 +1,4 @@
+pub mod BoolLaws
 pub mod OutLaws
 pub mod FieldLaws
 pub mod TagLaws

@@ -3,14 +3,13 @@
 use mathlib.Core.Path.{_≡_, refl}
 use Prim.Native.Nat.{ℕ, zero, suc, _+_}
 use mathlib.Core.List.{List, [], _∷_, _++_, map}
-use mathlib.Core.Bool.{Bool, true, false}
+use mathlib.Core.Bool.{true, false}
 use Rattle.local_format.specs.Utf8.{Decoded, points, ill, decode, decodeFrom, stepOf, leadOf, laterOf, table, isControl, anyControl}
 use Rattle.local_format.specs.Encoding.{encode}
-use Rattle.local_format.specs.Scan.{Scanned, text, notUtf8, scanOf}
-use Rattle.local_format.specs.Refusal.{Kind, invalid, limit, strings, debug, ownership, added, among, kindOf}
-use Rattle.local_format.specs.Out.{Out, ok, refuse}
+use Rattle.local_format.specs.Refusal.{invalid, limit, strings, debug, ownership, added, among, kindOf}
+use Rattle.local_format.specs.Out.{ok, refuse}
 use Rattle.local_format.specs.Field.{le, fieldAt}
-use Rattle.local_format.specs.Text.{Span, textAt, decodeAt, stringAt}
+use Rattle.local_format.specs.Text.{textAt, decodeAt, stringAt}
 
 -- ---- Bytes and their code points, a row's first and last character on each side of its edges
 data Case : Type 0 where

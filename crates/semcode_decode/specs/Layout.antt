@@ -5,7 +5,7 @@ use mathlib.Core.Bool.{Bool}
 use lib.ListN.{length}
 use Rattle.local_format.specs.Out.{Out, ok, refused, _>>=_}
 use Rattle.semcode_records.specs.Records.{Entry, Table}
-use Rattle.semcode_decode.specs.Block.{Section, Block}
+use Rattle.semcode_decode.specs.Block.{Rooms, Section, Block}
 
 -- the result: three counts, whether each tag was found, and places in the block
 pub record Layout : Type 0 where
@@ -80,3 +80,9 @@ stringStarts x = starts (x >>= λ b. ok (b .strings))
 
 abbrev pub pathStarts : Out Block → List ℕ
 pathStarts x = starts (x >>= λ b. ok (b .ownership .table))
+
+-- ---- What is lent
+
+-- the lengths of two lent tables, and of a lent list of symbols
+abbrev pub roomsOf : List ℕ → ℕ → List ℕ → Rooms
+roomsOf strings symbols paths = record { strings = length strings; symbols = symbols; paths = length paths }

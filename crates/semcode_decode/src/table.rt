@@ -4,6 +4,9 @@ use local_format::field::read_u16_le;
 use local_format::refusal::Refusal;
 use local_format::refusal::refuse;
 use local_format::tag::tag_at;
+use local_format::text::Text;
+use local_format::text::read_string;
+use local_format::text::text_refusal;
 use semcode_records::path::Path;
 use semcode_records::path::path_refusal;
 use semcode_records::path::read_path;
@@ -17,10 +20,12 @@ ghost use Rattle.local_format.specs.Tag.{dbg0, own0};
 ghost use Rattle.semcode_records.specs.Records.{records};
 ghost use Rattle.semcode_records.specs.Symbol.{symbolAt};
 ghost use Rattle.semcode_records.specs.Path.{pathAt};
-ghost use Rattle.semcode_decode.specs.Block.{symbolTable, pathTable, sectionAt};
+ghost use Rattle.semcode_decode.specs.Block.{stringRecord, stringTable, symbolTable, pathTable, sectionAt};
 ghost use Rattle.semcode_decode.specs.Layout.{extent, tagged, starts, sectionStarts};
 ghost use Rattle.semcode_decode.specs.Front.{Front};
 ghost use Rattle.semcode_decode.specs.Maps.{tableOut, sectionOut};
+
+pub const MAX_STRINGS_PER_FUNCTION: u16 = 256;
 
 pub const MAX_DEBUG_SYMBOLS_PER_FUNCTION: u16 = 8192;
 
@@ -70,6 +75,61 @@ pub fn section_refusal(answer: Section) -> Refusal
             end: _,
         } => refuse(0, 0),
     }
+}
+
+// ---- The strings
+
+// So many strings from a place on, with their starts at the front of a table.
+fn fill_strings(bytes: &[u8], at: usize, count: u16, strings: &mut [u64]) -> Table
+    requires { ⌜ count ≤ length (now strings) ⌝ }
+    ensures { λ r. ⌜ tableOut r ≡ extent (records (stringRecord (now (bytes .entry))) count at) ⌝ }
+    ensures { λ r.
+        ⌜ Front (starts (records (stringRecord (now (bytes .entry))) count at)) (now (strings .exit)) ⌝ }
+{
+    let wanted = count as usize;
+    let mut cursor = at;
+    let mut i: usize = 0;
+    while i < wanted {
+        let answer = read_string(bytes, cursor);
+        let Text::Whole {
+            start: _,
+            len: _,
+            chars: _,
+            next,
+        } = answer
+        else {
+            return Table::Refused(text_refusal(answer));
+        };
+        strings[i] = cursor as u64;
+        cursor = next;
+        i += 1;
+    }
+    Table::Whole {
+        start: at,
+        count: wanted,
+        end: cursor,
+    }
+}
+
+// The count and the strings.
+pub fn string_table(bytes: &[u8], at: usize, strings: &mut [u64]) -> Table
+    ensures { λ r.
+        ⌜ tableOut r ≡ extent (stringTable (now (bytes .entry)) (length (now (strings .entry))) at) ⌝ }
+    ensures { λ r.
+        ⌜ Front (starts (stringTable (now (bytes .entry)) (length (now (strings .entry))) at))
+        (now (strings .exit)) ⌝ }
+{
+    let field = read_u16_le(bytes, at);
+    let U16::Value { value: count, next } = field else {
+        return Table::Refused(refuse(30, at));
+    };
+    if MAX_STRINGS_PER_FUNCTION < count {
+        return Table::Refused(refuse(31, next));
+    }
+    if strings.len() < count as usize {
+        return Table::Refused(refuse(61, next));
+    }
+    fill_strings(bytes, next, count, strings)
 }
 
 // ---- DBG0

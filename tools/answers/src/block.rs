@@ -1,11 +1,21 @@
 //! Function tables. Places are places in the block.
 
+/// The result: three counts, whether each tag was found, and places.
+#[derive(Debug, Clone, Copy, PartialEq, Eq)]
+pub struct Layout {
+    pub strings: usize,
+    pub strings_end: usize,
+    pub has_debug: bool,
+    pub symbols: usize,
+    pub symbols_start: usize,
+    pub has_ownership: bool,
+    pub paths: usize,
+    pub instructions: usize,
+}
+
 #[derive(Debug, Clone, PartialEq, Eq)]
 pub struct Block {
-    pub has_debug: bool,
-    pub has_ownership: bool,
-    pub strings_end: usize,
-    pub instructions: usize,
+    pub layout: Layout,
     /// The places of the strings' lengths, and the strings.
     pub string_starts: Vec<u64>,
     pub strings: Vec<String>,
@@ -17,7 +27,7 @@ pub struct Block {
 
 #[derive(Debug, Clone, Copy, PartialEq, Eq)]
 pub struct Symbol {
-    pub pc: u32,
+    pub pc: usize,
     pub line: u32,
     pub column: u16,
 }

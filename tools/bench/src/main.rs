@@ -1,5 +1,6 @@
 //! Times the Rust and the port on the same inputs, in one run of one driver, and checks that their results are equal in it.
 
+mod blocks;
 mod measure;
 mod rows;
 mod texts;
@@ -31,11 +32,11 @@ fn table(prefix: &str) {
     println!("| input | bytes | Rust ns | port ns | port / Rust | Rust MB/s | port MB/s |");
     println!("|---|---|---|---|---|---|---|");
     let mut worst: Option<(f64, String)> = None;
-    for mut row in rows::all() {
+    for row in rows::all() {
         if !row.name.starts_with(prefix) {
             continue;
         }
-        let m = measure(&mut row);
+        let m = measure(&row);
         print_row(&row, &m);
         if worst.as_ref().is_none_or(|(ratio, _)| *ratio < m.ratio()) {
             worst = Some((m.ratio(), row.name));
@@ -67,7 +68,7 @@ fn once(name: &str, side: &str, count: &str) {
         _ => panic!("a side is rust or port"),
     };
     let count: u64 = count.parse().expect("a number");
-    let mut row = rows::all()
+    let row = rows::all()
         .into_iter()
         .find(|row| row.name == name)
         .expect("a row's name");

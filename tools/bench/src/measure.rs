@@ -3,8 +3,8 @@
 use crate::rows::{Row, Side};
 use std::time::{Duration, Instant};
 
-const SAMPLES: usize = 15;
-const SAMPLE: Duration = Duration::from_millis(10);
+const SAMPLES: usize = 60;
+const SAMPLE: Duration = Duration::from_millis(3);
 
 /// Nanoseconds a call.
 pub struct Measured {
@@ -18,7 +18,7 @@ impl Measured {
     }
 }
 
-pub fn measure(row: &mut Row) -> Measured {
+pub fn measure(row: &Row) -> Measured {
     let count = calls(row);
     let mut best = Measured {
         rust: f64::INFINITY,
@@ -35,7 +35,7 @@ pub fn measure(row: &mut Row) -> Measured {
 }
 
 /// How many calls of the slower side fill a sample; both are warm then.
-fn calls(row: &mut Row) -> u64 {
+fn calls(row: &Row) -> u64 {
     let mut count = 1;
     loop {
         let longest = [Side::Rust, Side::Port]
@@ -50,7 +50,7 @@ fn calls(row: &mut Row) -> u64 {
 }
 
 /// Nanoseconds a call, and the sum of the summaries.
-fn sample(row: &mut Row, side: Side, count: u64) -> (f64, u64) {
+fn sample(row: &Row, side: Side, count: u64) -> (f64, u64) {
     let start = Instant::now();
     let sum = row.sum(side, count);
     (start.elapsed().as_nanos() as f64 / count as f64, sum)

@@ -8,27 +8,32 @@ pub enum Side {
     Port,
 }
 
-/// A summary of a side's result: equal results have equal summaries.
-pub type Call = Box<dyn FnMut() -> u64>;
+/// So many calls of a side; the sum of the summaries of their results.
+pub type Calls = Box<dyn Fn(u64) -> u64>;
 
 pub struct Row {
     pub name: String,
     pub bytes: usize,
-    pub rust: Call,
-    pub port: Call,
+    pub rust: Calls,
+    pub port: Calls,
 }
 
 impl Row {
-    /// The sum of the summaries of so many calls.
-    pub fn sum(&mut self, side: Side, count: u64) -> u64 {
-        let call = match side {
-            Side::Rust => &mut self.rust,
-            Side::Port => &mut self.port,
-        };
-        (0..count).fold(0u64, |sum, _| sum.wrapping_add(black_box(call())))
+    pub fn sum(&self, side: Side, count: u64) -> u64 {
+        match side {
+            Side::Rust => (self.rust)(count),
+            Side::Port => (self.port)(count),
+        }
     }
 }
 
+/// Calls that give a summary each: equal results have equal summaries.
+pub fn calls(call: impl Fn() -> u64 + 'static) -> Calls {
+    Box::new(move |count| (0..count).fold(0u64, |sum, _| sum.wrapping_add(black_box(call()))))
+}
+
 pub fn all() -> Vec<Row> {
-    crate::texts::rows()
+    let mut rows = crate::texts::rows();
+    rows.extend(crate::blocks::rows());
+    rows
 }

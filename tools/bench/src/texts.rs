@@ -1,6 +1,6 @@
 //! Text of 8, 64 and 4,096 bytes: the scan against `from_utf8` followed by `chars().any(char::is_control)`.
 
-use crate::rows::Row;
+use crate::rows::{Row, calls};
 use inputs::random::Random;
 use inputs::text::well_formed;
 use std::hint::black_box;
@@ -30,11 +30,11 @@ fn row(name: String, bytes: Vec<u8>) -> Row {
     Row {
         name,
         bytes: bytes.len(),
-        rust: Box::new(move || match std::str::from_utf8(black_box(&same)) {
+        rust: calls(move || match std::str::from_utf8(black_box(&same)) {
             Ok(text) => 1 + text.chars().any(char::is_control) as u64,
             Err(_) => 0,
         }),
-        port: Box::new(move || match port::utf8::scan(black_box(&bytes)) {
+        port: calls(move || match port::utf8::scan(black_box(&bytes)) {
             Some(scanned) => 1 + scanned.control as u64,
             None => 0,
         }),

@@ -1,14 +1,14 @@
 //! Blocks: every cut and byte change of small ones at each revision, faults one and two at once, limits, and large ones.
 
+use crate::block_compare;
 use crate::tally::Tally;
 use inputs::block::{self, Block, REVISIONS};
-use inputs::block_conditions::{accepted, condition};
-use inputs::cases::{self, BASES};
+use inputs::cases::{self, BASES, BlockCase};
 use inputs::random::Random;
 use inputs::text::Text;
 
 pub fn run(r: &mut Random, count: usize) -> Tally {
-    let mut tally = Tally::new("blocks, by the Rust alone");
+    let mut tally = Tally::new("blocks");
     for revision in REVISIONS {
         let small = block::each_form(r, revision);
         cuts(&mut tally, &small);
@@ -17,16 +17,21 @@ pub fn run(r: &mut Random, count: usize) -> Tally {
     large(&mut tally, r);
     for _ in 0..count {
         let case = cases::block(r);
-        compare(&mut tally, &case.code, case.base, case.revision);
+        block_compare::compare(&mut tally, &case);
     }
     tally
 }
 
-fn compare(tally: &mut Tally, bytes: &[u8], base: usize, revision: u16) {
-    match oracle::block::block(bytes, base, revision) {
-        Ok(_) => tally.input((0, accepted(revision))),
-        Err(refusal) => tally.input((refusal.number, condition(bytes, base, &refusal))),
-    }
+fn compare(tally: &mut Tally, code: &[u8], base: usize, revision: u16) {
+    let code = code.to_vec();
+    block_compare::compare(
+        tally,
+        &BlockCase {
+            code,
+            base,
+            revision,
+        },
+    );
 }
 
 fn cuts(tally: &mut Tally, block: &Block) {

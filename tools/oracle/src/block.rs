@@ -4,37 +4,54 @@ use crate::messages::of_block;
 use crate::section::starts;
 use crate::semcode_decode::{
     self, DecodedAccessPath, DecodedAccessPathComponent, DecodedBorrowActivation,
-    DecodedWriteExecution,
+    DecodedDebugSymbol, DecodedWriteExecution,
 };
 use answers::Answer;
-use answers::block::{Activation, Block, Component, Event, Execution, Path, Symbol};
+use answers::block::{Activation, Block, Component, Event, Execution, Layout, Path, Symbol};
 
 pub fn block(code: &[u8], base: usize, revision: u16) -> Answer<Block> {
     let parsed = semcode_decode::block(base, code, revision).map_err(of_block)?;
-    let (string_starts, mut at) = starts(2, parsed.strings.iter().map(|text| 2 + text.len()));
-    if parsed.has_debug_section {
-        at += 4 + 2 + 10 * parsed.debug_symbols.len();
-    }
-    if parsed.has_ownership_section {
-        at += 4 + 2;
-    }
-    let (path_starts, paths) = in_order(code, at, &parsed.borrowed_paths, &parsed.write_paths);
-    let symbols = parsed.debug_symbols.iter().map(|s| Symbol {
-        pc: s.pc as u32,
-        line: s.line,
-        column: s.col,
-    });
+    let (string_starts, strings_end) = starts(2, parsed.strings.iter().map(|text| 2 + text.len()));
+    let symbols_start = strings_end + if parsed.has_debug_section { 4 + 2 } else { 0 };
+    let debug_end = symbols_start + 10 * parsed.debug_symbols.len();
+    let paths_start = debug_end
+        + if parsed.has_ownership_section {
+            4 + 2
+        } else {
+            0
+        };
+    let (path_starts, paths) = in_order(
+        code,
+        paths_start,
+        &parsed.borrowed_paths,
+        &parsed.write_paths,
+    );
+    let symbols: Vec<Symbol> = parsed.debug_symbols.iter().map(symbol).collect();
     Ok(Block {
-        has_debug: parsed.has_debug_section,
-        has_ownership: parsed.has_ownership_section,
-        strings_end: parsed.string_table_end_offset,
-        instructions: parsed.instr_start_offset,
+        layout: Layout {
+            strings: parsed.strings.len(),
+            strings_end: parsed.string_table_end_offset,
+            has_debug: parsed.has_debug_section,
+            symbols: symbols.len(),
+            symbols_start,
+            has_ownership: parsed.has_ownership_section,
+            paths: paths.len(),
+            instructions: parsed.instr_start_offset,
+        },
         string_starts,
-        symbols: symbols.collect(),
         strings: parsed.strings,
+        symbols,
         path_starts,
         paths,
     })
+}
+
+fn symbol(s: &DecodedDebugSymbol) -> Symbol {
+    Symbol {
+        pc: s.pc,
+        line: s.line,
+        column: s.col,
+    }
 }
 
 /// The Rust's two lists as one: each path's event kind byte says which of the two has it.

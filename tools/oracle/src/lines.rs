@@ -48,13 +48,13 @@ pub fn block_line(bytes: &[u8], base: usize, revision: u16) -> Answer<String> {
     Ok(format!(
         "counts={},{},{} debug={} ownership={} strings_end={} instructions={} strings={} \
          symbols={} paths={}",
-        b.strings.len(),
-        b.symbols.len(),
-        b.paths.len(),
-        b.has_debug,
-        b.has_ownership,
-        b.strings_end,
-        b.instructions,
+        b.layout.strings,
+        b.layout.symbols,
+        b.layout.paths,
+        b.layout.has_debug,
+        b.layout.has_ownership,
+        b.layout.strings_end,
+        b.layout.instructions,
         list(strings.map(|(text, start)| format!("{start}:{}", hex(text.as_bytes())))),
         list(
             b.symbols

@@ -33,7 +33,7 @@ pub fn string(bytes: &[u8], at: usize) -> Answer<Span> {
             start: at + 2,
             len: block.strings[0].len(),
             chars: block.strings[0].chars().count(),
-            next: at + (block.strings_end - 2),
+            next: at + (block.layout.strings_end - 2),
         }),
         Err(refusal) => Err(Refusal {
             offset: at + (refusal.offset - 2),

@@ -2,8 +2,7 @@
 
 #[repr(C)]
 struct Scanned {
-    text: bool,
-    control: bool,
+    answer: u8,
     chars: usize,
 }
 
@@ -23,12 +22,11 @@ unsafe extern "C" {
 
 /// None where the bytes are not UTF-8.
 pub fn scan(bytes: &[u8]) -> Option<answers::text::Scanned> {
-    let Scanned {
-        text,
-        control,
+    let Scanned { answer, chars } = unsafe { falgnust_scan(bytes.as_ptr(), bytes.len()) };
+    (answer != 0).then_some(answers::text::Scanned {
         chars,
-    } = unsafe { falgnust_scan(bytes.as_ptr(), bytes.len()) };
-    text.then_some(answers::text::Scanned { chars, control })
+        control: answer == 2,
+    })
 }
 
 /// None where the bytes pass the end.
