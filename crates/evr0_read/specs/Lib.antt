@@ -1,1 +1,3 @@
 pub mod Ask
+pub mod Held
+pub mod Maps

@@ -1,1 +1,4 @@
-// Reading an accepted section.
+// Records of an evidence section by number, the way down from a proof, and whether a proposition is authorised.
+mod authorised;
+mod down;
+mod held;

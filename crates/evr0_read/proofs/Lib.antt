@@ -1,0 +1,4 @@
+pub mod FoundLaws
+pub mod HeldLaws
+pub mod DownLaws
+pub mod AuthorisedLaws
