@@ -1,8 +1,8 @@
 pub mod Maps
 pub mod Answer
-pub mod Front
 pub mod View
 pub mod PassMaps
 pub mod Payload
 pub mod PayloadMaps
 pub mod AnswerMaps
+pub mod Front

@@ -3,33 +3,17 @@ use Prim.Native.Nat.{ℕ, _+_, _-_, _≤_}
 use mathlib.Core.Path.{_≡_, refl, ap, sym, _∙_}
 use mathlib.Core.List.{List}
 use native.Mathlib.Omega.{arith}
-use lib.Dec.{leb, eqb}
+use lib.Dec.{eqb}
 use lib.ListN.{length}
 use borrow.Author.Tests.{leb-true, le-leb}
 use Rattle.local_format.specs.Refusal.{Refusal}
-use Rattle.local_format.specs.Out.{Out, ok, refused, check, _>>=_, _>>_}
-use Rattle.local_format.specs.Field.{Got}
+use Rattle.local_format.specs.Out.{Out, ok, refused, _>>=_, _>>_}
 use Rattle.local_format.specs.Text.{Span, sectionField, textAt}
 use Rattle.local_format.proofs.OutLaws.{ok-same, bind-ok, checked-ok, RefusesWithin, within-bind, within-check}
 use Rattle.local_format.proofs.FieldLaws.{field-ok, field-within}
 use Rattle.local_format.proofs.TextLaws.{text-ok, text-refused-within}
-use Rattle.evr0_section.specs.Head.{
-  Counts,
-  Counted,
-  Digest,
-  Head,
-  Room,
-  digestAt,
-  countsAt,
-  headOf,
-  listed,
-  countLimits,
-  withinLimits,
-  sizes,
-  hasRoom,
-  checkCounts,
-}
-use Rattle.evr0_head.specs.Posts.{Limited, checkedHead}
+use Rattle.evr0_section.specs.Head.{Counts, Counted, Head, Room, digestAt, countsAt, headOf, listed, countLimits, withinLimits, checkCounts}
+use Rattle.evr0_head.specs.Checks.{Limited, checkedHead}
 use Rattle.evr0_head.specs.Maps.{Beside, beside, headIn, headOut, headBeside}
 use Rattle.evr0_head.specs.declared.head.HeadAnswer.{HeadAnswer}
 use Rattle.evr0_head.specs.declared.head.HeadRead.{HeadRead}
@@ -185,7 +169,7 @@ module _ (room : Room) (p : List ℕ) where
       go (refused r) = refl
 
 -- ---- What the code's answer says of a head
-besides : {A : Type 0} (first second : A → List ℕ) (d : Out A) → beside first second d .answer ≡ d
+pub besides : {A : Type 0} (first second : A → List ℕ) (d : Out A) → beside first second d .answer ≡ d
 besides first second (ok a) = refl
 besides first second (refused r) = refl
 

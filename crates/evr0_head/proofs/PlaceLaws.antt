@@ -1,6 +1,6 @@
 -- What is left of a list from a place on says whether a field is there: reserved bytes and digests.
 use Prim.Native.Nat.{ℕ, _+_, _*_, _-_, _≤_, _<_}
-use mathlib.Core.Path.{_≡_, refl, sym, ap, _∙_}
+use mathlib.Core.Path.{_≡_, refl, ap, _∙_}
 use mathlib.Core.List.{List}
 use native.Mathlib.Omega.{arith}
 use native.Mathlib.Nat.{add-zero}
@@ -8,8 +8,8 @@ use lib.ListN.{length, getD, take, drop, length-drop}
 use borrow.Author.Tests.{le-leb, lt-leb, eq-eqb, ne-eqb}
 use lib.Dec.{eqb}
 use Rattle.local_format.specs.Refusal.{Refusal}
-use Rattle.local_format.specs.Out.{Out, ok, refused, refuse, check, _>>=_, _>>_}
-use Rattle.local_format.specs.Field.{Got, le, fieldAt}
+use Rattle.local_format.specs.Out.{Out, ok, refused, refuse}
+use Rattle.local_format.specs.Field.{le, fieldAt}
 use Rattle.local_format.specs.Text.{bytesAt, sectionField}
 use Rattle.local_format.proofs.OutLaws.{ok-same, bind-ok, checked-ok, RefusesWithin, within-bind, within-check}
 use Rattle.local_format.proofs.FieldLaws.{le-drop, field-ok, field-within}

@@ -1,12 +1,12 @@
 -- The tests of a proof.
 use Prim.Native.Nat.{ℕ, _+_}
-use mathlib.Core.Path.{_≡_, refl, sym, ap₂, _∙_}
+use mathlib.Core.Path.{_≡_, refl, sym, ap₂}
 use mathlib.Core.Bool.{Bool, true, false, _&&_}
-use lib.Dec.{eqb, leb}
+use lib.Dec.{leb}
 use borrow.Author.Tests.{eqb-true}
 use Rattle.evr0_section.specs.Head.{Counts}
 use Rattle.evr0_section.specs.Proof.{ProofRecord, Unowned}
-use Rattle.evr0_records.specs.Tests.{isContiguous, endsWithin}
+use Rattle.evr0_records.specs.Checks.{isContiguous, endsWithin}
 
 both : (a b : Bool) → (a && b) ≡ true → (a ≡ true) × (b ≡ true)
 both true b e = (refl, e)

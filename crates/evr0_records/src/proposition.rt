@@ -2,7 +2,8 @@
 ghost use mathlib.Core.Path.{_≡_};
 ghost use Rattle.local_format.specs.Out.{refuse};
 ghost use Rattle.evr0_section.specs.Proposition.{propositionOf, compareKeys, isLess, keyOf};
-ghost use Rattle.evr0_records.specs.Maps.{propositionRecord, propositionOut};
+ghost use Rattle.evr0_section.specs.Proposition as of;
+ghost use Rattle.evr0_records.specs.Maps.{propositionRecord, propositionOut, beforeOut};
 use crate::order::and_then;
 use crate::order::is_less;
 use evr0_head::span::Span;
@@ -23,6 +24,12 @@ pub enum PropositionRead {
         size: usize,
     },
     Refused(Refusal),
+}
+
+// The proposition before, if there is one.
+pub enum Before {
+    First,
+    After(Proposition),
 }
 
 fn cut(at: usize) -> PropositionRead
@@ -85,19 +92,29 @@ pub fn read_proposition(tail: &[u8]) -> PropositionRead
     }
 }
 
-// Whether the proposition `a` at the front of `before` comes before the proposition `b` at the front of `tail`: by kind's bytes, then owner,
+// Whether the proposition `a` at the front of `part` comes before the proposition `b` at the front of `tail`: by kind's bytes, then owner,
 // scope, type.
-pub fn precedes(before: &[u8], a: Proposition, tail: &[u8], b: Proposition) -> bool
-    ensures { λ r. ⌜ r ≡ isLess (compareKeys (keyOf (now (before .entry)) (propositionRecord a)) (keyOf (now (tail .entry)) (propositionRecord b))) ⌝ }
+pub fn precedes(part: &[u8], a: Proposition, tail: &[u8], b: Proposition) -> bool
+    ensures { λ r. ⌜ r ≡ isLess (compareKeys (keyOf (now (part .entry)) (propositionRecord a)) (keyOf (now (tail .entry)) (propositionRecord b))) ⌝ }
 {
     let a_kind = a.kind;
     let b_kind = b.kind;
     let kinds = crate::order::compare_bytes(
-        evr0_head::span::bytes_of(before, a_kind),
+        evr0_head::span::bytes_of(part, a_kind),
         evr0_head::span::bytes_of(tail, b_kind),
     );
     let owners = crate::order::compare(a.ast_owner_id, b.ast_owner_id);
     let scopes = crate::order::compare(a.semantic_scope_id, b.semantic_scope_id);
     let types = crate::order::compare(a.type_obligation_id, b.type_obligation_id);
     is_less(and_then(kinds, and_then(owners, and_then(scopes, types))))
+}
+
+// Whether a proposition comes after the one before, which is at the front of `part`, if there is one.
+pub fn rises(previous: Before, part: &[u8], tail: &[u8], proposition: Proposition) -> bool
+    ensures { λ r. ⌜ r ≡ of.rises (beforeOut previous (now (part .entry))) (keyOf (now (tail .entry)) (propositionRecord proposition)) ⌝ }
+{
+    match previous {
+        Before::First => true,
+        Before::After(last) => precedes(part, last, tail, proposition),
+    }
 }

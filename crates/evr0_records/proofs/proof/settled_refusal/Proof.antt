@@ -1,0 +1,20 @@
+-- The refusal is the one that the answer holds.
+use borrow.Author.Needs.{needs}
+use Rattle.evr0_records.proofs.proof.settled_refusal.Statement.{statement}
+use Rattle.evr0_records.proofs.proof.settled_refusal.Tie as tie
+
+returns : tie.Need-returns
+returns c = rw (c .before .settled .given .1)
+
+returns-2 : tie.Need-returns-2
+returns-2 c = rw (c .refuse .ensures, c .before .enum-told .given .1)
+
+pub settled-refusal-spec : {M : Type 1} → statement M
+settled-refusal-spec =
+    tie.close
+    (tie.spec
+    (λ c. search needs)
+    (λ c. search needs)
+    (λ c κs. search needs)
+    returns
+    returns-2)
