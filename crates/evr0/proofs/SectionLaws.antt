@@ -15,7 +15,7 @@ use Rattle.evr0_section.specs.Proposition.{Proposition, Before, first, proposit
 use Rattle.evr0_section.specs.Proof.{Settled, Unowned, proofRow}
 use Rattle.evr0_section.specs.Witness.{WitnessRecord, witnessRow, parentRow}
 use Rattle.evr0_section.specs.Section.{Tables, Section, sectionOf, tablesOf, sectionIn}
-use Rattle.evr0_head.specs.Posts.{checkedHead}
+use Rattle.evr0_head.specs.Checks.{checkedHead}
 use Rattle.evr0.specs.Maps.{noneOwned}
 use Rattle.evr0.specs.Payload.{Rest, Four, restAfter, tablesAfter}
 

@@ -6,8 +6,8 @@ use Rattle.local_format.specs.Out.{Out, ok, refused, _>>=_}
 use Rattle.evr0_section.specs.Head.{Counts, Head, Room}
 use Rattle.evr0_section.specs.Section.{Section}
 use Rattle.evr0_head.specs.Maps.{zeros}
-use Rattle.evr0_head.specs.Posts.{checkedHead}
-use Rattle.evr0.specs.Maps.{startsOf}
+use Rattle.evr0_head.specs.Checks.{checkedHead}
+pub use Rattle.evr0.specs.Maps.{startsOf}
 
 -- the lengths of the lent tables: proposition starts, proof starts, depths
 abbrev pub roomOf : ℕ → ℕ → ℕ → Room
