@@ -8,3 +8,4 @@ pub mod CheckLaws
 pub mod TableLaws
 pub mod RowLaws
 pub mod ParentLaws
+pub mod AnswerLaws

@@ -7,6 +7,7 @@ use lib.Dec.{eqb}
 use lib.ListN.{length}
 use Rattle.local_format.specs.Refusal.{Refusal}
 use Rattle.local_format.specs.Out.{Out, ok, refused, refuse, check, _>>=_, _>>_}
+use Rattle.local_format.proofs.OutLaws.{bind-ok, ok-same}
 use Rattle.derivation.specs.Rule.{Rule}
 use Rattle.derivation.specs.Pass.{depths}
 use Rattle.evr0_section.specs.Rows.{Rows, rows}
@@ -120,3 +121,14 @@ module _ (rules : List Rule) (room : Room) (p : List ℕ) where
             → sectionIn rules room p cursor ≡ ok (record { tables = whole h f; depths = ds; cursor = cursor })
         unfolding sectionIn
         accepted ds e = rw (tables-are, e)
+
+      -- an accepted section has this head
+      pub accepted-head : (s : Section) → sectionIn rules room p cursor ≡ ok s → (s .tables .head ≡ h) × (s .cursor ≡ cursor)
+      unfolding sectionIn
+      accepted-head s e =
+          let a = bind-ok (tablesOf rules room p) _ e in
+          let b = bind-ok (depths (a .0 .witnesses .next) (sectionOf (a .0))) _ (a .2) in
+          let q : record { tables = a .0; depths = b .0; cursor = cursor } ≡ s = ok-same (b .2) in
+          let k = bind-ok (tablesAfter rules (h .counts) p (h .next)) _ (rw eh at (sym tables-steps ∙ a .1)) in
+          let w : whole h (k .0) ≡ a .0 = ok-same (k .2) in
+          (ap (λ (x : Section). x .tables .head) (sym q) ∙ ap (λ (x : Tables). x .head) (sym w), ap (λ (x : Section). x .cursor) (sym q))

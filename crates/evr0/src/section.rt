@@ -1,8 +1,9 @@
 // Evidence sections.
 ghost use mathlib.Core.Path.{_≡_};
-ghost use Prim.Native.Nat.{ℕ};
+ghost use Prim.Native.Nat.{ℕ, _+_, _≤_};
 ghost use lib.ListN.{length};
-ghost use Rattle.local_format.specs.Out.{refused};
+ghost use Rattle.local_format.specs.Out.{refused, moved};
+ghost use Rattle.local_format.specs.Text.{bytesAt};
 ghost use Rattle.local_format.specs.Maps.{refusalOut};
 ghost use Rattle.lent_table.specs.Lent.{lent};
 ghost use Rattle.derivation.specs.Rule.{fourRules};
@@ -11,7 +12,7 @@ ghost use Rattle.evr0_section.specs.Demand.{Demand3};
 ghost use Rattle.evr0_head.specs.Maps.{countsOut, checkedOut};
 ghost use Rattle.evr0.specs.Front.{Front};
 ghost use Rattle.evr0.specs.Answer.{roomOf, HeadThere, answerOf, passedIn, propositionStarts, proofStarts, proofDepths};
-ghost use Rattle.evr0.specs.AnswerMaps.{answerOut};
+ghost use Rattle.evr0.specs.AnswerMaps.{acceptedOut, headOutcome, answerOut};
 
 use crate::frame::Frame;
 use crate::pass::Layout;
@@ -56,7 +57,7 @@ fn refused_section(refusal: Refusal, cursor: usize) -> DecodedEvr0
 }
 
 fn accept(head: Head) -> Accepted
-    ensures { λ r. ⌜ (r .epoch ≡ head .epoch) × (r .«policy_namespace» ≡ head .«policy_at») × (r .«issuer_namespace» ≡ head .«issuer_at») × (r .counts ≡ head .counts) ⌝ }
+    ensures { λ r. ⌜ acceptedOut r ≡ headOutcome head ⌝ }
 {
     let counts = head.counts;
     Accepted {
@@ -140,5 +141,67 @@ fn decode_payload(
                 }
             }
         }
+    }
+}
+
+// The section whose payload starts at `start` and is `len` bytes long.
+fn decode_at(
+    bytes: &[u8],
+    start: usize,
+    len: usize,
+    cursor: usize,
+    propositions: &mut [u64],
+    proofs: &mut [u64],
+    depths: &mut [u64],
+) -> DecodedEvr0
+    requires { ⌜ start + len ≤ length (now bytes) ⌝ }
+    ensures { λ r. ⌜ answerOut r ≡ answerOf cursor (moved start (sectionIn fourRules (roomOf (length (now (propositions .entry))) (length (now (proofs .entry))) (length (now (depths .entry)))) (bytesAt (now (bytes .entry)) start len) (start + len))) ⌝ }
+    ensures { λ r. ⌜ now (propositions .exit) ≡ lent (length (now (propositions .entry))) (propositionStarts (moved start (sectionIn fourRules (roomOf (length (now (propositions .entry))) (length (now (proofs .entry))) (length (now (depths .entry)))) (bytesAt (now (bytes .entry)) start len) (start + len)))) ⌝ }
+    ensures { λ r. ⌜ now (proofs .exit) ≡ lent (length (now (proofs .entry))) (proofStarts (moved start (sectionIn fourRules (roomOf (length (now (propositions .entry))) (length (now (proofs .entry))) (length (now (depths .entry)))) (bytesAt (now (bytes .entry)) start len) (start + len)))) ⌝ }
+    ensures { λ r. ⌜ now (depths .exit) ≡ lent (length (now (depths .entry))) (proofDepths (moved start (sectionIn fourRules (roomOf (length (now (propositions .entry))) (length (now (proofs .entry))) (length (now (depths .entry)))) (bytesAt (now (bytes .entry)) start len) (start + len)))) ⌝ }
+{
+    let end = start + len;
+    let read = decode_payload(&bytes[start..end], end, cursor, propositions, proofs, depths);
+    let outcome = read.outcome;
+    match outcome {
+        Outcome::Refused(refusal) => {
+            lent_table::clear(propositions);
+            lent_table::clear(proofs);
+            lent_table::clear(depths);
+            refused_section(crate::tables::moved(refusal, start), cursor)
+        }
+        Outcome::Accepted(given) => {
+            let counts = given.counts;
+            lent_table::clear_from(propositions, counts.propositions);
+            lent_table::clear_from(proofs, counts.proofs);
+            lent_table::clear_from(depths, counts.proofs);
+            read
+        }
+    }
+}
+
+// Decodes the section at `cursor`. Each lent table is filled to its count and has zeros past it; a refusal leaves zeros in all three.
+pub fn decode_evr0_section(
+    bytes: &[u8],
+    cursor: usize,
+    propositions: &mut [u64],
+    proofs: &mut [u64],
+    depths: &mut [u64],
+) -> DecodedEvr0
+    ensures answer { λ r. ⌜ answerOut r ≡ answerOf cursor (decodeSection (roomOf (length (now (propositions .entry))) (length (now (proofs .entry))) (length (now (depths .entry)))) (now (bytes .entry)) cursor) ⌝ }
+    ensures propositions { λ r. ⌜ now (propositions .exit) ≡ lent (length (now (propositions .entry))) (propositionStarts (decodeSection (roomOf (length (now (propositions .entry))) (length (now (proofs .entry))) (length (now (depths .entry)))) (now (bytes .entry)) cursor)) ⌝ }
+    ensures proofs { λ r. ⌜ now (proofs .exit) ≡ lent (length (now (proofs .entry))) (proofStarts (decodeSection (roomOf (length (now (propositions .entry))) (length (now (proofs .entry))) (length (now (depths .entry)))) (now (bytes .entry)) cursor)) ⌝ }
+    ensures depths { λ r. ⌜ now (depths .exit) ≡ lent (length (now (depths .entry))) (proofDepths (decodeSection (roomOf (length (now (propositions .entry))) (length (now (proofs .entry))) (length (now (depths .entry)))) (now (bytes .entry)) cursor)) ⌝ }
+    ensures demand_3 { λ r. ⌜ Demand3 fourRules (roomOf (length (now (propositions .entry))) (length (now (proofs .entry))) (length (now (depths .entry)))) (now (bytes .entry)) cursor ⌝ }
+{
+    let frame = crate::frame::read_frame(bytes, cursor);
+    match frame {
+        Frame::Refused(refusal) => {
+            lent_table::clear(propositions);
+            lent_table::clear(proofs);
+            lent_table::clear(depths);
+            refused_section(refusal, cursor)
+        }
+        Frame::Payload { start, len } => decode_at(bytes, start, len, cursor, propositions, proofs, depths),
     }
 }

@@ -1,104 +1,79 @@
+-- Meets its contract: the head is read, then the tables and depths, by `SectionLaws` and `AnswerLaws`.
 use borrow.Author.Needs.{needs}
+use Prim.Native.Nat.{ℕ}
+use mathlib.Core.Path.{_≡_, refl, sym, ap, _∙_}
+use lib.ListN.{length}
+use Rattle.local_format.specs.Out.{Out, ok, refused}
+use Rattle.local_format.specs.Maps.{refusalOut}
+use Rattle.local_format.proofs.OutLaws.{told}
+use Rattle.derivation.specs.Rule.{fourRules}
+use Rattle.evr0_section.specs.Head.{Head}
+use Rattle.evr0_section.specs.Section.{Section, sectionIn}
+use Rattle.evr0_head.specs.Maps.{headRecord, headIn, checkedOut}
+use Rattle.evr0_head.specs.Checks.{checkedHead}
+use Rattle.evr0.specs.Answer.{roomOf, Accepted, Answer, answerOf}
+use Rattle.evr0.proofs.RowLaws.{answered}
+use Rattle.evr0.proofs.SectionLaws.{no-head, accepted-head}
+use Rattle.evr0.proofs.AnswerLaws.{passed, not-passed, answered-with}
 use Rattle.evr0.proofs.section.decode_payload.Statement.{statement}
 use Rattle.evr0.proofs.section.decode_payload.Tie as tie
-use Rattle.evr0.proofs.section.decode_payload.Reads as reads
-use Rattle.evr0.proofs.section.decode_payload.Lts as lts
-use Rattle.evr0.proofs.section.accept.Reads as accept-reads
-use Rattle.evr0.proofs.section.check_tables.Reads as check-tables-reads
-use Rattle.evr0.proofs.section.refused_section.Reads as refused-section-reads
-use Rattle.evr0_head.proofs.head.read_checked_head.Reads as read-checked-head-reads
 
--- src/section.rt:122:9
-read-checked-head-requires : tie.Need-read-checked-head-requires
-read-checked-head-requires c κs = search needs
+head-read : (c : tie.After-answer2)
+    → checkedHead (roomOf (length (c .before .before .before .before .before .before .before .args .propositions .now)) (length (c .before .before .before .before .before .before .before .args .proofs .now)) (length (c .before .before .before .before .before .before .before .args .depths .now))) (c .before .before .before .before .before .before .before .args .payload .now) ≡ ok (headRecord (c .before .before .read-checked-head .result .«source_set») (c .before .before .read-checked-head .result .«compiler_contract») (c .answer2 .given .0 .0))
+head-read c =
+    sym (answered (λ h. h .sourceSet) (λ h. h .compilerContract) (checkedHead (roomOf (length (c .before .before .before .before .before .before .before .args .propositions .now)) (length (c .before .before .before .before .before .before .before .args .proofs .now)) (length (c .before .before .before .before .before .before .before .args .depths .now))) (c .before .before .before .before .before .before .before .args .payload .now)) (c .before .before .read-checked-head .ensures))
+    ∙ ap (headIn (c .before .before .read-checked-head .result .«source_set») (c .before .before .read-checked-head .result .«compiler_contract»)) (c .answer2 .given .1)
 
--- src/section.rt:125:29
-enum-known-answer : tie.Need-enum-known-answer
-enum-known-answer c = search needs
+head-refused : (c : tie.After-answer)
+    → checkedHead (roomOf (length (c .before .before .before .before .before .before .before .args .propositions .now)) (length (c .before .before .before .before .before .before .before .args .proofs .now)) (length (c .before .before .before .before .before .before .before .args .depths .now))) (c .before .before .before .before .before .before .before .args .payload .now) ≡ refused (refusalOut (c .answer .given .0 .0))
+head-refused c =
+    sym (answered (λ h. h .sourceSet) (λ h. h .compilerContract) (checkedHead (roomOf (length (c .before .before .before .before .before .before .before .args .propositions .now)) (length (c .before .before .before .before .before .before .before .args .proofs .now)) (length (c .before .before .before .before .before .before .before .args .depths .now))) (c .before .before .before .before .before .before .before .args .payload .now)) (c .before .before .read-checked-head .ensures))
+    ∙ ap (headIn (c .before .before .read-checked-head .result .«source_set») (c .before .before .read-checked-head .result .«compiler_contract»)) (c .answer .given .1)
 
--- src/section.rt:125:41
-refused-section-requires : tie.Need-refused-section-requires
-refused-section-requires c κs = search needs
-
--- src/section.rt:126:26
-enum-known-answer-2 : tie.Need-enum-known-answer-2
-enum-known-answer-2 c = search needs
-
--- src/section.rt:128:17
 check-tables-requires : tie.Need-check-tables-requires
-check-tables-requires c κs = ?
+check-tables-requires c κs = record { head = _; read = head-read (c .before .before .before .before .before); same = refl; next = refl }
 
--- src/section.rt:130:34
-enum-known-checked : tie.Need-enum-known-checked
-enum-known-checked c = search needs
-
--- src/section.rt:130:46
-refused-section-requires-2 : tie.Need-refused-section-requires-2
-refused-section-requires-2 c κs = search needs
-
--- src/section.rt:132:25
-enum-told : tie.Need-enum-told
-enum-told c = search needs
-
--- src/section.rt:138:52
-accept-requires : tie.Need-accept-requires
-accept-requires c κs = search needs
-
--- src/section.rt:104:1
 returns : tie.Need-returns
-returns c = ?
+returns c =
+    let x : sectionIn fourRules (roomOf (length (c .before .before .before .before .before .before .before .before .before .args .propositions .now)) (length (c .before .before .before .before .before .before .before .before .before .args .proofs .now)) (length (c .before .before .before .before .before .before .before .before .before .args .depths .now))) (c .before .before .before .before .before .before .before .before .before .args .payload .now) (c .before .before .before .before .before .before .before .before .before .args .end) ≡ refused (refusalOut (c .before .before .answer .given .0 .0)) = no-head fourRules _ _ _ _ (head-refused (c .before .before)) in
+    (c .refused-section .ensures ∙ sym (ap (answerOf (c .before .before .before .before .before .before .before .before .before .args .cursor)) x), (rw x, (rw x, rw x)))
 
--- src/section.rt:104:1
-same-length : tie.Need-same-length
-same-length c = search needs
-
--- src/section.rt:104:1
-same-length-2 : tie.Need-same-length-2
-same-length-2 c = search needs
-
--- src/section.rt:104:1
-same-length-3 : tie.Need-same-length-3
-same-length-3 c = search needs
-
--- src/section.rt:104:1
 returns-2 : tie.Need-returns-2
-returns-2 c = ?
+returns-2 c =
+    let k = c .before .before .before .before .before .before .before .before .before .before .check-tables .ensures in
+    let x : sectionIn fourRules (roomOf (length (c .before .before .before .before .before .before .before .before .before .before .before .before .before .before .before .before .before .before .before .before .before .before .before .args .propositions .now)) (length (c .before .before .before .before .before .before .before .before .before .before .before .before .before .before .before .before .before .before .before .before .before .before .before .args .proofs .now)) (length (c .before .before .before .before .before .before .before .before .before .before .before .before .before .before .before .before .before .before .before .before .before .before .before .args .depths .now))) (c .before .before .before .before .before .before .before .before .before .before .before .before .before .before .before .before .before .before .before .before .before .before .before .args .payload .now) (c .before .before .before .before .before .before .before .before .before .before .before .before .before .before .before .before .before .before .before .before .before .before .before .args .end) ≡ refused (refusalOut (c .before .before .checked .given .0 .0)) = not-passed _ _ (told checkedOut (k .0 (c .before .before .before .before .before .before .before .before .before .before .before .before .before .before .before .before .before .before .before .before .before .before .before .args .end)) (c .before .before .checked .given .1)) in
+    (c .refused-section2 .ensures ∙ sym (ap (answerOf (c .before .before .before .before .before .before .before .before .before .before .before .before .before .before .before .before .before .before .before .before .before .before .before .args .cursor)) x), (k .1 .0 (c .before .before .before .before .before .before .before .before .before .before .before .before .before .before .before .before .before .before .before .before .before .before .before .args .end), (k .1 .1 .0 (c .before .before .before .before .before .before .before .before .before .before .before .before .before .before .before .before .before .before .before .before .before .before .before .args .end), k .1 .1 .1 (c .before .before .before .before .before .before .before .before .before .before .before .before .before .before .before .before .before .before .before .before .before .before .before .args .end))))
 
--- src/section.rt:104:1
-same-length-4 : tie.Need-same-length-4
-same-length-4 c = search needs
-
--- src/section.rt:104:1
-same-length-5 : tie.Need-same-length-5
-same-length-5 c = search needs
-
--- src/section.rt:104:1
-same-length-6 : tie.Need-same-length-6
-same-length-6 c = search needs
-
--- src/section.rt:104:1
 returns-3 : tie.Need-returns-3
-returns-3 c = ?
+returns-3 c =
+    let k = c .before .before .before .before .before .before .before .before .before .before .before .check-tables .ensures in
+    let h = head-read (c .before .before .before .before .before .before .before .before .before .before .before .before .before .before .before .before .before) in
+    let s = passed (sectionIn fourRules (roomOf (length (c .before .before .before .before .before .before .before .before .before .before .before .before .before .before .before .before .before .before .before .before .before .before .before .before .args .propositions .now)) (length (c .before .before .before .before .before .before .before .before .before .before .before .before .before .before .before .before .before .before .before .before .before .before .before .before .args .proofs .now)) (length (c .before .before .before .before .before .before .before .before .before .before .before .before .before .before .before .before .before .before .before .before .before .before .before .before .args .depths .now))) (c .before .before .before .before .before .before .before .before .before .before .before .before .before .before .before .before .before .before .before .before .before .before .before .before .args .payload .now) (c .before .before .before .before .before .before .before .before .before .before .before .before .before .before .before .before .before .before .before .before .before .before .before .before .args .end)) (told checkedOut (k .0 (c .before .before .before .before .before .before .before .before .before .before .before .before .before .before .before .before .before .before .before .before .before .before .before .before .args .end)) (c .before .before .before .enum-told .given .1)) in
+    let a = accepted-head fourRules _ _ (c .before .before .before .before .before .before .before .before .before .before .before .before .before .before .before .before .before .before .before .before .before .before .before .before .args .end) _ h (s .0) (s .1) in
+    (
+      ap (λ (x : Accepted). record { sourceSet = c .before .before .before .before .before .before .before .before .before .before .before .before .before .before .before .before .before .before .before .read-checked-head .result .«source_set»; compilerContract = c .before .before .before .before .before .before .before .before .before .before .before .before .before .before .before .before .before .before .before .read-checked-head .result .«compiler_contract»; cursor = c .before .before .before .before .before .before .before .before .before .before .before .before .before .before .before .before .before .before .before .before .before .before .before .before .args .end; outcome = ok x }) (c .accept .ensures) ∙ answered-with _ (s .0) _ (c .before .before .before .before .before .before .before .before .before .before .before .before .before .before .before .before .before .before .before .before .before .before .before .before .args .cursor) (c .before .before .before .before .before .before .before .before .before .before .before .before .before .before .before .before .before .before .before .before .before .before .before .before .args .end) (s .1) (a .0) (a .1),
+      (k .1 .0 (c .before .before .before .before .before .before .before .before .before .before .before .before .before .before .before .before .before .before .before .before .before .before .before .before .args .end), (k .1 .1 .0 (c .before .before .before .before .before .before .before .before .before .before .before .before .before .before .before .before .before .before .before .before .before .before .before .before .args .end), k .1 .1 .1 (c .before .before .before .before .before .before .before .before .before .before .before .before .before .before .before .before .before .before .before .before .before .before .before .before .args .end))),
+    )
 
 pub decode-payload-spec : {M : Type 1} → statement M
 decode-payload-spec =
     tie.close
     (tie.spec
-    read-checked-head-requires
-    enum-known-answer
-    refused-section-requires
-    enum-known-answer-2
+    (λ c κs. search needs)
+    (λ c. search needs)
+    (λ c κs. search needs)
+    (λ c. search needs)
     check-tables-requires
-    enum-known-checked
-    refused-section-requires-2
-    enum-told
-    accept-requires
+    (λ c. search needs)
+    (λ c κs. search needs)
+    (λ c. search needs)
+    (λ c κs. search needs)
     returns
-    same-length
-    same-length-2
-    same-length-3
+    (λ c. search needs)
+    (λ c. search needs)
+    (λ c. search needs)
     returns-2
-    same-length-4
-    same-length-5
-    same-length-6
+    (λ c. search needs)
+    (λ c. search needs)
+    (λ c. search needs)
     returns-3)
