@@ -9,3 +9,4 @@ pub mod TableLaws
 pub mod RowLaws
 pub mod ParentLaws
 pub mod AnswerLaws
+pub mod DecodeLaws

@@ -11,7 +11,6 @@ ghost use Rattle.evr0.specs.Front.{Front};
 ghost use Rattle.evr0.specs.Maps.{tableOut, proofTableOut};
 ghost use Rattle.evr0.specs.Payload.{restAfter, tablesAfter};
 ghost use Rattle.evr0.specs.PayloadMaps.{parentsIn, placesIn, placesOut, propositionStartsIn, proofStartsIn};
-
 use crate::tables::ProofTable;
 use crate::tables::Table;
 use evr0_head::counts::Counts;

@@ -13,7 +13,6 @@ ghost use Rattle.evr0_head.specs.Maps.{countsOut, checkedOut};
 ghost use Rattle.evr0.specs.Front.{Front};
 ghost use Rattle.evr0.specs.Answer.{roomOf, HeadThere, answerOf, passedIn, propositionStarts, proofStarts, proofDepths};
 ghost use Rattle.evr0.specs.AnswerMaps.{acceptedOut, headOutcome, answerOut};
-
 use crate::frame::Frame;
 use crate::pass::Layout;
 use crate::payload::Places;
@@ -161,7 +160,14 @@ fn decode_at(
     ensures { λ r. ⌜ now (depths .exit) ≡ lent (length (now (depths .entry))) (proofDepths (moved start (sectionIn fourRules (roomOf (length (now (propositions .entry))) (length (now (proofs .entry))) (length (now (depths .entry)))) (bytesAt (now (bytes .entry)) start len) (start + len)))) ⌝ }
 {
     let end = start + len;
-    let read = decode_payload(&bytes[start..end], end, cursor, propositions, proofs, depths);
+    let read = decode_payload(
+        &bytes[start..end],
+        end,
+        cursor,
+        propositions,
+        proofs,
+        depths,
+    );
     let outcome = read.outcome;
     match outcome {
         Outcome::Refused(refusal) => {
@@ -202,6 +208,14 @@ pub fn decode_evr0_section(
             lent_table::clear(depths);
             refused_section(refusal, cursor)
         }
-        Frame::Payload { start, len } => decode_at(bytes, start, len, cursor, propositions, proofs, depths),
+        Frame::Payload { start, len } => decode_at(
+            bytes,
+            start,
+            len,
+            cursor,
+            propositions,
+            proofs,
+            depths,
+        ),
     }
 }

@@ -1,130 +1,86 @@
+-- Meets its contract: what the payload's section is, moved to its place in the file, by `DecodeLaws`.
 use borrow.Author.Needs.{needs}
+use Prim.Native.Nat.{ℕ, _+_, _-_, _≤_}
+use mathlib.Core.Path.{_≡_, sym, ap, _∙_}
+use mathlib.Core.List.{[]}
+use native.Mathlib.Omega.{arith}
+use lib.ListN.{length, take, drop, length-take, length-drop}
+use Rattle.local_format.specs.Refusal.{Refusal}
+use Rattle.local_format.specs.Out.{Out, refused}
+use Rattle.lent_table.specs.Lent.{lent}
+use Rattle.evr0_section.specs.Head.{Counts}
+use Rattle.evr0_section.specs.Section.{Section}
+use Rattle.evr0.specs.Answer.{roomOf, answerOf, propositionStarts, proofStarts, proofDepths}
+use Rattle.evr0.specs.AnswerMaps.{outcomeOut}
+use Rattle.evr0.proofs.DecodeLaws.{same-part, refusal-within, moved-refused, Given, moved-accepted, front-lent}
 use Rattle.evr0.proofs.section.decode_at.Statement.{statement}
 use Rattle.evr0.proofs.section.decode_at.Tie as tie
-use Rattle.evr0.proofs.section.decode_at.Reads as reads
-use Rattle.evr0.proofs.section.decode_at.Lts as lts
-use Rattle.evr0.proofs.section.decode_payload.Reads as decode-payload-reads
-use Rattle.evr0.proofs.section.refused_section.Reads as refused-section-reads
-use Rattle.evr0.proofs.tables.moved.Reads as moved-reads
-use Rattle.lent_table.proofs.clear.Reads as clear-reads
-use Rattle.lent_table.proofs.clear_from.Reads as clear-from-reads
 
--- src/section.rt:163:15
-add-end : tie.Need-add-end
-add-end c = search needs
+end-fits : (c : tie.Start) → c .args .start + c .args .len ≤ 18446744073709551615
+end-fits c = omega arith
 
--- src/section.rt:164:31
-sub-decode-payload : tie.Need-sub-decode-payload
-sub-decode-payload c = search needs
-
--- src/section.rt:164:31
-part-decode-payload-start : tie.Need-part-decode-payload-start
-part-decode-payload-start c = search needs
-
--- src/section.rt:164:31
-part-decode-payload-end : tie.Need-part-decode-payload-end
-part-decode-payload-end c = search needs
-
--- src/section.rt:164:9
-decode-payload-requires : tie.Need-decode-payload-requires
-decode-payload-requires c κs = search needs
-
--- src/section.rt:167:26
-enum-known-outcome : tie.Need-enum-known-outcome
-enum-known-outcome c = search needs
-
--- src/section.rt:168:13
-clear-requires : tie.Need-clear-requires
-clear-requires c κs = search needs
-
--- src/section.rt:169:13
-clear-requires-2 : tie.Need-clear-requires-2
-clear-requires-2 c κs = search needs
-
--- src/section.rt:170:13
-clear-requires-3 : tie.Need-clear-requires-3
-clear-requires-3 c κs = search needs
-
--- src/section.rt:171:29
 moved-requires : tie.Need-moved-requires
-moved-requires c κs = ?
+moved-requires c κs =
+    let h = refusal-within (roomOf (length (c .before .before .before .before .before .before .before .before .before .before .before .before .before .before .before .before .before .before .before .before .before .before .before .before .before .before .before .before .before .before .args .propositions .now)) (length (c .before .before .before .before .before .before .before .before .before .before .before .before .before .before .before .before .before .before .before .before .before .before .before .before .before .before .before .before .before .before .args .proofs .now)) (length (c .before .before .before .before .before .before .before .before .before .before .before .before .before .before .before .before .before .before .before .before .before .before .before .before .before .before .before .before .before .before .args .depths .now))) (c .before .before .before .before .before .before .before .before .before .before .before .before .before .before .before .before .before .before .before .before .before .before .before .before .before .before .before .before .before .before .args .bytes .now) (c .before .before .before .before .before .before .before .before .before .before .before .before .before .before .before .before .before .before .before .before .before .before .before .before .before .before .before .before .before .before .args .start) (c .before .before .before .before .before .before .before .before .before .before .before .before .before .before .before .before .before .before .before .before .before .before .before .before .before .before .before .before .before .before .args .len) (c .before .before .before .before .before .before .before .before .before .before .before .before .before .before .before .before .before .before .before .before .before .before .before .before .before .before .before .before .before .before .args .cursor) _ (c .before .before .before .before .before .before .before .before .before .before .before .before .before .before .before .before .before .before .before .before .before .decode-payload .ensures .0) _ (ap outcomeOut (c .before .before .before .before .before .before .before .before .before .before .before .before .before .outcome .given .1)) in
+    let l : length (take (c .before .before .before .before .before .before .before .before .before .before .before .before .before .before .before .before .before .before .before .before .before .before .before .before .before .before .before .before .before .before .args .start + c .before .before .before .before .before .before .before .before .before .before .before .before .before .before .before .before .before .before .before .before .before .before .before .before .before .before .before .before .before .before .args .len - c .before .before .before .before .before .before .before .before .before .before .before .before .before .before .before .before .before .before .before .before .before .before .before .before .before .before .before .before .before .before .args .start) (drop (c .before .before .before .before .before .before .before .before .before .before .before .before .before .before .before .before .before .before .before .before .before .before .before .before .before .before .before .before .before .before .args .start) (c .before .before .before .before .before .before .before .before .before .before .before .before .before .before .before .before .before .before .before .before .before .before .before .before .before .before .before .before .before .before .args .bytes .now))) ≤ c .before .before .before .before .before .before .before .before .before .before .before .before .before .before .before .before .before .before .before .before .before .before .before .before .before .before .before .before .before .before .args .len = simp length-take (omega arith) in
+    omega (arith, end-fits (c .before .before .before .before .before .before .before .before .before .before .before .before .before .before .before .before .before .before .before .before .before .before .before .before .before .before .before .before .before .before))
 
--- src/section.rt:171:13
-refused-section-requires : tie.Need-refused-section-requires
-refused-section-requires c κs = search needs
-
--- src/section.rt:173:27
-enum-known-outcome-2 : tie.Need-enum-known-outcome-2
-enum-known-outcome-2 c = search needs
-
--- src/section.rt:175:13
-clear-from-requires : tie.Need-clear-from-requires
-clear-from-requires c κs = search needs
-
--- src/section.rt:176:13
-clear-from-requires-2 : tie.Need-clear-from-requires-2
-clear-from-requires-2 c κs = search needs
-
--- src/section.rt:177:13
-clear-from-requires-3 : tie.Need-clear-from-requires-3
-clear-from-requires-3 c κs = search needs
-
--- src/section.rt:148:1
-same-length : tie.Need-same-length
-same-length c = search needs
-
--- src/section.rt:148:1
-same-length-2 : tie.Need-same-length-2
-same-length-2 c = search needs
-
--- src/section.rt:148:1
-same-length-3 : tie.Need-same-length-3
-same-length-3 c = search needs
-
--- src/section.rt:148:1
 returns : tie.Need-returns
-returns c = ?
+returns c =
+    let x = moved-refused (roomOf (length (c .before .before .before .before .before .before .before .before .before .before .before .before .before .before .before .before .before .before .before .before .before .before .before .before .before .before .before .before .before .before .before .before .args .propositions .now)) (length (c .before .before .before .before .before .before .before .before .before .before .before .before .before .before .before .before .before .before .before .before .before .before .before .before .before .before .before .before .before .before .before .before .args .proofs .now)) (length (c .before .before .before .before .before .before .before .before .before .before .before .before .before .before .before .before .before .before .before .before .before .before .before .before .before .before .before .before .before .before .before .before .args .depths .now))) (c .before .before .before .before .before .before .before .before .before .before .before .before .before .before .before .before .before .before .before .before .before .before .before .before .before .before .before .before .before .before .before .before .args .bytes .now) (c .before .before .before .before .before .before .before .before .before .before .before .before .before .before .before .before .before .before .before .before .before .before .before .before .before .before .before .before .before .before .before .before .args .start) (c .before .before .before .before .before .before .before .before .before .before .before .before .before .before .before .before .before .before .before .before .before .before .before .before .before .before .before .before .before .before .before .before .args .len) (c .before .before .before .before .before .before .before .before .before .before .before .before .before .before .before .before .before .before .before .before .before .before .before .before .before .before .before .before .before .before .before .before .args .cursor) _ (c .before .before .before .before .before .before .before .before .before .before .before .before .before .before .before .before .before .before .before .before .before .before .before .decode-payload .ensures .0) _ (ap outcomeOut (c .before .before .before .before .before .before .before .before .before .before .before .before .before .before .before .outcome .given .1)) in (
+      c .refused-section .ensures ∙ ap (λ (r : Refusal). answerOf (c .before .before .before .before .before .before .before .before .before .before .before .before .before .before .before .before .before .before .before .before .before .before .before .before .before .before .before .before .before .before .before .before .args .cursor) (refused r)) (c .before .moved .ensures) ∙ sym (ap (answerOf (c .before .before .before .before .before .before .before .before .before .before .before .before .before .before .before .before .before .before .before .before .before .before .before .before .before .before .before .before .before .before .before .before .args .cursor)) x),
+      (
+        c .before .before .before .before .before .before .before .before .before .before .before .before .clear .ensures ∙ ap (λ (n : ℕ). lent n []) (c .before .before .before .before .before .before .before .before .before .before .before .before .before .before .before .before .before .before .before .before .before .before .before .decode-payload .kept .1 .1 .1 .0) ∙ sym (ap (λ (y : Out Section). lent (length (c .before .before .before .before .before .before .before .before .before .before .before .before .before .before .before .before .before .before .before .before .before .before .before .before .before .before .before .before .before .before .before .before .args .propositions .now)) (propositionStarts y)) x),
+        (
+          c .before .before .before .before .before .before .before .before .clear2 .ensures ∙ ap (λ (n : ℕ). lent n []) (c .before .before .before .before .before .before .before .before .before .before .before .before .before .before .before .before .before .before .before .before .before .before .before .decode-payload .kept .1 .1 .1 .1 .0) ∙ sym (ap (λ (y : Out Section). lent (length (c .before .before .before .before .before .before .before .before .before .before .before .before .before .before .before .before .before .before .before .before .before .before .before .before .before .before .before .before .before .before .before .before .args .proofs .now)) (proofStarts y)) x),
+          c .before .before .before .before .clear3 .ensures ∙ ap (λ (n : ℕ). lent n []) (c .before .before .before .before .before .before .before .before .before .before .before .before .before .before .before .before .before .before .before .before .before .before .before .decode-payload .kept .1 .1 .1 .1 .1 .0) ∙ sym (ap (λ (y : Out Section). lent (length (c .before .before .before .before .before .before .before .before .before .before .before .before .before .before .before .before .before .before .before .before .before .before .before .before .before .before .before .before .before .before .before .before .args .depths .now)) (proofDepths y)) x),
+        ),
+      ),
+    )
 
--- src/section.rt:148:1
-same-length-4 : tie.Need-same-length-4
-same-length-4 c = search needs
-
--- src/section.rt:148:1
-same-length-5 : tie.Need-same-length-5
-same-length-5 c = search needs
-
--- src/section.rt:148:1
-same-length-6 : tie.Need-same-length-6
-same-length-6 c = search needs
-
--- src/section.rt:148:1
 returns-2 : tie.Need-returns-2
-returns-2 c = ?
+returns-2 c =
+    let g = moved-accepted (roomOf (length (c .before .before .before .before .before .before .before .before .before .before .before .before .before .before .before .before .before .before .before .before .before .before .before .before .before .before .before .before .before .before .before .args .propositions .now)) (length (c .before .before .before .before .before .before .before .before .before .before .before .before .before .before .before .before .before .before .before .before .before .before .before .before .before .before .before .before .before .before .before .args .proofs .now)) (length (c .before .before .before .before .before .before .before .before .before .before .before .before .before .before .before .before .before .before .before .before .before .before .before .before .before .before .before .before .before .before .before .args .depths .now))) (c .before .before .before .before .before .before .before .before .before .before .before .before .before .before .before .before .before .before .before .before .before .before .before .before .before .before .before .before .before .before .before .args .bytes .now) (c .before .before .before .before .before .before .before .before .before .before .before .before .before .before .before .before .before .before .before .before .before .before .before .before .before .before .before .before .before .before .before .args .start) (c .before .before .before .before .before .before .before .before .before .before .before .before .before .before .before .before .before .before .before .before .before .before .before .before .before .before .before .before .before .before .before .args .len) (c .before .before .before .before .before .before .before .before .before .before .before .before .before .before .before .before .before .before .before .before .before .before .before .before .before .before .before .before .before .before .before .args .cursor) _ (c .before .before .before .before .before .before .before .before .before .before .before .before .before .before .before .before .before .before .before .before .before .before .decode-payload .ensures .0) _ (ap outcomeOut (c .before .before .before .before .before .before .before .before .before .before .before .before .before .before .outcome2 .given .1)) in (
+      c .before .before .before .before .before .before .before .before .before .before .before .before .before .before .before .before .before .before .before .before .before .before .decode-payload .ensures .0 ∙ ap (answerOf (c .before .before .before .before .before .before .before .before .before .before .before .before .before .before .before .before .before .before .before .before .before .before .before .before .before .before .before .before .before .before .before .args .cursor)) (g .part ∙ sym (g .is)),
+      (
+        c .before .before .before .before .before .before .before .before .before .before .clear-from .ensures
+            ∙ front-lent _ _ (c .before .before .before .before .before .before .before .before .before .before .before .before .before .before .before .before .before .before .before .before .before .before .decode-payload .last .1 .1 .1 .0) _ (c .before .before .before .before .before .before .before .before .before .before .before .before .before .before .before .before .before .before .before .before .before .before .decode-payload .kept .1 .1 .1 .0) (g .lengths .propositions ∙ sym (ap (λ (k : Counts). k .propositions) (g .counts))) (rw (g .part) at (c .before .before .before .before .before .before .before .before .before .before .before .before .before .before .before .before .before .before .before .before .before .before .decode-payload .ensures .1 .0))
+            ∙ sym (ap (λ (y : Out Section). lent (length (c .before .before .before .before .before .before .before .before .before .before .before .before .before .before .before .before .before .before .before .before .before .before .before .before .before .before .before .before .before .before .before .args .propositions .now)) (propositionStarts y)) (g .is)),
+        (
+          c .before .before .before .before .before .before .clear-from2 .ensures
+              ∙ front-lent _ _ (c .before .before .before .before .before .before .before .before .before .before .before .before .before .before .before .before .before .before .before .before .before .before .decode-payload .last .1 .1 .1 .1 .0) _ (c .before .before .before .before .before .before .before .before .before .before .before .before .before .before .before .before .before .before .before .before .before .before .decode-payload .kept .1 .1 .1 .1 .0) (g .lengths .proofs ∙ sym (ap (λ (k : Counts). k .proofs) (g .counts))) (rw (g .part) at (c .before .before .before .before .before .before .before .before .before .before .before .before .before .before .before .before .before .before .before .before .before .before .decode-payload .ensures .1 .1 .0))
+              ∙ sym (ap (λ (y : Out Section). lent (length (c .before .before .before .before .before .before .before .before .before .before .before .before .before .before .before .before .before .before .before .before .before .before .before .before .before .before .before .before .before .before .before .args .proofs .now)) (proofStarts y)) (g .is)),
+          c .before .before .clear-from3 .ensures
+              ∙ front-lent _ _ (c .before .before .before .before .before .before .before .before .before .before .before .before .before .before .before .before .before .before .before .before .before .before .decode-payload .last .1 .1 .1 .1 .1 .0) _ (c .before .before .before .before .before .before .before .before .before .before .before .before .before .before .before .before .before .before .before .before .before .before .decode-payload .kept .1 .1 .1 .1 .1 .0) (g .lengths .depths ∙ sym (ap (λ (k : Counts). k .proofs) (g .counts))) (rw (g .part) at (c .before .before .before .before .before .before .before .before .before .before .before .before .before .before .before .before .before .before .before .before .before .before .decode-payload .ensures .1 .1 .1))
+              ∙ sym (ap (λ (y : Out Section). lent (length (c .before .before .before .before .before .before .before .before .before .before .before .before .before .before .before .before .before .before .before .before .before .before .before .before .before .before .before .before .before .before .before .args .depths .now)) (proofDepths y)) (g .is)),
+        ),
+      ),
+    )
 
 pub decode-at-spec : {M : Type 1} → statement M
 decode-at-spec =
     tie.close
     (tie.spec
-    add-end
-    sub-decode-payload
-    part-decode-payload-start
-    part-decode-payload-end
-    decode-payload-requires
-    enum-known-outcome
-    clear-requires
-    clear-requires-2
-    clear-requires-3
+    (λ c. search needs)
+    (λ c. search needs)
+    (λ c. search needs)
+    (λ c. search needs)
+    (λ c κs. search needs)
+    (λ c. search needs)
+    (λ c κs. search needs)
+    (λ c κs. search needs)
+    (λ c κs. search needs)
     moved-requires
-    refused-section-requires
-    enum-known-outcome-2
-    clear-from-requires
-    clear-from-requires-2
-    clear-from-requires-3
-    same-length
-    same-length-2
-    same-length-3
+    (λ c κs. search needs)
+    (λ c. search needs)
+    (λ c κs. search needs)
+    (λ c κs. search needs)
+    (λ c κs. search needs)
+    (λ c. search needs)
+    (λ c. search needs)
+    (λ c. search needs)
     returns
-    same-length-4
-    same-length-5
-    same-length-6
+    (λ c. search needs)
+    (λ c. search needs)
+    (λ c. search needs)
     returns-2)

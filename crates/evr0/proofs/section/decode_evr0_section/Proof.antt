@@ -1,94 +1,69 @@
+-- Meets its contract: the frame is refused, or its payload is decoded, by `DecodeLaws`; and demand 3, which holds of every file and cursor.
 use borrow.Author.Needs.{needs}
+use mathlib.Core.Path.{_≡_, sym, ap, _∙_}
+use lib.ListN.{length}
+use Rattle.local_format.specs.Out.{Out, ok, refused}
+use Rattle.local_format.proofs.OutLaws.{told}
+use Rattle.lent_table.specs.Lent.{lent}
+use Rattle.evr0_section.specs.Section.{Section, Frame, frameAt}
+use Rattle.evr0_section.proofs.Demand.{demand-3}
+use Rattle.evr0.specs.Maps.{frameOut}
+use Rattle.evr0.specs.Answer.{roomOf, answerOf, propositionStarts, proofStarts, proofDepths}
+use Rattle.evr0.proofs.FrameLaws.{frame-within}
+use Rattle.evr0.proofs.DecodeLaws.{no-frame, framed}
 use Rattle.evr0.proofs.section.decode_evr0_section.Statement.{statement}
 use Rattle.evr0.proofs.section.decode_evr0_section.Tie as tie
-use Rattle.evr0.proofs.section.decode_evr0_section.Reads as reads
-use Rattle.evr0.proofs.section.decode_evr0_section.Lts as lts
-use Rattle.evr0.proofs.frame.read_frame.Reads as read-frame-reads
-use Rattle.evr0.proofs.section.decode_at.Reads as decode-at-reads
-use Rattle.evr0.proofs.section.refused_section.Reads as refused-section-reads
-use Rattle.lent_table.proofs.clear.Reads as clear-reads
 
--- src/section.rt:197:9
-read-frame-requires : tie.Need-read-frame-requires
-read-frame-requires c κs = search needs
+frame-read : (c : tie.After-frame2) → frameAt (c .before .before .before .before .before .before .before .args .bytes .now) (c .before .before .before .before .before .before .before .args .cursor) ≡ ok (record { start = c .frame2 .given .0 .0; len = c .frame2 .given .0 .1 .0 })
+frame-read c = told frameOut (c .before .before .read-frame .ensures) (c .frame2 .given .1)
 
--- src/section.rt:199:24
-enum-known-frame : tie.Need-enum-known-frame
-enum-known-frame c = search needs
-
--- src/section.rt:200:13
-clear-requires : tie.Need-clear-requires
-clear-requires c κs = search needs
-
--- src/section.rt:201:13
-clear-requires-2 : tie.Need-clear-requires-2
-clear-requires-2 c κs = search needs
-
--- src/section.rt:202:13
-clear-requires-3 : tie.Need-clear-requires-3
-clear-requires-3 c κs = search needs
-
--- src/section.rt:203:13
-refused-section-requires : tie.Need-refused-section-requires
-refused-section-requires c κs = search needs
-
--- src/section.rt:205:26
-enum-known-frame-2 : tie.Need-enum-known-frame-2
-enum-known-frame-2 c = search needs
-
--- src/section.rt:205:42
 decode-at-requires : tie.Need-decode-at-requires
-decode-at-requires c κs = ?
+decode-at-requires c κs = frame-within _ _ _ (frame-read (c .before .before .before .before))
 
--- src/section.rt:184:1
-same-length : tie.Need-same-length
-same-length c = search needs
-
--- src/section.rt:184:1
-same-length-2 : tie.Need-same-length-2
-same-length-2 c = search needs
-
--- src/section.rt:184:1
-same-length-3 : tie.Need-same-length-3
-same-length-3 c = search needs
-
--- src/section.rt:184:1
 returns : tie.Need-returns
-returns c = ?
+returns c =
+    let x = no-frame (roomOf (length (c .before .before .before .before .before .before .before .before .before .before .before .before .before .before .before .before .before .before .before .before .before .args .propositions .now)) (length (c .before .before .before .before .before .before .before .before .before .before .before .before .before .before .before .before .before .before .before .before .before .args .proofs .now)) (length (c .before .before .before .before .before .before .before .before .before .before .before .before .before .before .before .before .before .before .before .before .before .args .depths .now))) (c .before .before .before .before .before .before .before .before .before .before .before .before .before .before .before .before .before .before .before .before .before .args .bytes .now) (c .before .before .before .before .before .before .before .before .before .before .before .before .before .before .before .before .before .before .before .before .before .args .cursor) _ (told frameOut (c .before .before .before .before .before .before .before .before .before .before .before .before .before .before .before .before .read-frame .ensures) (c .before .before .before .before .before .before .before .before .before .before .before .before .before .before .frame .given .1)) in (
+      c .refused-section .ensures ∙ sym (ap (answerOf (c .before .before .before .before .before .before .before .before .before .before .before .before .before .before .before .before .before .before .before .before .before .args .cursor)) x),
+      (
+        c .before .before .before .before .before .before .before .before .before .before .before .clear .ensures ∙ sym (ap (λ (y : Out Section). lent (length (c .before .before .before .before .before .before .before .before .before .before .before .before .before .before .before .before .before .before .before .before .before .args .propositions .now)) (propositionStarts y)) x),
+        (
+          c .before .before .before .before .before .before .before .clear2 .ensures ∙ sym (ap (λ (y : Out Section). lent (length (c .before .before .before .before .before .before .before .before .before .before .before .before .before .before .before .before .before .before .before .before .before .args .proofs .now)) (proofStarts y)) x),
+          (c .before .before .before .clear3 .ensures ∙ sym (ap (λ (y : Out Section). lent (length (c .before .before .before .before .before .before .before .before .before .before .before .before .before .before .before .before .before .before .before .before .before .args .depths .now)) (proofDepths y)) x), demand-3 _ _ _),
+        ),
+      ),
+    )
 
--- src/section.rt:184:1
-same-length-4 : tie.Need-same-length-4
-same-length-4 c = search needs
-
--- src/section.rt:184:1
-same-length-5 : tie.Need-same-length-5
-same-length-5 c = search needs
-
--- src/section.rt:184:1
-same-length-6 : tie.Need-same-length-6
-same-length-6 c = search needs
-
--- src/section.rt:184:1
 returns-2 : tie.Need-returns-2
-returns-2 c = ?
+returns-2 c =
+    let x = framed (roomOf (length (c .before .before .before .before .before .before .before .before .before .before .before .before .before .before .before .before .before .before .args .propositions .now)) (length (c .before .before .before .before .before .before .before .before .before .before .before .before .before .before .before .before .before .before .args .proofs .now)) (length (c .before .before .before .before .before .before .before .before .before .before .before .before .before .before .before .before .before .before .args .depths .now))) (c .before .before .before .before .before .before .before .before .before .before .before .before .before .before .before .before .before .before .args .bytes .now) (c .before .before .before .before .before .before .before .before .before .before .before .before .before .before .before .before .before .before .args .cursor) _ (frame-read (c .before .before .before .before .before .before .before .before .before .before .before)) in
+    let k = c .before .before .before .before .before .before .decode-at .ensures in (
+      k .0 ∙ sym (ap (answerOf (c .before .before .before .before .before .before .before .before .before .before .before .before .before .before .before .before .before .before .args .cursor)) x),
+      (
+        k .1 .0 ∙ sym (ap (λ (y : Out Section). lent (length (c .before .before .before .before .before .before .before .before .before .before .before .before .before .before .before .before .before .before .args .propositions .now)) (propositionStarts y)) x),
+        (
+          k .1 .1 .0 ∙ sym (ap (λ (y : Out Section). lent (length (c .before .before .before .before .before .before .before .before .before .before .before .before .before .before .before .before .before .before .args .proofs .now)) (proofStarts y)) x),
+          (k .1 .1 .1 ∙ sym (ap (λ (y : Out Section). lent (length (c .before .before .before .before .before .before .before .before .before .before .before .before .before .before .before .before .before .before .args .depths .now)) (proofDepths y)) x), demand-3 _ _ _),
+        ),
+      ),
+    )
 
 pub decode-evr0-section-spec : {M : Type 1} → statement M
 decode-evr0-section-spec =
     tie.close
     (tie.spec
-    read-frame-requires
-    enum-known-frame
-    clear-requires
-    clear-requires-2
-    clear-requires-3
-    refused-section-requires
-    enum-known-frame-2
+    (λ c κs. search needs)
+    (λ c. search needs)
+    (λ c κs. search needs)
+    (λ c κs. search needs)
+    (λ c κs. search needs)
+    (λ c κs. search needs)
+    (λ c. search needs)
     decode-at-requires
-    same-length
-    same-length-2
-    same-length-3
+    (λ c. search needs)
+    (λ c. search needs)
+    (λ c. search needs)
     returns
-    same-length-4
-    same-length-5
-    same-length-6
+    (λ c. search needs)
+    (λ c. search needs)
+    (λ c. search needs)
     returns-2)

@@ -49,8 +49,7 @@ returns-3 c =
     let k = c .before .before .before .before .before .before .before .before .before .before .before .check-tables .ensures in
     let h = head-read (c .before .before .before .before .before .before .before .before .before .before .before .before .before .before .before .before .before) in
     let s = passed (sectionIn fourRules (roomOf (length (c .before .before .before .before .before .before .before .before .before .before .before .before .before .before .before .before .before .before .before .before .before .before .before .before .args .propositions .now)) (length (c .before .before .before .before .before .before .before .before .before .before .before .before .before .before .before .before .before .before .before .before .before .before .before .before .args .proofs .now)) (length (c .before .before .before .before .before .before .before .before .before .before .before .before .before .before .before .before .before .before .before .before .before .before .before .before .args .depths .now))) (c .before .before .before .before .before .before .before .before .before .before .before .before .before .before .before .before .before .before .before .before .before .before .before .before .args .payload .now) (c .before .before .before .before .before .before .before .before .before .before .before .before .before .before .before .before .before .before .before .before .before .before .before .before .args .end)) (told checkedOut (k .0 (c .before .before .before .before .before .before .before .before .before .before .before .before .before .before .before .before .before .before .before .before .before .before .before .before .args .end)) (c .before .before .before .enum-told .given .1)) in
-    let a = accepted-head fourRules _ _ (c .before .before .before .before .before .before .before .before .before .before .before .before .before .before .before .before .before .before .before .before .before .before .before .before .args .end) _ h (s .0) (s .1) in
-    (
+    let a = accepted-head fourRules _ _ (c .before .before .before .before .before .before .before .before .before .before .before .before .before .before .before .before .before .before .before .before .before .before .before .before .args .end) _ h (s .0) (s .1) in (
       ap (λ (x : Accepted). record { sourceSet = c .before .before .before .before .before .before .before .before .before .before .before .before .before .before .before .before .before .before .before .read-checked-head .result .«source_set»; compilerContract = c .before .before .before .before .before .before .before .before .before .before .before .before .before .before .before .before .before .before .before .read-checked-head .result .«compiler_contract»; cursor = c .before .before .before .before .before .before .before .before .before .before .before .before .before .before .before .before .before .before .before .before .before .before .before .before .args .end; outcome = ok x }) (c .accept .ensures) ∙ answered-with _ (s .0) _ (c .before .before .before .before .before .before .before .before .before .before .before .before .before .before .before .before .before .before .before .before .before .before .before .before .args .cursor) (c .before .before .before .before .before .before .before .before .before .before .before .before .before .before .before .before .before .before .before .before .before .before .before .before .args .end) (s .1) (a .0) (a .1),
       (k .1 .0 (c .before .before .before .before .before .before .before .before .before .before .before .before .before .before .before .before .before .before .before .before .before .before .before .before .args .end), (k .1 .1 .0 (c .before .before .before .before .before .before .before .before .before .before .before .before .before .before .before .before .before .before .before .before .before .before .before .before .args .end), k .1 .1 .1 (c .before .before .before .before .before .before .before .before .before .before .before .before .before .before .before .before .before .before .before .before .before .before .before .before .args .end))),
     )
