@@ -1,8 +1,8 @@
 -- What demand 3 says of the tables of a section.
-use Prim.Native.Nat.{ℕ, _≤_, _<_}
+use Prim.Native.Nat.{ℕ, suc, _≤_, _<_}
 use mathlib.Core.Path.{_≡_}
 use mathlib.Core.List.{List, _++_}
-use lib.ListN.{length}
+use lib.ListN.{length, getD}
 use Rattle.derivation.specs.Section.{Section, proofAt, parentAt, proofTotal, witnessTotal, parentTotal, OwnsParent, OwnsWitness}
 use Rattle.derivation.specs.Walk.{Walk, AtEnd, Same, Witnessed, NoWalkFails, ParentsBelow, JoinsRise}
 
@@ -34,6 +34,18 @@ pub record OneOwner (s : Section) (Owns : ℕ → Type 0) : Type 0 where
 pub record Owned (s : Section) : Type 0 where
   pub parents : (c : ℕ) → c < parentTotal s → OneOwner s (λ i. OwnsParent s i c)
   pub witnesses : (w : ℕ) → w < witnessTotal s → OneOwner s (λ i. OwnsWitness s i w)
+
+-- the depth of the proof i: 1 without parents, else one more than the deepest parent's, and at most 256
+pub record Depth (s : Section) (ds : List ℕ) (i : ℕ) : Type 0 where
+  pub alone : AtEnd s i → getD ds i 0 ≡ 1
+  pub below : (c : ℕ) → OwnsParent s i c → getD ds (parentAt s c) 0 < getD ds i 0
+  pub deepest : 0 < proofAt s i .parentCount → (c : ℕ) × OwnsParent s i c × (getD ds i 0 ≡ suc (getD ds (parentAt s c) 0))
+  pub most : getD ds i 0 ≤ 256
+
+-- one depth for each proof
+pub record Depths (s : Section) (ds : List ℕ) : Type 0 where
+  pub total : length ds ≡ proofTotal s
+  pub depth : (i : ℕ) → i < proofTotal s → Depth s ds i
 
 -- when tables that all read and pass their own checks are accepted
 pub record Derivable (s : Section) : Type 0 where

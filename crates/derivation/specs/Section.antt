@@ -30,11 +30,10 @@ pub record Section : Type 0 where
   pub witnesses : List Witness
   pub parents : List ℕ
 
--- the entries by their place. Past a table's end they have no meaning, and no statement reads them
-unfoldable pub proofAt : Section → ℕ → Proof
-proofAt s i =
-    getD (s .proofs) i
-    (record {
+-- past a table's end: these have no meaning, and no statement reads them
+abbrev pub noProof : Proof
+noProof =
+    record {
       number = 0;
       proposition = 0;
       rule = record { name = []; witnesses = 0; parents = 0; operation = 0; polarity = 0 };
@@ -44,10 +43,17 @@ proofAt s i =
       firstParent = 0;
       parentCount = 0;
       operation = 0;
-    })
+    }
+
+abbrev pub noWitness : Witness
+noWitness = record { number = 0; proposition = 0; polarity = 0; spanStart = 0; spanEnd = 0 }
+
+-- the entries by their place
+unfoldable pub proofAt : Section → ℕ → Proof
+proofAt s i = getD (s .proofs) i noProof
 
 unfoldable pub witnessAt : Section → ℕ → Witness
-witnessAt s w = getD (s .witnesses) w (record { number = 0; proposition = 0; polarity = 0; spanStart = 0; spanEnd = 0 })
+witnessAt s w = getD (s .witnesses) w noWitness
 
 -- the proof number in a parent cell
 unfoldable pub parentAt : Section → ℕ → ℕ
@@ -62,14 +68,17 @@ witnessTotal s = length (s .witnesses)
 unfoldable pub parentTotal : Section → ℕ
 parentTotal s = length (s .parents)
 
--- *Owns*: a proof owns the witnesses and the parent cells from its first one, as many as its count
-pub record OwnsParent (s : Section) (i c : ℕ) : Type 0 where
-  pub from : proofAt s i .firstParent ≤ c
-  pub upto : c < proofAt s i .firstParent + proofAt s i .parentCount
+-- a number among the `count` numbers from `first` on
+pub record Within (first count n : ℕ) : Type 0 where
+  pub from : first ≤ n
+  pub upto : n < first + count
 
-pub record OwnsWitness (s : Section) (i w : ℕ) : Type 0 where
-  pub from : proofAt s i .firstWitness ≤ w
-  pub upto : w < proofAt s i .firstWitness + proofAt s i .witnessCount
+-- *Owns*: a proof owns the witnesses and the parent cells from its first one, as many as its count
+abbrev pub OwnsParent : Section → ℕ → ℕ → Type 0
+OwnsParent s i c = Within (proofAt s i .firstParent) (proofAt s i .parentCount) c
+
+abbrev pub OwnsWitness : Section → ℕ → ℕ → Type 0
+OwnsWitness s i w = Within (proofAt s i .firstWitness) (proofAt s i .witnessCount) w
 
 -- f 0 + .. + f (n - 1)
 unfoldable pub sumTo : (ℕ → ℕ) → ℕ → ℕ

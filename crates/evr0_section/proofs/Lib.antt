@@ -1,1 +1,13 @@
 pub mod RowsLaws
+pub mod StateLaws
+pub mod RowChecks
+pub mod CheckedTables
+pub mod SectionSteps
+pub mod Numbers
+pub mod Stages
+pub mod Demand
+pub mod RecordLaws
+pub mod Progress
+pub mod Inside
+pub mod Computed
+pub mod Specimens

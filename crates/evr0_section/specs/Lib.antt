@@ -4,3 +4,6 @@ pub mod Proposition
 pub mod Proof
 pub mod Witness
 pub mod Section
+pub mod Demand
+pub mod Build
+pub mod Specimens

@@ -7,3 +7,5 @@ pub mod Text
 pub mod Tag
 pub mod Scan
 pub mod Maps
+pub mod Number
+mod Vectors

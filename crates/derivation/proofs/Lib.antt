@@ -1,0 +1,12 @@
+pub mod Tests
+pub mod Owners
+pub mod Sound
+pub mod Along
+pub mod Complete
+pub mod Demand
+pub mod Down
+pub mod Rules
+pub mod Authorised
+pub mod Laws
+pub mod Reach
+pub mod Numbers

@@ -1,0 +1,12 @@
+-- Meets its contract: a space, then the numeral.
+use borrow.Author.Needs.{needs}
+use Rattle.evidence_output.proofs.LineLaws.{number-written}
+use Rattle.evidence_output.proofs.line.put_number.Statement.{statement}
+use Rattle.evidence_output.proofs.line.put_number.Tie as tie
+
+returns : tie.Need-returns
+returns c =
+    number-written (c .before .before .before .before .before .before .before .before .before .args .n) (c .before .before .before .before .before .before .put .ensures) (c .before .before .put-decimal .ensures)
+
+pub put-number-spec : {M : Type 1} → statement M
+put-number-spec = tie.close (tie.spec (λ c κs. search needs) (λ c κs. search needs) (λ c. search needs) returns)

@@ -1,0 +1,5 @@
+pub mod Decimal
+pub mod Written
+pub mod Output
+pub mod Runs
+pub mod Listed

@@ -1,0 +1,39 @@
+-- Laws of a section's frame: one for each way that its reading ends.
+use Prim.Native.Nat.{ℕ, _+_, _≤_, _<_}
+use mathlib.Core.Path.{_≡_}
+use mathlib.Core.Bool.{true, false}
+use mathlib.Core.List.{List}
+use native.Mathlib.Omega.{arith}
+use lib.ListN.{length}
+use borrow.Author.Tests.{le-leb, lt-leb}
+use Rattle.local_format.specs.Out.{ok, refuse}
+use Rattle.local_format.specs.Field.{Got, whole, cut, fieldAt}
+use Rattle.local_format.specs.Tag.{tagAt, evr0}
+use Rattle.evr0_section.specs.Section.{frameAt}
+
+module _ (s : List ℕ) (cursor : ℕ) where
+  pub no-tag : tagAt evr0 s cursor ≡ false → refuse 1 cursor ≡ frameAt s cursor
+  unfolding frameAt
+  no-tag e = rw e
+
+  module _ (tag : tagAt evr0 s cursor ≡ true) where
+    pub no-length : fieldAt 4 s (cursor + 4) ≡ cut → refuse 2 (cursor + 4) ≡ frameAt s cursor
+    unfolding frameAt
+    no-length e = rw (tag, e)
+
+    module _ (len start : ℕ) (size : fieldAt 4 s (cursor + 4) ≡ whole (record { value = len; next = start })) where
+      pub empty : len < 1 → refuse 3 (cursor + 4) ≡ frameAt s cursor
+      unfolding frameAt
+      empty h = rw (tag, size, lt-leb 1 len h)
+
+      pub too-long : 1 ≤ len → 4194304 < len → refuse 3 (cursor + 4) ≡ frameAt s cursor
+      unfolding frameAt
+      too-long k h = rw (tag, size, le-leb 1 len k, lt-leb len 4194304 h)
+
+      pub payload-cut : 1 ≤ len → len ≤ 4194304 → length s < start + len → refuse 4 start ≡ frameAt s cursor
+      unfolding frameAt fieldAt
+      payload-cut k l h = rw (tag, size, le-leb 1 len k, le-leb len 4194304 l, lt-leb (start + len) (length s) h)
+
+      pub payload-there : 1 ≤ len → len ≤ 4194304 → start + len ≤ length s → ok (record { start = start; len = len }) ≡ frameAt s cursor
+      unfolding frameAt fieldAt
+      payload-there k l h = rw (tag, size, le-leb 1 len k, le-leb len 4194304 l, le-leb (start + len) (length s) h)

@@ -1,0 +1,8 @@
+-- What a lent table holds.
+use Prim.Native.Nat.{ℕ, _-_}
+use mathlib.Core.List.{List, _++_}
+use lib.ListN.{length, replicate}
+
+-- a lent table with so many entries: the numbers, and zeros past them
+abbrev pub lent : ℕ → List ℕ → List ℕ
+lent entries xs = xs ++ replicate (entries - length xs) 0

@@ -1,0 +1,5 @@
+pub mod Specimens
+pub mod TableLaws
+pub mod SectionLaws
+pub mod BlockLaws
+pub mod LentLaws

@@ -1,0 +1,37 @@
+-- A section by its tag: absent, or the table after the tag.
+use mathlib.Core.Path.{_≡_, refl, ap}
+use Prim.Native.Nat.{ℕ, _+_}
+use mathlib.Core.Bool.{true, false}
+use mathlib.Core.List.{List}
+use lib.ListN.{length}
+use Rattle.local_format.specs.Out.{Out, ok, refused, _>>=_}
+use Rattle.local_format.specs.Tag.{tagAt}
+use Rattle.semcode_records.specs.Records.{Table, noRecords}
+use Rattle.semcode_decode.specs.Block.{Section, sectionAt}
+use Rattle.semcode_decode.specs.Layout.{Extent, extent, Tagged, tagged, starts, sectionStarts}
+
+module _ {A : Type 0} (tag : List ℕ) (tableAt : ℕ → Out (Table A)) (s : List ℕ) (at : ℕ) where
+  pub absent : tagAt tag s at ≡ false → sectionAt tag tableAt s at ≡ ok (record { found = false; table = noRecords at })
+  unfolding sectionAt
+  absent e = rw e
+
+  pub found : tagAt tag s at ≡ true
+      → sectionAt tag tableAt s at ≡ (tableAt (at + length tag) >>= λ t. ok (record { found = true; table = t }))
+  unfolding sectionAt
+  found e = rw e
+
+  pub found-tagged : tagAt tag s at ≡ true
+      → tagged (sectionAt tag tableAt s at) ≡ (extent (tableAt (at + length tag)) >>= λ x. ok (record { found = true; extent = x }))
+  found-tagged e = rw (found e) (go (tableAt (at + length tag)))
+    where
+      go : (x : Out (Table A))
+          → tagged (x >>= λ t. ok (record { found = true; table = t })) ≡ (extent x >>= λ x. ok (record { found = true; extent = x }))
+      go (ok t) = refl
+      go (refused r) = refl
+
+  pub found-starts : tagAt tag s at ≡ true → sectionStarts (sectionAt tag tableAt s at) ≡ starts (tableAt (at + length tag))
+  found-starts e = rw (found e) (go (tableAt (at + length tag)))
+    where
+      go : (x : Out (Table A)) → sectionStarts (x >>= λ t. ok (record { found = true; table = t })) ≡ starts x
+      go (ok t) = refl
+      go (refused r) = refl

@@ -1,0 +1,88 @@
+-- What the decoder answers of a block, and the starts that it writes to the lent tables.
+use Prim.Native.Nat.{ℕ}
+use mathlib.Core.List.{List, [], map}
+use mathlib.Core.Bool.{Bool}
+use lib.ListN.{length}
+use Rattle.local_format.specs.Out.{Out, ok, refused, _>>=_}
+use Rattle.semcode_records.specs.Records.{Entry, Table}
+use Rattle.semcode_decode.specs.Block.{Rooms, Section, Block}
+
+-- the result: three counts, whether each tag was found, and places in the block
+pub record Layout : Type 0 where
+  pub strings : ℕ
+  pub stringsEnd : ℕ
+  pub debug : Bool
+  pub symbols : ℕ
+  pub symbolsStart : ℕ
+  pub ownership : Bool
+  pub paths : ℕ
+  pub instructions : ℕ
+
+abbrev pub layoutOf : Block → Layout
+layoutOf b =
+    record {
+      strings = length (b .strings .entries);
+      stringsEnd = b .strings .end;
+      debug = b .debug .found;
+      symbols = length (b .debug .table .entries);
+      symbolsStart = b .debug .table .start;
+      ownership = b .ownership .found;
+      paths = length (b .ownership .table .entries);
+      instructions = b .ownership .table .end;
+    }
+
+abbrev pub layout : Out Block → Out Layout
+layout x = do
+  b ← x
+  ok (layoutOf b)
+
+-- ---- One table
+
+-- where a table's records start, how many they are, and the place after them
+pub record Extent : Type 0 where
+  pub start : ℕ
+  pub count : ℕ
+  pub end : ℕ
+
+abbrev pub extentOf : {A : Type 0} → Table A → Extent
+extentOf t = record { start = t .start; count = length (t .entries); end = t .end }
+
+abbrev pub extent : {A : Type 0} → Out (Table A) → Out Extent
+extent x = do
+  t ← x
+  ok (extentOf t)
+
+-- the same with whether the tag was found
+pub record Tagged : Type 0 where
+  pub found : Bool
+  pub extent : Extent
+
+abbrev pub tagged : {A : Type 0} → Out (Section A) → Out Tagged
+tagged x = do
+  s ← x
+  ok (record { found = s .found; extent = extentOf (s .table) })
+
+-- ---- Starts
+
+abbrev pub startsOf : {A : Type 0} → Table A → List ℕ
+startsOf t = map (λ e. e .start) (t .entries)
+
+-- a refusal has none
+abbrev pub starts : {A : Type 0} → Out (Table A) → List ℕ
+starts (ok t) = startsOf t
+starts (refused r) = []
+
+abbrev pub sectionStarts : {A : Type 0} → Out (Section A) → List ℕ
+sectionStarts x = starts (x >>= λ s. ok (s .table))
+
+abbrev pub stringStarts : Out Block → List ℕ
+stringStarts x = starts (x >>= λ b. ok (b .strings))
+
+abbrev pub pathStarts : Out Block → List ℕ
+pathStarts x = starts (x >>= λ b. ok (b .ownership .table))
+
+-- ---- What is lent
+
+-- the lengths of two lent tables, and of a lent list of symbols
+abbrev pub roomsOf : List ℕ → ℕ → List ℕ → Rooms
+roomsOf strings symbols paths = record { strings = length strings; symbols = symbols; paths = length paths }

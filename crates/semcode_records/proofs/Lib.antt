@@ -1,0 +1,3 @@
+pub mod RecordsLaws
+pub mod PathLaws
+pub mod SymbolLaws

@@ -1,0 +1,5 @@
+pub mod Records
+pub mod Symbol
+pub mod Component
+pub mod Path
+pub mod Maps

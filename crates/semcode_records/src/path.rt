@@ -1,0 +1,243 @@
+// One path of an ownership section.
+use crate::component::Components;
+use crate::component::OWNERSHIP_EVENT_KIND_BORROW;
+use crate::component::OWNERSHIP_EVENT_KIND_WRITE;
+use crate::component::components_refusal;
+use crate::component::skip_components;
+use local_format::field::U8;
+use local_format::field::U16;
+use local_format::field::U32;
+use local_format::field::read_u8;
+use local_format::field::read_u16_le;
+use local_format::field::read_u32_le;
+use local_format::refusal::Refusal;
+use local_format::refusal::refuse;
+ghost use mathlib.Core.Path.{_≡_};
+ghost use Rattle.local_format.specs.Maps.{refusalOf, refusalOut};
+ghost use Rattle.semcode_records.specs.Maps.{activationIs, executionIs, eventOut, pathOut};
+ghost use Rattle.semcode_records.specs.Records.{taken};
+ghost use Rattle.semcode_records.specs.Path.{borrowed, written, activationAt, executionAt, eventOf, headAt};
+
+pub const SEMCODE_OWNERSHIP_ANCHOR_MIN_REVISION: u16 = 21;
+
+pub const ACTIVATION_MODE_FRAME_ENTRY: u8 = 0;
+
+pub const ACTIVATION_MODE_STORE_VAR_SITE: u8 = 1;
+
+pub const WRITE_EXECUTION_MODE_STORE_VAR_SITE: u8 = 0;
+
+pub const WRITE_EXECUTION_MODE_MAKE_RECORD_SITE: u8 = 1;
+
+pub enum DecodedBorrowActivation {
+    None,
+    FrameEntry,
+    StoreVarSite(u32),
+}
+
+pub enum DecodedWriteExecution {
+    None,
+    StoreVarSite(u32),
+    MakeRecordSite(u32),
+}
+
+pub enum DecodedEvent {
+    Borrow(DecodedBorrowActivation),
+    Write(DecodedWriteExecution),
+}
+
+pub struct DecodedAccessPath {
+    pub event: DecodedEvent,
+    pub root_symbol_id: u32,
+    pub component_count: u16,
+    pub components_start: usize,
+}
+
+// ---- The event
+
+// An event by its kind.
+pub enum Kinded {
+    Known(DecodedEvent),
+    Unknown,
+}
+
+pub enum Event {
+    Whole { kinded: Kinded, next: usize },
+    Refused(Refusal),
+}
+
+pub fn event_refusal(answer: Event) -> Refusal
+    ensures { λ r. ⌜ refusalOut r ≡ refusalOf (eventOut answer) ⌝ }
+{
+    match answer {
+        Event::Refused(r) => r,
+        Event::Whole { kinded: _, next: _ } => refuse(0, 0),
+    }
+}
+
+fn borrow_of(activation: DecodedBorrowActivation, next: usize) -> Event
+    ensures { λ r. ⌜ eventOut r ≡ borrowed (taken (activationIs activation) next) ⌝ }
+{
+    Event::Whole {
+        kinded: Kinded::Known(DecodedEvent::Borrow(activation)),
+        next,
+    }
+}
+
+fn write_of(execution: DecodedWriteExecution, next: usize) -> Event
+    ensures { λ r. ⌜ eventOut r ≡ written (taken (executionIs execution) next) ⌝ }
+{
+    Event::Whole {
+        kinded: Kinded::Known(DecodedEvent::Write(execution)),
+        next,
+    }
+}
+
+fn read_activation(bytes: &[u8], at: usize) -> Event
+    ensures { λ r. ⌜ eventOut r ≡ borrowed (activationAt (now (bytes .entry)) at) ⌝ }
+{
+    let first = read_u8(bytes, at);
+    let U8::Value {
+        value: mode,
+        next: anchor_at,
+    } = first
+    else {
+        return Event::Refused(refuse(42, at));
+    };
+    if ACTIVATION_MODE_STORE_VAR_SITE < mode {
+        return Event::Refused(refuse(44, anchor_at));
+    }
+    if mode == ACTIVATION_MODE_FRAME_ENTRY {
+        return borrow_of(DecodedBorrowActivation::FrameEntry, anchor_at);
+    }
+    let second = read_u32_le(bytes, anchor_at);
+    let U32::Value {
+        value: anchor,
+        next,
+    } = second
+    else {
+        return Event::Refused(refuse(43, anchor_at));
+    };
+    borrow_of(DecodedBorrowActivation::StoreVarSite(anchor), next)
+}
+
+fn read_execution(bytes: &[u8], at: usize) -> Event
+    ensures { λ r. ⌜ eventOut r ≡ written (executionAt (now (bytes .entry)) at) ⌝ }
+{
+    let first = read_u8(bytes, at);
+    let U8::Value {
+        value: mode,
+        next: anchor_at,
+    } = first
+    else {
+        return Event::Refused(refuse(45, at));
+    };
+    if WRITE_EXECUTION_MODE_MAKE_RECORD_SITE < mode {
+        return Event::Refused(refuse(47, anchor_at));
+    }
+    let second = read_u32_le(bytes, anchor_at);
+    let U32::Value {
+        value: anchor,
+        next,
+    } = second
+    else {
+        return Event::Refused(refuse(46, anchor_at));
+    };
+    if mode == WRITE_EXECUTION_MODE_STORE_VAR_SITE {
+        return write_of(DecodedWriteExecution::StoreVarSite(anchor), next);
+    }
+    write_of(DecodedWriteExecution::MakeRecordSite(anchor), next)
+}
+
+// What follows the event kind; an unknown kind brings no mode.
+fn after_event_kind(kind: u8, bytes: &[u8], at: usize, header_rev: u16) -> Event
+    ensures { λ r. ⌜ eventOut r ≡ eventOf kind «header_rev» (now (bytes .entry)) at ⌝ }
+{
+    if kind == OWNERSHIP_EVENT_KIND_BORROW {
+        if header_rev < SEMCODE_OWNERSHIP_ANCHOR_MIN_REVISION {
+            return borrow_of(DecodedBorrowActivation::None, at);
+        }
+        return read_activation(bytes, at);
+    }
+    if kind == OWNERSHIP_EVENT_KIND_WRITE {
+        if header_rev < SEMCODE_OWNERSHIP_ANCHOR_MIN_REVISION {
+            return write_of(DecodedWriteExecution::None, at);
+        }
+        return read_execution(bytes, at);
+    }
+    Event::Whole {
+        kinded: Kinded::Unknown,
+        next: at,
+    }
+}
+
+// ---- The path
+
+pub enum Path {
+    Whole {
+        path: DecodedAccessPath,
+        next: usize,
+    },
+    Refused(Refusal),
+}
+
+pub fn path_refusal(answer: Path) -> Refusal
+    ensures { λ r. ⌜ refusalOut r ≡ refusalOf (pathOut answer) ⌝ }
+{
+    match answer {
+        Path::Refused(r) => r,
+        Path::Whole { path: _, next: _ } => refuse(0, 0),
+    }
+}
+
+pub fn read_path(bytes: &[u8], at: usize, header_rev: u16) -> Path
+    ensures { λ r. ⌜ pathOut r ≡ headAt «header_rev» (now (bytes .entry)) at ⌝ }
+{
+    let first = read_u8(bytes, at);
+    let U8::Value {
+        value: kind,
+        next: mode_at,
+    } = first
+    else {
+        return Path::Refused(refuse(41, at));
+    };
+    let moded = after_event_kind(kind, bytes, mode_at, header_rev);
+    let Event::Whole {
+        kinded,
+        next: root_at,
+    } = moded
+    else {
+        return Path::Refused(event_refusal(moded));
+    };
+    let root = read_u32_le(bytes, root_at);
+    let U32::Value {
+        value: root_symbol_id,
+        next: count_at,
+    } = root
+    else {
+        return Path::Refused(refuse(48, root_at));
+    };
+    let count = read_u16_le(bytes, count_at);
+    let U16::Value {
+        value: component_count,
+        next: components_start,
+    } = count
+    else {
+        return Path::Refused(refuse(49, count_at));
+    };
+    let components = skip_components(bytes, components_start, component_count, header_rev, kind);
+    let Components::Whole { end } = components else {
+        return Path::Refused(components_refusal(components));
+    };
+    let Kinded::Known(event) = kinded else {
+        return Path::Refused(refuse(60, end));
+    };
+    Path::Whole {
+        path: DecodedAccessPath {
+            event,
+            root_symbol_id,
+            component_count,
+            components_start,
+        },
+        next: end,
+    }
+}

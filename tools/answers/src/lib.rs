@@ -1,0 +1,8 @@
+//! What both decoders answer, in document 01's terms, so that answers can be compared.
+
+pub mod block;
+pub mod refusal;
+pub mod section;
+pub mod text;
+
+pub type Answer<T> = Result<T, refusal::Refusal>;

@@ -1,0 +1,37 @@
+//! Refusals as document 01 has them.
+
+use std::fmt;
+
+#[derive(Debug, Clone, Copy, PartialEq, Eq)]
+pub enum Kind {
+    Invalid,
+    Limit,
+    Strings,
+    Debug,
+    Ownership,
+    Added,
+}
+
+impl Kind {
+    pub const ALL: [Kind; 6] = [
+        Kind::Invalid,
+        Kind::Limit,
+        Kind::Strings,
+        Kind::Debug,
+        Kind::Ownership,
+        Kind::Added,
+    ];
+}
+
+#[derive(Debug, Clone, Copy, PartialEq, Eq)]
+pub struct Refusal {
+    pub kind: Kind,
+    pub number: u8,
+    pub offset: usize,
+}
+
+impl fmt::Display for Refusal {
+    fn fmt(&self, f: &mut fmt::Formatter) -> fmt::Result {
+        write!(f, "refused {:?} {} {}", self.kind, self.number, self.offset)
+    }
+}

@@ -1,0 +1,145 @@
+//! Blocks. The Rust copies strings, symbols and paths into vectors; the port writes starts to lent tables, whose lengths a row states.
+
+use crate::rows::{Row, calls};
+use inputs::block::{Block, each_form, large, small};
+use inputs::random::Random;
+use oracle::semcode_decode::DecodeError;
+use std::cell::RefCell;
+use std::hint::black_box;
+
+const REVISION: u16 = 22;
+const BASE: usize = 1000;
+
+/// Room for strings, symbols and paths.
+type Rooms = [usize; 3];
+
+const FULL: Rooms = [256, 8192, 65_535];
+
+pub fn rows() -> Vec<Row> {
+    let r = &mut Random::new(1);
+    let mut late = large(r, REVISION, [256, 8192, 1000], 3);
+    late.cut = 1;
+    vec![
+        row(
+            "block, 256 strings",
+            &[large(r, REVISION, [256, 0, 0], 0)],
+            [256, 0, 0],
+        ),
+        row(
+            "block, 8,192 symbols",
+            &[large(r, REVISION, [0, 8192, 0], 0)],
+            [0, 8192, 0],
+        ),
+        row(
+            "block, 65,535 paths of 1 component",
+            &[large(r, REVISION, [0, 0, 65_535], 1)],
+            [0, 0, 65_535],
+        ),
+        row(
+            "block, 2 paths of 65,535 components",
+            &[large(r, REVISION, [0, 0, 2], 65_535)],
+            [0, 0, 2],
+        ),
+        row(
+            "block, each form, tables fitted",
+            &[each_form(r, REVISION)],
+            [2, 2, 4],
+        ),
+        row(
+            "block, each form, tables full",
+            &[each_form(r, REVISION)],
+            FULL,
+        ),
+        row("blocks, 100 small ones, tables of 8", &smalls(r), [8, 8, 8]),
+        row(
+            "block, refused at its last byte",
+            &[late],
+            [256, 8192, 1000],
+        ),
+    ]
+}
+
+/// Small valid blocks, all of one revision.
+fn smalls(r: &mut Random) -> Vec<Block> {
+    let mut blocks = Vec::new();
+    while blocks.len() < 100 {
+        let block = small(r);
+        if block.revision == REVISION {
+            blocks.push(block);
+        }
+    }
+    blocks
+}
+
+fn row(name: &str, blocks: &[Block], rooms: Rooms) -> Row {
+    let codes: Vec<Vec<u8>> = blocks.iter().map(Block::bytes).collect();
+    let same = codes.clone();
+    for code in &codes {
+        let rust = oracle::block::block(code, BASE, REVISION).map(|block| block.layout);
+        assert_eq!(
+            rust,
+            port(
+                code,
+                &mut vec![0; rooms[0]],
+                rooms[1],
+                &mut vec![0; rooms[2]]
+            )
+        );
+    }
+    let tables = RefCell::new((vec![0; rooms[0]], vec![0; rooms[2]]));
+    Row {
+        name: name.to_string(),
+        bytes: codes.iter().map(Vec::len).sum(),
+        rust: calls(move || {
+            same.iter().fold(0, |sum: u64, code| {
+                sum.wrapping_add(rust_summary(black_box(code)))
+            })
+        }),
+        port: calls(move || {
+            let (strings, paths) = &mut *tables.borrow_mut();
+            codes.iter().fold(0, |sum: u64, code| {
+                sum.wrapping_add(port_summary(port(
+                    black_box(code),
+                    strings,
+                    rooms[1],
+                    paths,
+                )))
+            })
+        }),
+    }
+}
+
+fn port(
+    code: &[u8],
+    strings: &mut [u64],
+    symbols: usize,
+    paths: &mut [u64],
+) -> answers::Answer<answers::block::Layout> {
+    port::block::parse_string_table_debug_and_ownership(
+        BASE, code, REVISION, symbols, strings, paths,
+    )
+}
+
+/// Counts and places of a result; the offset of a refusal.
+fn rust_summary(code: &[u8]) -> u64 {
+    match oracle::semcode_decode::block(BASE, code, REVISION) {
+        Ok(b) => {
+            let paths = b.borrowed_paths.len() + b.write_paths.len();
+            (b.strings.len() + b.debug_symbols.len() + paths + b.instr_start_offset) as u64
+        }
+        Err(
+            DecodeError::InvalidStringTable { offset, .. }
+            | DecodeError::InvalidDebugSection { offset, .. }
+            | DecodeError::InvalidOwnershipSection { offset, .. }
+            | DecodeError::ResourceLimit { offset, .. },
+        ) => offset as u64,
+        Err(other) => panic!("{other:?}"),
+    }
+}
+
+fn port_summary(answer: answers::Answer<answers::block::Layout>) -> u64 {
+    match answer {
+        Ok(l) => (l.strings + l.symbols + l.paths + l.instructions) as u64,
+        Err(refusal) => refusal.offset as u64,
+    }
+}

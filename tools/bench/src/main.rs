@@ -1,0 +1,76 @@
+//! Times the Rust and the port on the same inputs, in one run of one driver, and checks that their results are equal in it.
+
+mod blocks;
+mod measure;
+mod rows;
+mod texts;
+
+use measure::{Measured, measure};
+use rows::{Row, Side};
+
+const USAGE: &str = "usage: bench                           times of every row
+       bench ROW                       times of the rows whose names start so
+       bench --list                    the rows' names
+       bench --once ROW SIDE COUNT     one side (rust or port) of a row, so many times, to count instructions";
+
+fn main() {
+    let args: Vec<String> = std::env::args().skip(1).collect();
+    let args: Vec<&str> = args.iter().map(String::as_str).collect();
+    match args[..] {
+        [] => table(""),
+        ["--list"] => rows::all().iter().for_each(|row| println!("{}", row.name)),
+        ["--once", row, side, count] => once(row, side, count),
+        [row] if !row.starts_with('-') => table(row),
+        _ => {
+            eprintln!("{USAGE}");
+            std::process::exit(2);
+        }
+    }
+}
+
+fn table(prefix: &str) {
+    println!("| input | bytes | Rust ns | port ns | port / Rust | Rust MB/s | port MB/s |");
+    println!("|---|---|---|---|---|---|---|");
+    let mut worst: Option<(f64, String)> = None;
+    for row in rows::all() {
+        if !row.name.starts_with(prefix) {
+            continue;
+        }
+        let m = measure(&row);
+        print_row(&row, &m);
+        if worst.as_ref().is_none_or(|(ratio, _)| *ratio < m.ratio()) {
+            worst = Some((m.ratio(), row.name));
+        }
+    }
+    if let Some((ratio, name)) = worst {
+        println!("\nworst: {name}, {ratio:.2}");
+    }
+}
+
+fn print_row(row: &Row, m: &Measured) {
+    let speed = |nanoseconds: f64| row.bytes as f64 * 1000.0 / nanoseconds;
+    println!(
+        "| {} | {} | {:.0} | {:.0} | {:.2} | {:.0} | {:.0} |",
+        row.name,
+        row.bytes,
+        m.rust,
+        m.port,
+        m.ratio(),
+        speed(m.rust),
+        speed(m.port),
+    );
+}
+
+fn once(name: &str, side: &str, count: &str) {
+    let side = match side {
+        "rust" => Side::Rust,
+        "port" => Side::Port,
+        _ => panic!("a side is rust or port"),
+    };
+    let count: u64 = count.parse().expect("a number");
+    let row = rows::all()
+        .into_iter()
+        .find(|row| row.name == name)
+        .expect("a row's name");
+    println!("{}", row.sum(side, count));
+}

@@ -1,0 +1,39 @@
+//! The rows of the table: one input each, and what either side makes of it.
+
+use std::hint::black_box;
+
+#[derive(Clone, Copy)]
+pub enum Side {
+    Rust,
+    Port,
+}
+
+/// So many calls of a side; the sum of the summaries of their results.
+pub type Calls = Box<dyn Fn(u64) -> u64>;
+
+pub struct Row {
+    pub name: String,
+    pub bytes: usize,
+    pub rust: Calls,
+    pub port: Calls,
+}
+
+impl Row {
+    pub fn sum(&self, side: Side, count: u64) -> u64 {
+        match side {
+            Side::Rust => (self.rust)(count),
+            Side::Port => (self.port)(count),
+        }
+    }
+}
+
+/// Calls that give a summary each: equal results have equal summaries.
+pub fn calls(call: impl Fn() -> u64 + 'static) -> Calls {
+    Box::new(move |count| (0..count).fold(0u64, |sum, _| sum.wrapping_add(black_box(call()))))
+}
+
+pub fn all() -> Vec<Row> {
+    let mut rows = crate::texts::rows();
+    rows.extend(crate::blocks::rows());
+    rows
+}

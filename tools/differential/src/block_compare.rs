@@ -1,0 +1,162 @@
+//! One block on both sides: the result, every entry of both lent tables, and every record.
+
+use crate::tally::{Tally, hex};
+use answers::Answer;
+use answers::block::{Block, Event, Layout, Path, Symbol};
+use answers::refusal::{Kind, Refusal};
+use inputs::block_conditions::{accepted, condition};
+use inputs::cases::BlockCase;
+use port::block::{
+    parse_string_table_debug_and_ownership, read_component, read_debug_symbol, read_path,
+};
+use port::text::read_string;
+
+/// What a lent table holds before a call.
+const OLD: u64 = 0xA5A5_A5A5_A5A5_A5A5;
+
+/// The most strings, symbols and paths that a block may have.
+const MOST: [usize; 3] = [256, 8192, 65_535];
+
+pub fn compare(tally: &mut Tally, case: &BlockCase) {
+    let rust = oracle::block::block(&case.code, case.base, case.revision);
+    tally.input(match &rust {
+        Ok(_) => (0, accepted(case.revision)),
+        Err(refusal) => (refusal.number, condition(&case.code, case.base, refusal)),
+    });
+    with_rooms(tally, case, rooms(case), &rust);
+    if let Ok(block) = &rust {
+        records(tally, case, block);
+        short_tables(tally, case, &block.layout);
+    }
+}
+
+/// Room enough, and for paths not much more than that: a path takes 7 bytes at least, so a larger count is refused after all, unless its
+/// table is too short for the count.
+fn rooms(case: &BlockCase) -> [usize; 3] {
+    let room = case.code.len() / 7 + 3;
+    let small = call(case, [MOST[0], MOST[1], room]).0;
+    match small {
+        Err(Refusal { number: 61, .. }) => MOST,
+        _ => [MOST[0] + room % 3, MOST[1] + room % 3, room],
+    }
+}
+
+/// The port's answer with so much room for strings, symbols and paths, and the tables after it.
+fn call(case: &BlockCase, rooms: [usize; 3]) -> (Answer<Layout>, Vec<u64>, Vec<u64>) {
+    let (mut strings, mut paths) = (vec![OLD; rooms[0]], vec![OLD; rooms[2]]);
+    let answer = parse_string_table_debug_and_ownership(
+        case.base,
+        &case.code,
+        case.revision,
+        rooms[1],
+        &mut strings,
+        &mut paths,
+    );
+    (answer, strings, paths)
+}
+
+fn with_rooms(tally: &mut Tally, case: &BlockCase, rooms: [usize; 3], rust: &Answer<Block>) {
+    let (layout, strings, paths) = match rust {
+        Ok(b) => (Ok(b.layout), &b.string_starts[..], &b.path_starts[..]),
+        Err(refusal) => (Err(*refusal), &[][..], &[][..]),
+    };
+    let expected = (layout, lent(strings, rooms[0]), lent(paths, rooms[2]));
+    tally.same(&expected, &call(case, rooms), || what(case));
+}
+
+/// Entries, and zeros past them.
+pub fn lent(entries: &[u64], room: usize) -> Vec<u64> {
+    let mut table = entries.to_vec();
+    table.resize(room, 0);
+    table
+}
+
+fn what(case: &BlockCase) -> String {
+    format!(
+        "base {}, revision {}, {}",
+        case.base,
+        case.revision,
+        hex(&case.code)
+    )
+}
+
+fn records(tally: &mut Tally, case: &BlockCase, block: &Block) {
+    let code = &case.code;
+    for (text, &start) in block.strings.iter().zip(&block.string_starts) {
+        let port = read_string(code, start as usize);
+        let port = port.map(|s| (code[s.start..s.start + s.len].to_vec(), s.chars));
+        let rust = Ok((text.as_bytes().to_vec(), text.chars().count()));
+        tally.same(&rust, &port, || {
+            format!("string at {start}, {}", what(case))
+        });
+    }
+    let mut at = block.layout.symbols_start;
+    for symbol in &block.symbols {
+        let next: Answer<(Symbol, usize)> = Ok((*symbol, at + 10));
+        tally.same(&next, &read_debug_symbol(code, at), || {
+            format!("symbol at {at}, {}", what(case))
+        });
+        at += 10;
+    }
+    for (path, &start) in block.paths.iter().zip(&block.path_starts) {
+        let rust = Ok(path.clone());
+        tally.same(&rust, &path_at(case, start as usize), || {
+            format!("path at {start}, {}", what(case))
+        });
+    }
+}
+
+/// A path with its components, read one after the other.
+fn path_at(case: &BlockCase, start: usize) -> Answer<Path> {
+    let head = read_path(&case.code, start, case.revision)?;
+    let kind = match head.event {
+        Event::Borrow(_) => 0,
+        Event::Write(_) => 1,
+    };
+    let (mut components, mut at) = (Vec::new(), head.components_start);
+    for _ in 0..head.count {
+        let (component, next) = read_component(&case.code, at, case.revision, kind)?;
+        components.push(component);
+        at = next;
+    }
+    assert_eq!(at, head.next, "the components end where the path does");
+    Ok(Path {
+        event: head.event,
+        root: head.root,
+        components,
+    })
+}
+
+const SHORT: [&str; 3] = [
+    "strings, no Rust side",
+    "symbols, no Rust side",
+    "paths, no Rust side",
+];
+
+/// 61, which the Rust does not have: one table an entry too short, the others just long enough.
+fn short_tables(tally: &mut Tally, case: &BlockCase, layout: &Layout) {
+    let counts = [layout.strings, layout.symbols, layout.paths];
+    let places = [2, layout.symbols_start, paths_start(layout)];
+    for table in 0..3 {
+        if counts[table] == 0 {
+            continue;
+        }
+        let mut rooms = counts;
+        rooms[table] -= 1;
+        let refusal = Refusal {
+            kind: Kind::Added,
+            number: 61,
+            offset: case.base.saturating_add(places[table]),
+        };
+        let expected = (Err(refusal), lent(&[], rooms[0]), lent(&[], rooms[2]));
+        tally.input((61, SHORT[table]));
+        tally.same(&expected, &call(case, rooms), || {
+            format!("room {rooms:?}, {}", what(case))
+        });
+    }
+}
+
+/// The place after the path count of a block that has paths.
+fn paths_start(layout: &Layout) -> usize {
+    layout.symbols_start + 10 * layout.symbols + 4 + 2
+}

@@ -1,0 +1,101 @@
+//! Sections: every cut and byte change of small ones, faults one and two at once, limits, and large ones.
+
+use crate::tally::Tally;
+use inputs::random::Random;
+use inputs::section::Section;
+use inputs::section_conditions::condition;
+use inputs::{cases, shapes};
+
+pub fn run(r: &mut Random, count: usize) -> Tally {
+    let mut tally = Tally::new("sections, by the Rust alone");
+    for shape in [shapes::one_proof, shapes::two_proofs, shapes::joined] {
+        let bytes = shape(r).bytes();
+        cuts(&mut tally, &bytes);
+        byte_changes(&mut tally, &bytes);
+    }
+    large(&mut tally, r);
+    for _ in 0..count {
+        let case = cases::section(r);
+        compare(&mut tally, &case.file, case.cursor);
+    }
+    tally
+}
+
+fn compare(tally: &mut Tally, bytes: &[u8], cursor: usize) {
+    match oracle::section::section(bytes, cursor) {
+        Ok(_) => tally.input((0, "")),
+        Err(refusal) => {
+            let condition = condition(bytes, cursor, &refusal);
+            tally.input((refusal.number, condition));
+        }
+    }
+}
+
+/// Every cut, once with the payload length as it was and once with it repaired.
+fn cuts(tally: &mut Tally, bytes: &[u8]) {
+    for end in 0..=bytes.len() {
+        let mut cut = bytes[..end].to_vec();
+        compare(tally, &cut, 0);
+        if end >= 8 {
+            cut[4..8].copy_from_slice(&(end as u32 - 8).to_le_bytes());
+            compare(tally, &cut, 0);
+        }
+    }
+}
+
+/// Every byte with every other value.
+fn byte_changes(tally: &mut Tally, bytes: &[u8]) {
+    let mut changed = bytes.to_vec();
+    for at in 0..bytes.len() {
+        for change in 1..=255 {
+            changed[at] = bytes[at] ^ change;
+            compare(tally, &changed, 0);
+        }
+        changed[at] = bytes[at];
+    }
+}
+
+/// Limits at one below, at and one above, and the largest tables.
+fn large(tally: &mut Tally, r: &mut Random) {
+    let mut all: Vec<Section> = Vec::new();
+    for proofs in 255..=257 {
+        all.push(shapes::chain(r, proofs));
+    }
+    all.push(shapes::layers(r, 250, 160));
+    all.push(shapes::layers(r, 257, 10));
+    all.push(shapes::witnesses_and_ops(r, 40_000));
+    all.push(shapes::ops_on_one(r, 40_000));
+    for proofs in 65_535..=65_537 {
+        all.push(shapes::ops_on_one(r, proofs));
+    }
+    for count in 65_535..=65_537 {
+        all.push(shapes::many_propositions(r, count, 40));
+    }
+    for section in all {
+        compare(tally, &section.bytes(), 0);
+    }
+    payload_limits(tally, r);
+    count_limits(tally, r);
+}
+
+/// Payloads of 4,194,303 to 4,194,305 bytes.
+fn payload_limits(tally: &mut Tally, r: &mut Random) {
+    let mut section = shapes::many_propositions(r, 65_536, 49);
+    let short = 4_194_304 - (section.bytes().len() - 8);
+    for more in [short - 1, short, short + 1] {
+        section.policy.bytes = vec![b'p'; 1 + more];
+        compare(tally, &section.bytes(), 0);
+    }
+}
+
+/// Each count at one below, at and one above its limit, over enough bytes for its records.
+fn count_limits(tally: &mut Tally, r: &mut Random) {
+    for (table, limit) in [65_536, 65_536, 262_144, 262_144].into_iter().enumerate() {
+        for count in [limit - 1, limit, limit + 1] {
+            let mut section = Section::empty(r);
+            section.counts[table] = Some(count);
+            section.more = vec![0; 4_000_000];
+            compare(tally, &section.bytes(), 0);
+        }
+    }
+}

@@ -1,0 +1,28 @@
+//! Which condition of document 01's table a block met. Only for counts and for picking inputs; no comparison rests on it.
+
+use answers::refusal::Refusal;
+
+/// The condition behind a refusal, where its number stands for two.
+pub fn condition(code: &[u8], base: usize, refusal: &Refusal) -> &'static str {
+    match refusal.number {
+        34 if refusal.offset == usize::MAX => "place not known, the offset is held",
+        34 if string_is_cut(code, refusal.offset - base) => "string cut",
+        34 => "string not UTF-8",
+        _ => "",
+    }
+}
+
+/// Whether the string that starts at a place passes the end.
+fn string_is_cut(code: &[u8], start: usize) -> bool {
+    let length = u16::from_le_bytes([code[start - 2], code[start - 1]]);
+    start + length as usize > code.len()
+}
+
+/// What an accepted block's revision allows.
+pub fn accepted(revision: u16) -> &'static str {
+    match revision {
+        0..21 => "below revision 21",
+        21 => "revision 21",
+        _ => "from revision 22",
+    }
+}

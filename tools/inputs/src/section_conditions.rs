@@ -1,0 +1,242 @@
+//! Which condition of document 01's table a section met: the clause, the field or the text behind a refusal's number. Only for counts and
+//! for picking inputs; no comparison rests on it.
+
+use answers::refusal::Refusal;
+
+/// A section's records as they stand, unchecked, up to the first field that passes the payload's end.
+#[derive(Default)]
+struct Records<'a> {
+    texts: Vec<(&'static str, usize, usize)>,
+    counts_at: usize,
+    counts: [u32; 4],
+    propositions: Vec<(usize, &'a [u8], [u32; 3])>,
+    proofs: Vec<Proof>,
+    witnesses: Vec<(usize, [u32; 2], u8)>,
+    parents_at: usize,
+    parents: Vec<u32>,
+}
+
+struct Proof {
+    start: usize,
+    number: u32,
+    proposition: u32,
+    witness_first: u32,
+    witness_count: u32,
+    parent_first: u32,
+    parent_count: u32,
+}
+
+struct Reader<'a> {
+    payload: &'a [u8],
+    at: usize,
+}
+
+/// The name of the field that passes the end.
+type Cut = &'static str;
+
+impl<'a> Reader<'a> {
+    fn take(&mut self, name: Cut, width: usize) -> Result<&'a [u8], Cut> {
+        let field = self.payload.get(self.at..self.at + width).ok_or(name)?;
+        self.at += width;
+        Ok(field)
+    }
+
+    fn number(&mut self, name: Cut, width: usize) -> Result<u32, Cut> {
+        let bytes = self.take(name, width)?;
+        Ok(bytes.iter().rev().fold(0, |n, &b| n << 8 | b as u32))
+    }
+
+    fn text(
+        &mut self,
+        names: [Cut; 2],
+        texts: &mut Vec<(Cut, usize, usize)>,
+    ) -> Result<&'a [u8], Cut> {
+        let length = self.number(names[0], 2)? as usize;
+        let start = self.at;
+        texts.push((names[1], start, start + length));
+        self.take(names[1], length)
+    }
+}
+
+impl<'a> Records<'a> {
+    fn read(&mut self, payload: &'a [u8]) -> Result<(), Cut> {
+        let r = &mut Reader { payload, at: 0 };
+        r.take("schema", 2)?;
+        r.take("flags", 2)?;
+        r.take("source set", 32)?;
+        r.take("compiler contract", 32)?;
+        r.take("epoch", 2)?;
+        r.text(["policy length", "policy"], &mut self.texts)?;
+        r.text(["issuer length", "issuer"], &mut self.texts)?;
+        self.counts_at = r.at;
+        for (count, name) in self.counts.iter_mut().zip([
+            "proposition count",
+            "proof count",
+            "witness count",
+            "parent count",
+        ]) {
+            *count = r.number(name, 4)?;
+        }
+        for _ in 0..self.counts[0] {
+            let start = r.at;
+            let kind = r.text(["kind length", "kind"], &mut self.texts)?;
+            let numbers = [
+                r.number("owner", 4)?,
+                r.number("scope", 4)?,
+                r.number("type", 4)?,
+            ];
+            self.propositions.push((start, kind, numbers));
+        }
+        for _ in 0..self.counts[1] {
+            let proof = proof(r, &mut self.texts)?;
+            self.proofs.push(proof);
+        }
+        for _ in 0..self.counts[2] {
+            let start = r.at;
+            let numbers = [
+                r.number("witness number", 4)?,
+                r.number("witness's proposition", 4)?,
+            ];
+            let polarity = r.number("polarity", 1)? as u8;
+            r.take("witness's zeros", 3)?;
+            r.take("file digest", 32)?;
+            r.take("span start", 4)?;
+            r.take("span end", 4)?;
+            r.take("origin digest", 32)?;
+            self.witnesses.push((start, numbers, polarity));
+        }
+        self.parents_at = r.at;
+        for _ in 0..self.counts[3] {
+            self.parents.push(r.number("parent", 4)?);
+        }
+        Ok(())
+    }
+}
+
+fn proof(r: &mut Reader, texts: &mut Vec<(Cut, usize, usize)>) -> Result<Proof, Cut> {
+    let start = r.at;
+    let number = r.number("proof number", 4)?;
+    let proposition = r.number("proof's proposition", 4)?;
+    r.text(["rule length", "rule"], texts)?;
+    r.take("authority", 4)?;
+    let proof = Proof {
+        start,
+        number,
+        proposition,
+        witness_first: r.number("first witness", 4)?,
+        witness_count: r.number("proof's witness count", 4)?,
+        parent_first: r.number("first parent", 4)?,
+        parent_count: r.number("proof's parent count", 4)?,
+    };
+    r.take("operation", 1)?;
+    r.take("proof's zeros", 3)?;
+    Ok(proof)
+}
+
+/// The condition behind a refusal of the section at a cursor.
+pub fn condition(bytes: &[u8], cursor: usize, refusal: &Refusal) -> &'static str {
+    if refusal.number <= 4 {
+        return match refusal.number {
+            3 if bytes[cursor + 4..cursor + 8] == [0; 4] => "length 0",
+            3 => "length above the limit",
+            _ => "",
+        };
+    }
+    let start = cursor + 8;
+    let length = u32::from_le_bytes(bytes[cursor + 4..start].try_into().expect("4 bytes"));
+    let payload = &bytes[start..start + length as usize];
+    let mut records = Records::default();
+    let cut = records.read(payload).err();
+    match refusal.number {
+        5 => cut.unwrap_or("?"),
+        number => clause(&records, number, refusal.offset - start),
+    }
+}
+
+fn clause(s: &Records, number: u8, at: usize) -> &'static str {
+    match number {
+        6 => match s.texts.iter().find(|t| t.1 == at) {
+            Some(t) if t.1 == t.2 => "text length 0",
+            _ => "text length above the limit",
+        },
+        7 | 8 => s.texts.iter().find(|t| t.2 == at).map_or("?", |t| t.0),
+        9 => match s.witnesses.iter().any(|w| w.0 + 12 == at) {
+            true => "witness",
+            false => "proof",
+        },
+        12 => ["propositions", "proofs", "witnesses", "parents"][(at - s.counts_at) / 4],
+        16 => order(s, at),
+        17..=19 => proof_clause(s, number, at),
+        22 => match s.proofs.iter().map(|p| p.witness_count as u64).sum::<u64>()
+            != s.counts[2] as u64
+        {
+            true => "witnesses unowned",
+            false => "parents unowned",
+        },
+        23 => witness_clause(s, at),
+        25 | 26 => parent_clause(s, number, (at - s.parents_at) / 4),
+        _ => "",
+    }
+}
+
+fn order(s: &Records, at: usize) -> &'static str {
+    let index = s.propositions.iter().position(|p| p.0 == at).unwrap_or(1);
+    let [(_, kind, numbers), (_, next, others)] = s.propositions[index - 1..=index] else {
+        return "?";
+    };
+    if kind != next {
+        return "kind falls";
+    }
+    match (0..3).find(|&i| numbers[i] != others[i]) {
+        Some(i) => ["owner falls", "scope falls", "type falls"][i],
+        None => "repeated",
+    }
+}
+
+fn proof_clause(s: &Records, number: u8, at: usize) -> &'static str {
+    let Some(index) = s.proofs.iter().position(|p| p.start == at) else {
+        return "?";
+    };
+    let (p, before) = (&s.proofs[index], &s.proofs[..index]);
+    let owned: u64 = before.iter().map(|p| p.witness_count as u64).sum();
+    match number {
+        17 if p.number as usize != index => "number not its place",
+        17 => "no such proposition",
+        18 if p.witness_first as u64 != owned => "first witness",
+        18 => "first parent",
+        _ if owned + p.witness_count as u64 > s.counts[2] as u64 => "witnesses past the count",
+        _ => "parents past the count",
+    }
+}
+
+fn witness_clause(s: &Records, at: usize) -> &'static str {
+    let Some(index) = s.witnesses.iter().position(|w| w.0 == at) else {
+        return "?";
+    };
+    let (_, [number, proposition], polarity) = s.witnesses[index];
+    if number as usize != index {
+        "number not its place"
+    } else if proposition >= s.counts[0] {
+        "no such proposition"
+    } else if polarity > 1 {
+        "polarity above 1"
+    } else {
+        "start after end"
+    }
+}
+
+fn parent_clause(s: &Records, number: u8, cell: usize) -> &'static str {
+    let owns =
+        |p: &&Proof| (p.parent_first..p.parent_first + p.parent_count).contains(&(cell as u32));
+    let Some(proof) = s.proofs.iter().find(owns) else {
+        return "?";
+    };
+    let parent = s.parents[cell];
+    match number {
+        25 if parent as usize >= s.proofs.len() => "no such parent",
+        25 if parent >= proof.number => "parent not below its proof",
+        25 => "parent not above the one before",
+        _ if s.proofs[parent as usize].proposition != proof.proposition => "another proposition",
+        _ => "another authority",
+    }
+}

@@ -1,0 +1,115 @@
+//! Makes the oracle's modules from three Rust files that are not part of this repository.
+//!
+//! SEMANTIC_SRC names a checkout of skulmakov-oss/Semantic at commit a38c216cab. Its files must have the sums in sources.sha256. They are
+//! copied to OUT_DIR as they are, but for two mechanical changes: semcode_decode.rs' block function stops before its signature step, and
+//! the functions in reach/ are appended, since what they call is private.
+
+use std::env;
+use std::fs;
+use std::io::Write;
+use std::path::{Path, PathBuf};
+use std::process::{Command, Stdio};
+
+const SUMS: &str = include_str!("sources.sha256");
+const MODULES: [&str; 3] = ["evr0", "local_format", "semcode_decode"];
+
+fn main() {
+    println!("cargo::rerun-if-changed=build.rs");
+    println!("cargo::rerun-if-changed=sources.sha256");
+    println!("cargo::rerun-if-env-changed=SEMANTIC_SRC");
+    println!("cargo::rerun-if-env-changed=ORACLE_FAULT");
+    let sources = sources();
+    check_sums(&sources);
+    let out = PathBuf::from(env::var_os("OUT_DIR").expect("OUT_DIR"));
+    let mut root = String::new();
+    for module in MODULES {
+        let file = sources.join(module).with_extension("rs");
+        println!("cargo::rerun-if-changed={}", file.display());
+        let mut text = read(&file);
+        if module == "semcode_decode" {
+            text = stopped_before_signature(&text);
+        }
+        text = with_fault(module, text);
+        let reach = PathBuf::from(format!("reach/{module}.rs"));
+        if reach.exists() {
+            println!("cargo::rerun-if-changed={}", reach.display());
+            text.push_str(&read(&reach));
+        }
+        let copy = out.join(module).with_extension("rs");
+        fs::write(&copy, text).expect("a writable OUT_DIR");
+        root.push_str(&format!(
+            "#[allow(dead_code, clippy::all)]\n#[path = {copy:?}]\npub mod {module};\n"
+        ));
+    }
+    fs::write(out.join("modules.rs"), root).expect("a writable OUT_DIR");
+}
+
+fn read(path: &Path) -> String {
+    fs::read_to_string(path).unwrap_or_else(|e| panic!("{}: {e}", path.display()))
+}
+
+fn sources() -> PathBuf {
+    let folder = env::var_os("SEMANTIC_SRC")
+        .expect("SEMANTIC_SRC has to name a checkout of skulmakov-oss/Semantic at a38c216cab");
+    let folder = PathBuf::from(folder);
+    let inner = folder.join("crates/sm-format/src");
+    if inner.is_dir() { inner } else { folder }
+}
+
+fn check_sums(sources: &Path) {
+    let mut check = Command::new("sha256sum")
+        .args(["--check", "--strict", "--quiet"])
+        .current_dir(sources)
+        .stdin(Stdio::piped())
+        .spawn()
+        .expect("sha256sum");
+    let mut stdin = check.stdin.take().expect("a piped stdin");
+    stdin.write_all(SUMS.as_bytes()).expect("sha256sum reads");
+    drop(stdin);
+    let status = check.wait().expect("sha256sum ends");
+    assert!(
+        status.success(),
+        "the files are not those of commit a38c216cab"
+    );
+}
+
+/// The place of a text that must stand exactly once.
+fn once(text: &str, wanted: &str) -> usize {
+    let mut places = text.match_indices(wanted);
+    let (at, _) = places
+        .next()
+        .unwrap_or_else(|| panic!("not found: {wanted:?}"));
+    assert!(places.next().is_none(), "found twice: {wanted:?}");
+    at
+}
+
+/// Document 01: the reference is the function up to but without its signature step.
+fn stopped_before_signature(text: &str) -> String {
+    let step = once(
+        text,
+        "    let signature = if header_rev >= SEMCODE_SIGNATURE_MIN_REVISION {\n",
+    );
+    let end = once(text, "    Ok(StringTableDebugOwnershipParse {\n");
+    assert!(step < end, "the signature step is not the last one");
+    format!(
+        "{}    let signature = None;\n\n{}",
+        &text[..step],
+        &text[end..]
+    )
+}
+
+/// ORACLE_FAULT plants a fault, to see that a comparison finds it: a module, the text to replace and its replacement, a tab between them.
+fn with_fault(module: &str, text: String) -> String {
+    let Ok(fault) = env::var("ORACLE_FAULT") else {
+        return text;
+    };
+    let parts: Vec<&str> = fault.split('\t').collect();
+    let [place, old, new] = parts[..] else {
+        panic!("ORACLE_FAULT is no module, old and new text: {fault:?}");
+    };
+    if place != module {
+        return text;
+    }
+    once(&text, old);
+    text.replacen(old, new, 1)
+}

@@ -1,0 +1,10 @@
+//! The Rust decoders of skulmakov-oss/Semantic at commit a38c216cab, built unchanged (build.rs), with their answers in document 01's
+//! terms: a refusal has a kind, a number and an offset, and a table has the start of each record.
+
+include!(concat!(env!("OUT_DIR"), "/modules.rs"));
+
+pub mod block;
+pub mod lines;
+pub mod messages;
+pub mod section;
+pub mod text;

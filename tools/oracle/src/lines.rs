@@ -1,0 +1,89 @@
+//! Answers as lines of text.
+
+use crate::block::block;
+use crate::section::section;
+use answers::Answer;
+use answers::block::{Activation, Component, Event, Execution, Path};
+use answers::text::Span;
+use std::fmt::Display;
+
+pub fn hex(bytes: &[u8]) -> String {
+    bytes.iter().map(|byte| format!("{byte:02x}")).collect()
+}
+
+fn list<T: Display>(items: impl IntoIterator<Item = T>) -> String {
+    let items: Vec<String> = items.into_iter().map(|item| item.to_string()).collect();
+    items.join(",")
+}
+
+pub fn span_line(s: Span) -> String {
+    format!(
+        "start={} len={} chars={} next={}",
+        s.start, s.len, s.chars, s.next
+    )
+}
+
+pub fn section_line(bytes: &[u8], cursor: usize) -> Answer<String> {
+    let (s, _) = section(bytes, cursor)?;
+    Ok(format!(
+        "cursor={} counts={} depths={} propositions={} proofs={} policy={} issuer={} epoch={} \
+         source_set={} compiler_contract={}",
+        s.cursor,
+        list(s.counts),
+        list(&s.tables.depths),
+        list(&s.tables.propositions),
+        list(&s.tables.proofs),
+        s.policy,
+        s.issuer,
+        s.epoch,
+        hex(&s.source_set),
+        hex(&s.compiler_contract),
+    ))
+}
+
+pub fn block_line(bytes: &[u8], base: usize, revision: u16) -> Answer<String> {
+    let b = block(bytes, base, revision)?;
+    let strings = b.strings.iter().zip(&b.string_starts);
+    let paths = b.paths.iter().zip(&b.path_starts);
+    Ok(format!(
+        "counts={},{},{} debug={} ownership={} strings_end={} instructions={} strings={} \
+         symbols={} paths={}",
+        b.layout.strings,
+        b.layout.symbols,
+        b.layout.paths,
+        b.layout.has_debug,
+        b.layout.has_ownership,
+        b.layout.strings_end,
+        b.layout.instructions,
+        list(strings.map(|(text, start)| format!("{start}:{}", hex(text.as_bytes())))),
+        list(
+            b.symbols
+                .iter()
+                .map(|s| format!("{}:{}:{}", s.pc, s.line, s.column))
+        ),
+        list(paths.map(|(path, start)| format!("{start}:{}", path_item(path)))),
+    ))
+}
+
+/// event:root[components]
+fn path_item(path: &Path) -> String {
+    let event = match path.event {
+        Event::Borrow(Activation::None) => "borrow".to_string(),
+        Event::Borrow(Activation::FrameEntry) => "borrow-frame-entry".to_string(),
+        Event::Borrow(Activation::StoreSite(site)) => format!("borrow-store-site-{site}"),
+        Event::Write(Execution::None) => "write".to_string(),
+        Event::Write(Execution::StoreSite(site)) => format!("write-store-site-{site}"),
+        Event::Write(Execution::RecordSite(site)) => format!("write-record-site-{site}"),
+    };
+    let components: Vec<String> = path.components.iter().map(component_item).collect();
+    format!("{event}:{}[{}]", path.root, components.join(" "))
+}
+
+fn component_item(component: &Component) -> String {
+    match component {
+        Component::TupleIndex(index) => format!("tuple-{index}"),
+        Component::FieldSymbol(field) => format!("field-{field}"),
+        Component::Variant { variant, index } => format!("variant-{variant}-{index}"),
+        Component::SequenceIndex(index) => format!("sequence-{index}"),
+    }
+}
