@@ -1,1 +1,4 @@
 pub mod Ask
+pub mod Held
+pub mod Entry
+pub mod Maps

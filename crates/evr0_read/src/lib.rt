@@ -1,1 +1,6 @@
-// Reading an accepted section.
+// Records of an evidence section by number, the way down from a proof, and whether a proposition is authorised.
+mod authorised;
+mod cell;
+mod down;
+mod entry;
+mod held;

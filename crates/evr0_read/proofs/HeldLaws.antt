@@ -1,0 +1,113 @@
+-- What the payload of an accepted section holds: each proof record at its start, each parent cell at its place, and the first parent among the proofs.
+use Prim.Native.Nat.{ℕ, _+_, _-_, _*_, _≤_, _<_}
+use mathlib.Core.Path.{_≡_, sym, ap, _∙_, subst}
+use mathlib.Core.List.{List, [], map}
+use native.Mathlib.Omega.{arith}
+use lib.ListN.{length, getD, drop, length-drop, length-map}
+use borrow.Author.Tests.{lt-ltb}
+use Rattle.local_format.specs.Refusal.{Refusal}
+use Rattle.local_format.specs.Out.{ok, refused}
+use Rattle.local_format.specs.Field.{le, fieldAt, whole}
+use Rattle.local_format.specs.Text.{bytesAt, sectionField}
+use Rattle.local_format.proofs.OutLaws.{never, ok-same, bind-ok}
+use Rattle.local_format.proofs.FieldLaws.{field-ok, is-whole, le-drop}
+use Rattle.derivation.specs.Rule.{Rule, fourRules}
+use Rattle.derivation.specs.Section.{Proof, Checked, noProof, proofAt, parentAt, proofTotal, parentTotal}
+use Rattle.derivation.specs.Walk.{stay}
+use Rattle.derivation.proofs.Along.{first-owned}
+use Rattle.derivation.proofs.Demand.{walks-lead}
+use Rattle.derivation.proofs.Owners.{sum-mono}
+use Rattle.derivation.proofs.Rules.{four-shaped}
+use Rattle.evr0_section.specs.Rows.{Sized, Row}
+use Rattle.evr0_section.specs.Proof.{ProofRecord, Settled, Unowned, proofOf, checkProof, proofRow}
+use Rattle.evr0_section.specs.Witness.{parentRow}
+use Rattle.evr0_section.specs.Section.{Section, proofItem, parentItem, sectionOf}
+use Rattle.evr0_section.proofs.RowsLaws.{trace, trace-length}
+use Rattle.evr0_section.proofs.CheckedTables.{Steps, steps, tables-checked}
+use Rattle.evr0.specs.Answer.{startsOf}
+use Rattle.evr0_read.specs.Held.{Held, proofIn}
+use Rattle.evr0_read.proofs.FoundLaws.{Found, trace-found, found-map, fixed-start}
+
+-- the proof of a record and its rule
+abbrev pub proofOfRecord : ProofRecord → Rule → Proof
+proofOfRecord r rule = proofItem (record { start = 0; item = record { proof = r; rule = rule } })
+
+-- a parent cell has 4 bytes, which are its number
+parent-cell : (u : Unit {0}) (s : List ℕ) (r : Row ℕ (Unit {0})) → parentRow u s ≡ ok r → (r .size ≡ 4) × (r .item ≡ le 4 s 0) × (4 ≤ length s)
+unfolding parentRow
+parent-cell u s r e =
+    let g = bind-ok (sectionField 4 s 0) _ e in
+    let f = field-ok 5 4 s 0 (g .1) in
+    subst (λ (x : Row ℕ (Unit {0})). (x .size ≡ 4) × (x .item ≡ le 4 s 0) × (4 ≤ length s)) (ok-same (g .2)) (f .0, f .2, f .1)
+
+module _ (p starts : List ℕ) (d : Section) (held : Held p starts d) where
+  read : Steps fourRules (held .room) p (d .tables)
+  read = steps fourRules (held .room) p (d .tables) (held .tables)
+
+  checked : Checked (sectionOf (d .tables))
+  checked = tables-checked fourRules (held .room) p (d .tables) (held .tables) four-shaped
+
+  pub total : proofTotal (sectionOf (d .tables)) ≡ length starts
+  unfolding sectionOf proofTotal
+  total = length-map (d .tables .proofs .entries) proofItem ∙ sym (ap length (held .at) ∙ length-map (d .tables .proofs .entries) (λ e. e .start))
+
+  proof-found : (k : ℕ) → k < length starts → Found (proofRow fourRules (d .tables .head .counts)) p (d .tables .proofs .entries) k
+  proof-found k h =
+      let w = trace (proofRow fourRules (d .tables .head .counts)) p _ _ _ (d .tables .proofs) (read .proofs) in
+      trace-found (proofRow fourRules (d .tables .head .counts)) p w k (omega (arith, trace-length (proofRow fourRules (d .tables .head .counts)) p w, ap length (held .at), length-map (d .tables .proofs .entries) (λ e. e .start)))
+
+  -- the record with a number is that proof of the section
+  held-proof : (k : ℕ) → k < length starts
+      → (q : Sized ProofRecord) × (rule : Rule) × (proofIn p starts k ≡ ok q) × (proofAt (sectionOf (d .tables)) k ≡ proofOfRecord (q .item) rule)
+  unfolding proofIn proofAt sectionOf proofRow
+  held-proof k h =
+      let es = d .tables .proofs .entries in
+      let f = proof-found k h in
+      let s = drop (getD (startsOf es) k 0) p in
+      let q = bind-ok (proofOf s) _ (f .reads) in
+      let r = bind-ok (checkProof fourRules (d .tables .head .counts) (f .state) (bytesAt s (q .0 .item .rule .start) (q .0 .item .rule .len)) (q .0 .item)) _ (q .2) in
+      let same : q .0 .item ≡ f .entry .item .proof = ap (λ (x : Row Settled Unowned). x .item .proof) (ok-same (r .2)) ∙ ap (λ (x : Settled). x .proof) (f .item) in
+      let start : getD starts k 0 ≡ getD (startsOf es) k 0 = ap (λ (x : List ℕ). getD x k 0) (held .at) in (
+        q .0,
+        f .entry .item .rule,
+        rw (lt-ltb k (length starts) h, start) (q .1),
+        found-map proofItem noProof es k (f .found) ∙ ap (λ (x : ProofRecord). proofOfRecord x (f .entry .item .rule)) (sym same),
+      )
+
+  pub proof-there : (k : ℕ) {r : Refusal} → k < length starts → proofIn p starts k ≡ refused r → ⊥
+  proof-there k h e = never (sym e ∙ held-proof k h .2)
+
+  pub proof-is : (k : ℕ) {x : Sized ProofRecord} → k < length starts → proofIn p starts k ≡ ok x
+      → (rule : Rule) × (proofAt (sectionOf (d .tables)) k ≡ proofOfRecord (x .item) rule)
+  proof-is k h e = let q = held-proof k h in (q .1, q .3 ∙ ap (λ (x : Sized ProofRecord). proofOfRecord (x .item) (q .1)) (ok-same (sym (q .2) ∙ e)))
+
+  -- the first parent of a proof that has one
+  pub first-cell : (k : ℕ) → k < length starts → 0 < proofAt (sectionOf (d .tables)) k .parentCount
+      → proofAt (sectionOf (d .tables)) k .firstParent < parentTotal (sectionOf (d .tables))
+  first-cell k h c =
+      let l : k < proofTotal (sectionOf (d .tables)) = omega (arith, total) in
+      omega (arith, checked .firstParent k l, checked .parentsOwned, sum-mono (λ i. proofAt (sectionOf (d .tables)) i .parentCount) k (proofTotal (sectionOf (d .tables))) l)
+
+  pub first-there : (k : ℕ) → k < length starts → 0 < proofAt (sectionOf (d .tables)) k .parentCount
+      → parentAt (sectionOf (d .tables)) (proofAt (sectionOf (d .tables)) k .firstParent) < length starts
+  first-there k h c =
+      let l : k < proofTotal (sectionOf (d .tables)) = omega (arith, total) in
+      let j = walks-lead (d .tables .witnesses .next) (sectionOf (d .tables)) checked (d .depths) (held .depths) k [] k (stay l) .pickable _ (first-owned (sectionOf (d .tables)) k c) in
+      omega (arith, j .1, checked .proofNumber (j .0) (j .1), j .2, total)
+
+  -- a parent cell
+  pub held-parent : (c : ℕ) → c < parentTotal (sectionOf (d .tables))
+      → fieldAt 4 (drop (d .tables .witnesses .next) p) (4 * c) ≡ whole (record { value = parentAt (sectionOf (d .tables)) c; next = 4 * c + 4 })
+  unfolding parentAt parentTotal sectionOf
+  held-parent c h =
+      let es = d .tables .parents .entries in
+      let at = d .tables .witnesses .next in
+      let w = trace parentRow p _ _ _ (d .tables .parents) (read .parents) in
+      let l : c < d .tables .head .counts .parents = omega (arith, trace-length parentRow p w, length-map es parentItem) in
+      let f = trace-found parentRow p w c l in
+      let k = parent-cell (f .state) (drop (getD (startsOf es) c 0) p) (f .read) (f .reads) in
+      let start : getD (startsOf es) c 0 ≡ at + 4 * c = fixed-start parentRow p 4 (λ u s r e. parent-cell u s r e .0) w c l in
+      let value : getD (map parentItem es) c 0 ≡ le 4 (drop at p) (4 * c) =
+      found-map parentItem 0 es c (f .found) ∙ sym (f .item) ∙ k .1 ∙ le-drop 4 p (getD (startsOf es) c 0) 0 ∙ ap (le 4 p) (omega (arith, start)) ∙ sym (le-drop 4 p at (4 * c)) in
+      let room : 4 ≤ length (drop at p) - 4 * c = rw length-drop (omega (arith, start, k .2, length-drop (getD (startsOf es) c 0) p)) in
+      sym (is-whole 4 (drop at p) (4 * c) (getD (map parentItem es) c 0) room (omega arith) value)

@@ -1,0 +1,6 @@
+pub mod FoundLaws
+pub mod HeldLaws
+pub mod DownLaws
+pub mod AuthorisedLaws
+pub mod EntryLaws
+pub mod NumberedLaws

@@ -1,0 +1,115 @@
+-- A record read at its start is the entry with its number, and 62 is answered exactly where there is none: one law for the four tables.
+use Prim.Native.Nat.{ℕ, _+_, _-_, _*_, _≤_, _<_}
+use mathlib.Core.Path.{_≡_, refl, sym, ap, ap₂, _∙_}
+use mathlib.Core.Bool.{Bool, true, false}
+use mathlib.Core.List.{List}
+use native.Mathlib.Omega.{arith}
+use lib.Dec.{ltb}
+use lib.ListN.{length, getD, drop}
+use borrow.Author.Tests.{ltb-true, ltb-false}
+use Rattle.local_format.specs.Out.{Out, ok, _>>=_}
+use Rattle.local_format.specs.Number.{numbered}
+use Rattle.local_format.proofs.OutLaws.{bind-ok, checked-ok, ok-same}
+use Rattle.derivation.specs.Rule.{Rule}
+use Rattle.evr0_section.specs.Rows.{Sized, Row, Entry}
+use Rattle.evr0_section.specs.Head.{Counts, Room}
+use Rattle.evr0_section.specs.Proposition.{Proposition, Before, keyOf, rises, propositionOf, propositionRow}
+use Rattle.evr0_section.specs.Proof.{proofOf, proofRow}
+use Rattle.evr0_section.specs.Witness.{WitnessRecord, witnessOf, witnessRow, parentRow}
+use Rattle.evr0_section.specs.Section.{Tables, tablesOf}
+use Rattle.evr0_section.proofs.RowChecks.{proof-behind, witness-behind}
+use Rattle.evr0_section.proofs.RecordLaws.{witness-lies, parent-lies}
+use Rattle.evr0_section.proofs.CheckedTables.{Steps, steps}
+use Rattle.evr0_section.proofs.RowsLaws.{Trace, trace, trace-length}
+use Rattle.evr0.specs.Answer.{startsOf}
+use Rattle.evr0_read.specs.Entry.{shown, shownProposition, shownProof, placedProposition, placedProof, placedWitness, placedParent, entryAt}
+use Rattle.evr0_read.proofs.FoundLaws.{Found, not-found, found-map, trace-found, fixed-size, fixed-start}
+use Rattle.evr0_read.proofs.EntryLaws.{entry-none, entry-found}
+
+-- an entry as it is shown
+abbrev pub shownIn : {A B : Type 0} → (ℕ → A → B) → Out (Entry A) → Out (Entry B)
+shownIn f x = do
+  e ← x
+  ok (shown f e)
+
+module _ {A S X B : Type 0} (row : S → List ℕ → Out (Row A S)) (read : List ℕ → Out X) (place : ℕ → X → B) (f : ℕ → A → B)
+    (behind : (u : S) (s : List ℕ) (r : Row A S) → row u s ≡ ok r → (x : X) × (read s ≡ ok x) × ((start : ℕ) → place start x ≡ f start (r .item)))
+    (p : List ℕ) {n at end : ℕ} {u v : S} {es : List (Entry A)} (w : Trace row p n u at es v end) where
+  abbrev showing : ℕ → A → Out (Entry B)
+  showing start item = ok (shown f (record { start = start; item = item }))
+
+  pub entry-numbered : (start k : ℕ) → (k < n → start ≡ getD (startsOf es) k 0) → entryAt read place p n start k ≡ shownIn f (numbered k es)
+  entry-numbered start k h = go (ltb k n) refl
+    where
+      go : (t : Bool) → ltb k n ≡ t → entryAt read place p n start k ≡ shownIn f (numbered k es)
+      go true e =
+          let l : k < n = ltb-true k n e in
+          let x = trace-found row p w k l in
+          let b = behind (x .state) (drop (getD (startsOf es) k 0) p) (x .read) (x .reads) in
+          let s : start ≡ x .entry .start = h l ∙ found-map (λ e. e .start) 0 es k (x .found) in
+          sym (entry-found read place p n start k l (ap (λ (i : ℕ). read (drop i p)) (h l) ∙ b .1) (sym (b .2 start)))
+          ∙ ap₂ showing s (x .item)
+          ∙ ap (shownIn f) (sym (x .found))
+      go false e = sym (entry-none read place p n start k (ltb-false k n e)) ∙ ap (shownIn f) (sym (not-found k es (omega (arith, ltb-false k n e, trace-length row p w))))
+
+-- ---- The records behind the rows
+
+proposition-behind : (before : Before) (s : List ℕ) (r : Row Proposition Before) → propositionRow before s ≡ ok r
+    → (x : Sized Proposition) × (propositionOf s ≡ ok x) × ((start : ℕ) → placedProposition start x ≡ shownProposition start (r .item))
+unfolding propositionRow
+proposition-behind before s r e =
+    let x = bind-ok (propositionOf s) _ e in
+    let c = checked-ok (rises before (keyOf s (x .0 .item))) 16 0 _ (x .2) in
+    (x .0, x .1, λ start. ap (λ (y : Row Proposition Before). shownProposition start (y .item)) (ok-same (c .1)))
+
+witness-size : (counts : Counts) (w : ℕ) (s : List ℕ) (r : Row WitnessRecord ℕ) → witnessRow 4 counts w s ≡ ok r → r .size ≡ 84
+witness-size counts w s r e =
+    let (x, read, item, size) = witness-behind 4 counts w s r e in
+    size ∙ witness-lies s 0 4 x read .size
+
+parent-size : (u : Unit {0}) (s : List ℕ) (r : Row ℕ (Unit {0})) → parentRow u s ≡ ok r → r .size ≡ 4
+parent-size u s r e = parent-lies s 0 u r e .1
+
+-- ---- The four tables
+module _ (rules : List Rule) (room : Room) (p : List ℕ) (t : Tables) (read : tablesOf rules room p ≡ ok t) where
+  tables : Steps rules room p t
+  tables = steps rules room p t read
+
+  abbrev counts : Counts
+  counts = t .head .counts
+
+  pub proposition-numbered : (k : ℕ) → entryAt propositionOf placedProposition p (counts .propositions) (getD (startsOf (t .propositions .entries)) k 0) k
+      ≡ shownIn shownProposition (numbered k (t .propositions .entries))
+  proposition-numbered k =
+      entry-numbered propositionRow propositionOf placedProposition shownProposition proposition-behind p
+      (trace propositionRow p _ _ _ (t .propositions) (tables .propositions)) _ k (λ l. refl)
+
+  pub proof-numbered : (k : ℕ) → entryAt proofOf placedProof p (counts .proofs) (getD (startsOf (t .proofs .entries)) k 0) k
+      ≡ shownIn (λ start s. shownProof start (s .proof)) (numbered k (t .proofs .entries))
+  proof-numbered k =
+      entry-numbered (proofRow rules counts) proofOf placedProof (λ start s. shownProof start (s .proof))
+      (λ u s r e. let b = proof-behind rules counts u s r e in (b .proof, b .read, λ start. ap (shownProof start) (sym (b .item)))) p
+      (trace (proofRow rules counts) p _ _ _ (t .proofs) (tables .proofs)) _ k (λ l. refl)
+
+  parents-trace : Trace parentRow p (counts .parents) tt (t .witnesses .next) (t .parents .entries) tt (t .parents .next)
+  parents-trace = trace parentRow p _ _ _ (t .parents) (tables .parents)
+
+  -- the parents take the last bytes of the payload
+  parents-at : t .witnesses .next + 4 * counts .parents ≡ length p
+  parents-at = sym (fixed-size parentRow p 4 parent-size parents-trace) ∙ tables .whole
+
+  pub parent-numbered : (k : ℕ) → entryAt (parentRow tt) placedParent p (counts .parents) (length p - 4 * (counts .parents - k)) k
+      ≡ shownIn (λ start c. c) (numbered k (t .parents .entries))
+  parent-numbered k =
+      entry-numbered parentRow (parentRow tt) placedParent (λ start c. c) (λ u s r e. (r, e, λ start. refl)) p parents-trace _ k
+      (λ l. omega (arith, fixed-start parentRow p 4 parent-size parents-trace k l, parents-at))
+
+  witnesses-trace : Trace (witnessRow 4 counts) p (counts .witnesses) 0 (t .proofs .next) (t .witnesses .entries) (t .witnesses .state) (t .witnesses .next)
+  witnesses-trace = trace (witnessRow 4 counts) p _ _ _ (t .witnesses) (tables .witnesses)
+
+  pub witness-numbered : (k : ℕ) → entryAt (witnessOf 4) placedWitness p (counts .witnesses) (length p - (84 * (counts .witnesses - k) + 4 * counts .parents)) k
+      ≡ shownIn (λ start w. w) (numbered k (t .witnesses .entries))
+  witness-numbered k =
+      entry-numbered (witnessRow 4 counts) (witnessOf 4) placedWitness (λ start w. w)
+      (λ u s r e. let (x, read, item, size) = witness-behind 4 counts u s r e in (x, read, λ start. sym item)) p witnesses-trace _ k
+      (λ l. omega (arith, fixed-start (witnessRow 4 counts) p 84 (witness-size counts) witnesses-trace k l, fixed-size (witnessRow 4 counts) p 84 (witness-size counts) witnesses-trace, parents-at))
