@@ -17,8 +17,6 @@ use Rattle.evr0_records.specs.declared.proof.ProofRead.the-variants as p
 use Rattle.evr0_records.specs.declared.proof.Settled.{Settled}
 use Rattle.evr0_records.specs.declared.proof.Settled.the-variants as settled
 use Rattle.evr0_records.specs.declared.proof.Unowned.{Unowned}
-use Rattle.evr0_records.specs.declared.proposition.Before.{Before}
-use Rattle.evr0_records.specs.declared.proposition.Before.the-variants as before
 use Rattle.evr0_records.specs.declared.proposition.Proposition.{Proposition}
 use Rattle.evr0_records.specs.declared.proposition.PropositionRead.{PropositionRead}
 use Rattle.evr0_records.specs.declared.proposition.PropositionRead.the-variants as proposition
@@ -47,11 +45,6 @@ propositionRecord p =
 abbrev pub propositionOut : PropositionRead → Out (Sized props.Proposition)
 propositionOut (proposition.Read p n) = ok (record { item = propositionRecord p; size = n })
 propositionOut (proposition.Refused r) = refused (refusalOut r)
-
--- the proposition before, which is at the front of s
-abbrev pub beforeOut : Before → List ℕ → props.Before
-beforeOut before.First s = props.first
-beforeOut (before.After p) s = props.after (props.keyOf s (propositionRecord p))
 
 -- ---- Rules
 

@@ -1,7 +1,6 @@
 // Proof records and their checks.
 ghost use mathlib.Core.Path.{_≡_};
 ghost use Rattle.local_format.specs.Out.{refuse};
-ghost use Rattle.local_format.specs.Maps.{refusalOut, refusalOf};
 ghost use Rattle.derivation.specs.Rule.{fourRules};
 ghost use Rattle.evr0_section.specs.Proof.{proofOf, hasNumbers, checkProof};
 ghost use Rattle.evr0_head.specs.Maps.{countsOut};
@@ -155,24 +154,6 @@ pub fn read_proof(tail: &[u8]) -> ProofRead
             authorized_operation,
         },
         size,
-    }
-}
-
-pub fn proof_refusal(read: ProofRead) -> Refusal
-    ensures { λ r. ⌜ refusalOut r ≡ refusalOf (proofOut read) ⌝ }
-{
-    match read {
-        ProofRead::Refused(refusal) => refusal,
-        ProofRead::Read { proof: _, size: _ } => local_format::refusal::refuse(0, 0),
-    }
-}
-
-pub fn settled_refusal(settled: Settled) -> Refusal
-    ensures { λ r. ⌜ refusalOut r ≡ refusalOf (settledOut settled) ⌝ }
-{
-    match settled {
-        Settled::Refused(refusal) => refusal,
-        Settled::By(_) => local_format::refusal::refuse(0, 0),
     }
 }
 

@@ -2,8 +2,7 @@
 ghost use mathlib.Core.Path.{_≡_};
 ghost use Rattle.local_format.specs.Out.{refuse};
 ghost use Rattle.evr0_section.specs.Proposition.{propositionOf, compareKeys, isLess, keyOf};
-ghost use Rattle.evr0_section.specs.Proposition as of;
-ghost use Rattle.evr0_records.specs.Maps.{propositionRecord, propositionOut, beforeOut};
+ghost use Rattle.evr0_records.specs.Maps.{propositionRecord, propositionOut};
 use crate::order::and_then;
 use crate::order::is_less;
 use evr0_head::span::Span;
@@ -24,12 +23,6 @@ pub enum PropositionRead {
         size: usize,
     },
     Refused(Refusal),
-}
-
-// The proposition before, if there is one.
-pub enum Before {
-    First,
-    After(Proposition),
 }
 
 fn cut(at: usize) -> PropositionRead
@@ -107,14 +100,4 @@ pub fn precedes(part: &[u8], a: Proposition, tail: &[u8], b: Proposition) -> boo
     let scopes = crate::order::compare(a.semantic_scope_id, b.semantic_scope_id);
     let types = crate::order::compare(a.type_obligation_id, b.type_obligation_id);
     is_less(and_then(kinds, and_then(owners, and_then(scopes, types))))
-}
-
-// Whether a proposition comes after the one before, which is at the front of `part`, if there is one.
-pub fn rises(previous: Before, part: &[u8], tail: &[u8], proposition: Proposition) -> bool
-    ensures { λ r. ⌜ r ≡ of.rises (beforeOut previous (now (part .entry))) (keyOf (now (tail .entry)) (propositionRecord proposition)) ⌝ }
-{
-    match previous {
-        Before::First => true,
-        Before::After(last) => precedes(part, last, tail, proposition),
-    }
 }

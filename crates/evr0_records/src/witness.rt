@@ -3,10 +3,10 @@ ghost use mathlib.Core.Path.{_≡_};
 ghost use mathlib.Core.List.{List};
 ghost use Prim.Native.Nat.{ℕ};
 ghost use Rattle.local_format.specs.Out.{refused};
-ghost use Rattle.local_format.specs.Maps.{refusalOut, refusalOf};
+ghost use Rattle.local_format.specs.Maps.{refusalOut};
 ghost use Rattle.evr0_section.specs.Witness.{witnessOf, checkWitness};
 ghost use Rattle.evr0_head.specs.Maps.{countsOut, checkedOut};
-ghost use Rattle.evr0_records.specs.Maps.{witnessRecord, witnessIn, witnessOut, witnessBeside};
+ghost use Rattle.evr0_records.specs.Maps.{witnessRecord, witnessOut, witnessBeside};
 use evr0_head::check::Checked;
 use evr0_head::counts::Counts;
 use evr0_head::number::PropositionIndex;
@@ -119,18 +119,6 @@ pub fn read_witness(tail: &[u8]) -> WitnessRead
             },
             size,
         },
-    }
-}
-
-pub fn witness_refusal(answer: WitnessAnswer) -> Refusal
-    ensures { λ r. ⌜ ((file origin : List ℕ) → refusalOut r ≡ refusalOf (witnessIn file origin answer)) ⌝ }
-{
-    match answer {
-        WitnessAnswer::Refused(refusal) => refusal,
-        WitnessAnswer::Read {
-            witness: _,
-            size: _,
-        } => local_format::refusal::refuse(0, 0),
     }
 }
 
