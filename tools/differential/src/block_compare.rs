@@ -12,7 +12,7 @@ use port::block::{
 use port::text::read_string;
 
 /// What a lent table holds before a call.
-const OLD: u64 = 0xA5A5_A5A5_A5A5_A5A5;
+pub const OLD: u64 = 0xA5A5_A5A5_A5A5_A5A5;
 
 /// The most strings, symbols and paths that a block may have.
 const MOST: [usize; 3] = [256, 8192, 65_535];

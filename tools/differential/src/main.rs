@@ -3,6 +3,7 @@
 mod block_compare;
 mod blocks;
 mod fields;
+mod section_compare;
 mod sections;
 mod tally;
 mod texts;

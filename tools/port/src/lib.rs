@@ -4,6 +4,7 @@
 pub mod block;
 pub mod field;
 pub mod refusal;
+pub mod section;
 pub mod tag;
 pub mod text;
 pub mod utf8;
