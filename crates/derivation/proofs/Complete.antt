@@ -1,17 +1,17 @@
 -- The last pass accepts where each parent is below its proof, joins rise and no walk fails. Each test of the pass would else name a walk
 -- that fails: the depth of a proof is one more than the moves of some walk from it.
-use Prim.Native.Nat.{ℕ, zero, suc, _+_, _*_, _≤_, _<_, max}
+use Prim.Native.Nat.{ℕ, zero, suc, _+_, _≤_, _<_, max}
 use mathlib.Core.Path.{_≡_, refl, sym, ap, _∙_, subst}
 use mathlib.Core.Logic.{_⊎_, inl, inr, ⊎-elim}
-use mathlib.Core.Bool.{Bool, true, false, _&&_}
+use mathlib.Core.Bool.{Bool, true}
 use mathlib.Core.List.{List, [], _∷_, _++_}
 use native.Mathlib.Omega.{arith}
 use native.Mathlib.Nat.{le-refl}
 use lib.ListN.{length, getD, length-append, List·getD-append}
 use lib.Seq.{getD-at}
-use lib.Dec.{ltb, leb, eqb}
+use lib.Dec.{eqb}
 use borrow.Author.Tests.{eqb-true, eqb-false, lt-ltb, le-leb, eq-eqb}
-use Rattle.local_format.specs.Out.{Out, ok, check, _>>_, _>>=_}
+use Rattle.local_format.specs.Out.{Out, ok, check, _>>_}
 use Rattle.local_format.proofs.OutLaws.{on-ok}
 use Rattle.derivation.specs.Rule.{Rule, Shaped, byWitness, byParents, polarityFits}
 use Rattle.derivation.specs.Section.{Proof, Section, Checked, Within, proofAt, witnessAt, parentAt, proofTotal, OwnsParent, OwnsWitness}
@@ -19,7 +19,7 @@ use Rattle.derivation.specs.Pass.{agrees, parentsFrom, witnessesFrom, de
 use Rattle.derivation.specs.Walk.{Walk, stay, move, AtEnd, Witnessed, Fails, long, strays, unwitnessed, NoWalkFails, ParentsBelow, JoinsRise}
 use Rattle.derivation.specs.Demand.{Derivable}
 use Rattle.derivation.proofs.Tests.{both-true, second-true, by-test, order}
-use Rattle.derivation.proofs.Sound.{Kin, Suits, Parents, parents-sound, depthAt}
+use Rattle.derivation.proofs.Sound.{Kin, Suits, parents-sound, depthAt}
 
 -- what a check lets through
 passed : {B : Type 0} (t : Bool) (n at : ℕ) (y : Out B) → t ≡ true → (check t n at >> y) ≡ y

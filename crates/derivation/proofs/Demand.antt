@@ -1,11 +1,11 @@
 -- Demand 3, about tables that pass their own checks: by soundness and completeness of the last pass.
-use Prim.Native.Nat.{ℕ, suc, _≤_, _<_}
-use mathlib.Core.Path.{_≡_, ap}
+use Prim.Native.Nat.{ℕ, _<_}
+use mathlib.Core.Path.{_≡_}
 use mathlib.Core.List.{List}
-use mathlib.Core.Logic.{_↔_, _⊎_, ⊎-elim}
+use mathlib.Core.Logic.{_↔_, ⊎-elim}
 use native.Mathlib.Omega.{arith}
 use Rattle.local_format.specs.Out.{ok}
-use Rattle.derivation.specs.Section.{Section, Checked, proofAt, parentAt, proofTotal, OwnsParent}
+use Rattle.derivation.specs.Section.{Section, Checked, proofAt, proofTotal, OwnsParent}
 use Rattle.derivation.specs.Pass.{depths}
 use Rattle.derivation.specs.Walk.{Walk, AtEnd}
 use Rattle.derivation.specs.Demand.{Leads, Derivable, Depth, Depths}

@@ -1,17 +1,17 @@
 -- The way down of an accepted section is a walk by first parents, and is spent only at its limit: induction on the limit.
 use Prim.Native.Nat.{ℕ, zero, suc, _+_, _≤_, _<_}
 use mathlib.Core.Path.{_≡_, refl, sym, ap, _∙_, subst}
-use mathlib.Core.Logic.{_↔_, _⊎_, inl, inr, ⊎-elim}
-use mathlib.Core.Bool.{Bool, true, false, cond, _&&_, _||_}
-use mathlib.Core.List.{List, [], _∷_, _++_}
+use mathlib.Core.Logic.{⊎-elim}
+use mathlib.Core.Bool.{Bool, true, false, cond}
+use mathlib.Core.List.{List, [], _∷_}
 use native.Mathlib.Omega.{arith}
-use lib.ListN.{length, getD, length-append}
+use lib.ListN.{length, length-append}
 use lib.Dec.{eqb}
-use borrow.Author.Tests.{eqb-true, eqb-false, eq-eqb}
+use borrow.Author.Tests.{eqb-true, eqb-false}
 use Rattle.local_format.specs.Out.{ok}
-use Rattle.derivation.specs.Section.{Section, Checked, proofAt, parentAt, proofTotal, OwnsParent}
+use Rattle.derivation.specs.Section.{Section, Checked, proofAt, parentAt, proofTotal}
 use Rattle.derivation.specs.Pass.{depths}
-use Rattle.derivation.specs.Walk.{Walk, stay, move, AtEnd, Witnessed}
+use Rattle.derivation.specs.Walk.{Walk, stay, move, AtEnd}
 use Rattle.derivation.specs.Demand.{Leads}
 use Rattle.derivation.specs.Down.{Down, witness, spent, downFrom, wayDown, firstPicks, Tells, ends, goesOn}
 use Rattle.derivation.proofs.Tests.{order}

@@ -1,20 +1,20 @@
 -- The last pass and the way down by one step, in the terms of a loop: k are left, and then k - 1.
 use Prim.Native.Nat.{ℕ, zero, suc, _+_, _-_, _*_, _≤_, _<_, max}
-use mathlib.Core.Path.{_≡_, refl, sym, ap, _∙_}
-use mathlib.Core.Bool.{Bool, true, false, cond, _&&_}
+use mathlib.Core.Path.{_≡_, refl, sym, _∙_}
+use mathlib.Core.Bool.{Bool, true, false, _&&_}
 use mathlib.Core.List.{List, [], _∷_, _++_}
 use native.Mathlib.Omega.{arith}
 use native.Mathlib.Numerals.{add-one, sub-one}
 use lib.ListN.{getD}
-use lib.Dec.{ltb, leb, eqb}
+use lib.Dec.{ltb, leb}
 use borrow.Author.Tests.{le-leb, lt-leb, eq-eqb, ne-eqb}
 use Rattle.local_format.specs.Refusal.{Refusal}
-use Rattle.local_format.specs.Out.{Out, ok, refused, refuse, _>>_}
+use Rattle.local_format.specs.Out.{ok, refused, refuse}
 use Rattle.local_format.proofs.OutLaws.{on-ok, on-refused}
 use Rattle.derivation.specs.Rule.{polarityFits}
 use Rattle.derivation.specs.Section.{Proof, Section, proofAt, witnessAt, parentAt}
 use Rattle.derivation.specs.Pass.{agrees, parentsFrom, witnessesFrom, depthOf, depthsFrom}
-use Rattle.derivation.specs.Down.{Down, witness, spent, downFrom}
+use Rattle.derivation.specs.Down.{witness, spent, downFrom}
 
 module _ (cellsAt : ℕ) (s : Section) where
   module _ (p : Proof) where

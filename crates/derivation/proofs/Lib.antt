@@ -8,3 +8,5 @@ pub mod Down
 pub mod Rules
 pub mod Authorised
 pub mod Laws
+pub mod Reach
+pub mod Numbers

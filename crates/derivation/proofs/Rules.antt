@@ -1,13 +1,13 @@
 -- The rule of a name, and the four rules: membership in the table by cases.
-use Prim.Native.Nat.{ℕ, _≤_}
+use Prim.Native.Nat.{ℕ}
 use mathlib.Core.Path.{_≡_, refl, sym, ap, _∙_, subst}
 use mathlib.Core.Logic.{_↔_, _⊎_, inl, inr, ⊎-elim}
 use mathlib.Core.Bool.{Bool, true, false, cond}
 use mathlib.Core.List.{List, [], _∷_, List·Memᴰ, List·Memᴰ·head, List·Memᴰ·tail}
 use native.Mathlib.Omega.{arith}
 use Rattle.local_format.specs.Tag.{equal}
-use Rattle.local_format.proofs.TagLaws.{equal-is, equal-self}
-use Rattle.derivation.specs.Rule.{Rule, Shaped, byWitness, byParents, Named, known, unknown, ruleNamed, posWitness1, negWitness1, joinSameP1, opTOnly1, fourRules}
+use Rattle.local_format.proofs.TagLaws.{equal-is}
+use Rattle.derivation.specs.Rule.{Rule, Shaped, byWitness, byParents, known, ruleNamed, posWitness1, negWitness1, joinSameP1, opTOnly1, fourRules}
 
 -- ---- Any table of rules
 

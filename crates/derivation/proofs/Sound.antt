@@ -1,16 +1,16 @@
 -- What the last pass has established of each proof where it accepts, by one induction for each of its loops.
-use Prim.Native.Nat.{ℕ, zero, suc, _+_, _*_, _≤_, _<_, max}
+use Prim.Native.Nat.{ℕ, zero, suc, _+_, _≤_, _<_, max}
 use mathlib.Core.Path.{_≡_, refl, sym, ap, _∙_, subst}
 use mathlib.Core.Logic.{_⊎_, inl, inr, ⊎-elim}
-use mathlib.Core.Bool.{Bool, true, false}
+use mathlib.Core.Bool.{true}
 use mathlib.Core.List.{List, [], _∷_, _++_}
 use native.Mathlib.Omega.{arith}
 use native.Mathlib.Nat.{le-refl, le-trans}
 use lib.ListN.{length, getD, length-append, List·getD-append}
 use lib.Seq.{getD-at}
 use borrow.Author.Tests.{ltb-true, leb-true, eqb-true}
-use Rattle.local_format.specs.Out.{Out, ok}
-use Rattle.local_format.proofs.OutLaws.{bind-ok, then-ok, check-ok, checked-ok, ok-same}
+use Rattle.local_format.specs.Out.{ok}
+use Rattle.local_format.proofs.OutLaws.{bind-ok, then-ok, checked-ok, ok-same}
 use Rattle.derivation.specs.Rule.{polarityFits}
 use Rattle.derivation.specs.Section.{Proof, Section, Within, proofAt, witnessAt, parentAt, proofTotal, OwnsParent, OwnsWitness}
 use Rattle.derivation.specs.Pass.{agrees, parentsFrom, witnessesFrom, depthOf, depthsFrom, depths}

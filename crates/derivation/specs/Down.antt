@@ -1,6 +1,6 @@
 -- *Way down* and *authorised*.
 use Prim.Native.Nat.{ℕ, zero, suc, _≤_, _<_}
-use mathlib.Core.Bool.{Bool, true, false, cond, _||_, _&&_}
+use mathlib.Core.Bool.{Bool, false, cond, _||_, _&&_}
 use mathlib.Core.List.{List, [], _∷_}
 use lib.Dec.{eqb}
 use Rattle.derivation.specs.Section.{Proof, Section, proofAt, parentAt}

@@ -1,4 +1,9 @@
 pub mod WrittenLaws
 pub mod DecimalLaws
 pub mod LineLaws
+pub mod NumberLaws
+pub mod Enough
+pub mod OutputLength
+pub mod ListedLaws
+pub mod AcceptedLaws
 pub mod Printed

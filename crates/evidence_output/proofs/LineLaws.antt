@@ -1,6 +1,6 @@
 -- A line is written number by number.
 use Prim.Native.Nat.{ℕ}
-use mathlib.Core.Path.{_≡_, refl, sym, ap, _∙_}
+use mathlib.Core.Path.{_≡_, refl}
 use mathlib.Core.List.{List, [], _∷_, _++_, append-nil, append-assoc}
 use Rattle.evidence_output.specs.Decimal.{decimal}
 use Rattle.evidence_output.specs.Output.{spaced, line}

@@ -1,5 +1,5 @@
 -- Bytes written after other bytes are the bytes of both written at once, wherever the list ends.
-use Prim.Native.Nat.{ℕ, suc, _+_, _-_, _≤_, _<_, min}
+use Prim.Native.Nat.{ℕ, suc, _+_, _≤_, _<_}
 use mathlib.Core.Path.{_≡_, refl, sym, ap, _∙_}
 use mathlib.Core.Logic.{_⊎_, inl, inr, ⊎-elim}
 use mathlib.Core.Bool.{Bool, true, false}
@@ -8,8 +8,8 @@ use native.Mathlib.Omega.{arith}
 use native.Mathlib.Nat.{add-zero, add-suc, suc-add}
 use lib.Dec.{ltb}
 use borrow.Author.Tests.{ltb-true, ltb-false}
-use lib.ListN.{length, take, drop, length-append}
-use lib.Seq.{sets, length-sets, sets-eq, set-out, take-append-seam}
+use lib.ListN.{length, length-append}
+use lib.Seq.{sets, length-sets, set-out}
 use Rattle.evidence_output.specs.Written.{Written}
 
 sets-append : (s : List ℕ) (at : ℕ) (xs ys : List ℕ) → sets s at (xs ++ ys) ≡ sets (sets s at xs) (at + length xs) ys

@@ -5,7 +5,6 @@ use mathlib.Core.Bool.{cond}
 use lib.ListN.{length}
 use lib.Dec.{leb}
 use Rattle.local_format.specs.Out.{Out, ok, refused}
-use Rattle.local_format.specs.Refusal.{Refusal}
 use Rattle.local_format.specs.Tag.{evr0}
 use Rattle.evr0_section.specs.Rows.{Entry}
 use Rattle.evr0_section.specs.Head.{Counts, Room, listed}

@@ -1,4 +1,2 @@
-pub mod PlaceLaws
 pub mod OrderLaws
 pub mod ProofLaws
-pub mod HeadLaws

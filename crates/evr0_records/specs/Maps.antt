@@ -2,27 +2,13 @@
 use Prim.Native.Nat.{ℕ}
 use mathlib.Core.List.{List}
 use Rattle.local_format.specs.Out.{Out, ok, refused}
-use Rattle.local_format.specs.Text as text
 use Rattle.local_format.specs.Maps.{refusalOut}
 use Rattle.derivation.specs.Rule as rules
 use Rattle.evr0_section.specs.Rows.{Sized, Row}
-use Rattle.evr0_section.specs.Head as of
 use Rattle.evr0_section.specs.Proposition as props
 use Rattle.evr0_section.specs.Proof as proofs
 use Rattle.evr0_section.specs.Witness.{WitnessRecord}
-use Rattle.evr0_records.specs.declared.check.Checked.{Checked}
-use Rattle.evr0_records.specs.declared.check.Checked.the-variants as checked
-use Rattle.evr0_records.specs.declared.place.Place.{Place}
-use Rattle.evr0_records.specs.declared.place.Place.the-variants as place
-use Rattle.evr0_records.specs.declared.place.Digest.{Digest}
-use Rattle.evr0_records.specs.declared.counts.Counts.{Counts}
-use Rattle.evr0_records.specs.declared.counts.Counted.{Counted}
-use Rattle.evr0_records.specs.declared.counts.Counted.the-variants as counted
-use Rattle.evr0_records.specs.declared.head.Head.{Head}
-use Rattle.evr0_records.specs.declared.head.HeadAnswer.{HeadAnswer}
-use Rattle.evr0_records.specs.declared.head.HeadAnswer.the-variants as head
-use Rattle.evr0_records.specs.declared.head.HeadRead.{HeadRead}
-use Rattle.evr0_records.specs.declared.head.Room.{Room}
+use Rattle.evr0_head.specs.Maps.{spanOut, Beside, beside}
 use Rattle.evr0_records.specs.declared.order.Order.{Order}
 use Rattle.evr0_records.specs.declared.order.Order.the-variants as order
 use Rattle.evr0_records.specs.declared.proof.Proof.{Proof}
@@ -34,7 +20,6 @@ use Rattle.evr0_records.specs.declared.proof.Unowned.{Unowned}
 use Rattle.evr0_records.specs.declared.proposition.Proposition.{Proposition}
 use Rattle.evr0_records.specs.declared.proposition.PropositionRead.{PropositionRead}
 use Rattle.evr0_records.specs.declared.proposition.PropositionRead.the-variants as proposition
-use Rattle.evr0_records.specs.declared.span.Span.{Span}
 use Rattle.evr0_records.specs.declared.rule.Rule.{Rule}
 use Rattle.evr0_records.specs.declared.rule.Rule.the-variants as rule
 use Rattle.evr0_records.specs.declared.rule.Named.{Named}
@@ -45,58 +30,6 @@ use Rattle.evr0_records.specs.declared.witness.WitnessAnswer.the-variant
 use Rattle.evr0_records.specs.declared.witness.WitnessRead.{WitnessRead}
 use Rattle.evr0_records.specs.declared.parent.Parent.{Parent}
 use Rattle.evr0_records.specs.declared.parent.Parent.the-variants as parent
-
-abbrev pub checkedOut : Checked → Out (Unit {0})
-checkedOut checked.Passed = ok tt
-checkedOut (checked.Refused r) = refused (refusalOut r)
-
-abbrev pub placeOut : Place → Out ℕ
-placeOut (place.Next n) = ok n
-placeOut (place.Refused r) = refused (refusalOut r)
-
-abbrev pub digestIn : List ℕ → Place → Out of.Digest
-digestIn bytes (place.Next n) = ok (record { bytes = bytes; next = n })
-digestIn bytes (place.Refused r) = refused (refusalOut r)
-
-abbrev pub digestOut : Digest → Out of.Digest
-digestOut d = digestIn (d .bytes) (d .place)
-
-abbrev pub spanOut : Span → text.Span
-spanOut s = record { start = s .start; len = s .len; chars = s .chars; next = s .next }
-
--- ---- The head
-
-abbrev pub countsOut : Counts → of.Counts
-countsOut c = record { propositions = c .propositions; proofs = c .proofs; witnesses = c .witnesses; parents = c .parents }
-
-abbrev pub countedOut : Counted → Out of.Counted
-countedOut (counted.Read c n) = ok (record { counts = countsOut c; next = n })
-countedOut (counted.Refused r) = refused (refusalOut r)
-
-abbrev pub roomOut : Room → of.Room
-roomOut r = record { propositions = r .propositions; proofs = r .proofs; depths = r .depths }
-
-abbrev pub headRecord : List ℕ → List ℕ → Head → of.Head
-headRecord source contract h =
-    record {
-      sourceSet = source;
-      compilerContract = contract;
-      epoch = h .epoch;
-      policyAt = h .«policy_at»;
-      policy = spanOut (h .«policy_namespace»);
-      issuerAt = h .«issuer_at»;
-      issuer = spanOut (h .«issuer_namespace»);
-      counts = countsOut (h .counts);
-      countsAt = h .«counts_at»;
-      next = h .next;
-    }
-
-abbrev pub headIn : List ℕ → List ℕ → HeadAnswer → Out of.Head
-headIn source contract (head.Read h) = ok (headRecord source contract h)
-headIn source contract (head.Refused r) = refused (refusalOut r)
-
-abbrev pub headOut : HeadRead → Out of.Head
-headOut r = headIn (r .«source_set») (r .«compiler_contract») (r .answer)
 
 -- ---- Propositions
 
@@ -170,8 +103,13 @@ abbrev pub witnessIn : List ℕ → List ℕ → WitnessAnswer → Out (Sized Wi
 witnessIn file origin (witness.Read w n) = ok (record { item = witnessRecord file origin w; size = n })
 witnessIn file origin (witness.Refused r) = refused (refusalOut r)
 
-abbrev pub witnessOut : WitnessRead → Out (Sized WitnessRecord)
-witnessOut r = witnessIn (r .«file_digest») (r .«origin_digest») (r .answer)
+abbrev pub witnessOut : WitnessRead → Beside (Sized WitnessRecord)
+witnessOut r =
+    record { first = r .«file_digest»; second = r .«origin_digest»; answer = witnessIn (r .«file_digest») (r .«origin_digest») (r .answer) }
+
+-- a witness with its digests
+abbrev pub witnessBeside : Out (Sized WitnessRecord) → Beside (Sized WitnessRecord)
+witnessBeside d = beside (λ w. w .item .fileDigest) (λ w. w .item .originDigest) d
 
 abbrev pub parentOut : Parent → Out (Row ℕ (Unit {0}))
 parentOut (parent.Read p n) = ok (record { item = p .0; size = n; state = tt })

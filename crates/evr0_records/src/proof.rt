@@ -3,16 +3,17 @@ ghost use mathlib.Core.Path.{_≡_};
 ghost use Rattle.local_format.specs.Out.{refuse};
 ghost use Rattle.derivation.specs.Rule.{fourRules};
 ghost use Rattle.evr0_section.specs.Proof.{proofOf, hasNumbers, checkProof};
+ghost use Rattle.evr0_head.specs.Maps.{countsOut};
 ghost use Rattle.evr0_records.specs.Tests.{isNext, isContiguous, endsWithin};
-ghost use Rattle.evr0_records.specs.Maps.{countsOut, unownedOut, ruleOut, proofRecord, proofOut, settledOut};
-use crate::counts::Counts;
-use crate::number::ProofNumber;
-use crate::number::PropositionIndex;
-use crate::number::WitnessNumber;
-use crate::place::Place;
+ghost use Rattle.evr0_records.specs.Maps.{unownedOut, ruleOut, proofRecord, proofOut, settledOut};
 use crate::rule::Named;
 use crate::rule::Rule;
-use crate::span::Span;
+use evr0_head::counts::Counts;
+use evr0_head::number::ProofNumber;
+use evr0_head::number::PropositionIndex;
+use evr0_head::number::WitnessNumber;
+use evr0_head::place::Place;
+use evr0_head::span::Span;
 use local_format::field::U8;
 use local_format::field::U32;
 use local_format::refusal::Refusal;
@@ -131,9 +132,9 @@ pub fn read_proof(tail: &[u8]) -> ProofRead
     else {
         return cut(operation_at);
     };
-    let zeros = crate::place::read_zeros(tail, zeros_at);
+    let zeros = evr0_head::place::read_zeros(tail, zeros_at);
     let Place::Next(size) = zeros else {
-        return ProofRead::Refused(crate::place::place_refusal(zeros));
+        return ProofRead::Refused(evr0_head::place::place_refusal(zeros));
     };
     ProofRead::Read {
         proof: Proof {
@@ -193,18 +194,19 @@ fn is_contiguous(unowned: Unowned, proof: Proof) -> bool
     if proof.witness_first.place() != unowned.witness {
         return false;
     }
-    crate::number::wide(proof.parent_first) == unowned.parent
+    evr0_head::number::wide(proof.parent_first) == unowned.parent
 }
 
 // Whether a proof's witnesses and parents end within their tables. The sums are wide.
 fn ends_within(counts: Counts, proof: Proof) -> bool
     ensures { λ r. ⌜ r ≡ endsWithin (countsOut counts) (proofRecord proof) ⌝ }
 {
-    let witnesses = proof.witness_first.place() + crate::number::wide(proof.witness_count);
+    let witnesses = proof.witness_first.place() + evr0_head::number::wide(proof.witness_count);
     if counts.witnesses < witnesses {
         return false;
     }
-    let parents = crate::number::wide(proof.parent_first) + crate::number::wide(proof.parent_count);
+    let parents = evr0_head::number::wide(proof.parent_first)
+        + evr0_head::number::wide(proof.parent_count);
     parents <= counts.parents
 }
 

@@ -3,18 +3,18 @@ use Prim.Native.Nat.{ℕ, suc, _+_, _≤_, _<_}
 use mathlib.Core.Path.{_≡_, refl, sym, ap, _∙_, subst}
 use mathlib.Core.Bool.{_&&_}
 use mathlib.Core.List.{List, map, List·Memᴰ}
-use native.Mathlib.Nat.{zero-add, le-refl}
+use native.Mathlib.Nat.{le-refl}
 use native.Mathlib.Omega.{arith}
-use lib.ListN.{length, getD, length-map}
+use lib.ListN.{length, length-map}
 use lib.Dec.{eqb}
 use borrow.Author.Tests.{eqb-true}
-use Rattle.local_format.specs.Out.{Out, ok}
+use Rattle.local_format.specs.Out.{ok}
 use Rattle.local_format.proofs.OutLaws.{bind-ok, then-ok, checked-ok, ok-same}
 use Rattle.derivation.specs.Rule.{Rule, Shaped}
 use Rattle.derivation.specs.Section.{Section, Proof, Witness, noProof, noWitness, Checked, proofAt, witnessAt, proofTotal, witnessTotal, parentTotal, sumTo}
 use Rattle.derivation.proofs.Tests.{both}
 use Rattle.evr0_section.specs.Rows.{rows}
-use Rattle.evr0_section.specs.Head.{Counts, Room, Head, headOf, checkCounts}
+use Rattle.evr0_section.specs.Head.{Room, Head, headOf, checkCounts}
 use Rattle.evr0_section.specs.Proposition.{first, propositionRow}
 use Rattle.evr0_section.specs.Proof.{Unowned, proofRow}
 use Rattle.evr0_section.specs.Witness.{witnessRow, parentRow}

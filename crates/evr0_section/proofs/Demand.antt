@@ -2,7 +2,6 @@
 use Prim.Native.Nat.{ℕ, _<_}
 use mathlib.Core.Path.{_≡_, sym, _∙_, subst}
 use mathlib.Core.List.{List, List·Memᴰ}
-use mathlib.Core.Logic.{_↔_}
 use Rattle.local_format.specs.Out.{ok}
 use Rattle.local_format.proofs.OutLaws.{ok-same}
 use Rattle.derivation.specs.Rule.{Rule, Shaped, fourRules}
@@ -13,9 +12,10 @@ use Rattle.derivation.proofs.Demand.{walks-lead, depths-are, accepted-exactly}
 use Rattle.derivation.proofs.Down.{way-down, never-spent}
 use Rattle.derivation.proofs.Rules.{four-shaped, one-witness, two-parents}
 use Rattle.evr0_section.specs.Head.{Room}
-use Rattle.evr0_section.specs.Section.{Tables, Section, sectionOf, tablesAt, sectionAt}
-use Rattle.evr0_section.specs.Demand.{Accepted, Demand3, FourWords}
+use Rattle.evr0_section.specs.Section.{Tables, Section, sectionOf, tablesAt}
+use Rattle.evr0_section.specs.Demand.{Demand3, FourWords}
 use Rattle.evr0_section.proofs.CheckedTables.{rules-known, tables-checked}
+use Rattle.evr0_section.proofs.Stages.{stage}
 use Rattle.evr0_section.proofs.SectionSteps.{tables-of, Parts, section-parts, section-of}
 
 module _ (rules : List Rule) (room : Room) (bytes : List ℕ) (cursor : ℕ) where
@@ -40,6 +40,7 @@ module _ (rules : List Rule) (room : Room) (bytes : List ℕ) (cursor : ℕ) whe
                 down = way-down _ _ c (d .depths) (a .depths);
                 neverSpent = never-spent _ _ c (d .depths) (a .depths);
               };
+          stage = stage rules room bytes cursor;
           exactly = λ t e. (
             (λ h.
                 let d : Section = h .0 in

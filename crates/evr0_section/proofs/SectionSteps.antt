@@ -1,10 +1,17 @@
 -- A section that was decoded, taken apart into its tables and its depths, and put together.
 use Prim.Native.Nat.{ℕ, _+_}
-use mathlib.Core.Path.{_≡_, refl, ap, _∙_, subst}
+use mathlib.Core.Path.{_≡_, ap, _∙_, subst}
 use mathlib.Core.List.{List}
-use Rattle.local_format.specs.Out.{Out, ok, moved, _>>=_}
+use mathlib.Core.Bool.{_&&_}
+use native.Mathlib.Omega.{arith}
+use lib.Dec.{leb}
+use Rattle.local_format.specs.Refusal.{Refusal}
+use Rattle.local_format.specs.Out.{ok, refused, moved, atOffset}
+use Rattle.local_format.specs.Field.{Got, field}
+use Rattle.local_format.specs.Tag.{tagAt, evr0}
 use Rattle.local_format.specs.Text.{bytesAt}
-use Rattle.local_format.proofs.OutLaws.{bind-ok, on-ok, moved-ok, ok-same}
+use Rattle.local_format.proofs.OutLaws.{bind-ok, checked-ok, on-ok, on-refused, moved-ok, ok-same}
+use Rattle.local_format.proofs.FieldLaws.{field-ok}
 use Rattle.derivation.specs.Rule.{Rule}
 use Rattle.derivation.specs.Pass.{depths}
 use Rattle.evr0_section.specs.Head.{Room}
@@ -17,6 +24,17 @@ module _ (rules : List Rule) (room : Room) (bytes : List ℕ) (cursor : ℕ) whe
   pub tables-of : (t : Tables) → tablesAt rules room bytes cursor ≡ ok t → (f : Frame) × (frameAt bytes cursor ≡ ok f) × (tablesOf rules room (payload f) ≡ ok t)
   unfolding tablesAt
   tables-of t e = let a = bind-ok (frameAt bytes cursor) _ e in (a .0, a .1, moved-ok (a .0 .start) _ (a .2))
+
+  pub frame-start : (f : Frame) → frameAt bytes cursor ≡ ok f → f .start ≡ cursor + 8
+  unfolding frameAt
+  frame-start f e =
+      let a = checked-ok (tagAt evr0 bytes cursor) 1 cursor _ e in
+      let b = bind-ok (field 2 4 bytes (cursor + 4)) _ (a .1) in
+      let size : Got = b .0 in
+      let c = checked-ok (leb 1 (size .value) && leb (size .value) 4194304) 3 (cursor + 4) _ (b .2) in
+      let d = bind-ok (field 4 (size .value) bytes (size .next)) _ (c .1) in
+      let g : size .next ≡ f .start = ap (λ (f : Frame). f .start) (ok-same (d .2)) in
+      omega (arith, field-ok 2 4 bytes (cursor + 4) (b .1) .0)
 
   pub record Parts (d : Section) : Type 0 where
     pub tables : tablesAt rules room bytes cursor ≡ ok (d .tables)
@@ -36,6 +54,15 @@ module _ (rules : List Rule) (room : Room) (bytes : List ℕ) (cursor : ℕ) whe
   unfolding sectionAt sectionIn
   section-of t ds e h =
       let a = tables-of t e in (
-        record { tables = t; depths = ds; cursor = a .0 .start + a .0 .len },
+        record { tables = t; depths = ds; cursor = _ },
         on-ok _ (a .1) ∙ ap (moved (a .0 .start)) (on-ok _ (a .2) ∙ on-ok _ h),
       )
+
+  pub section-refused : (t : Tables) (r : Refusal) → tablesAt rules room bytes cursor ≡ ok t → depths (t .witnesses .next) (sectionOf t) ≡ refused r
+      → sectionAt rules room bytes cursor ≡ refused (atOffset r (cursor + 8 + r .offset))
+  unfolding sectionAt sectionIn
+  section-refused t r e h =
+      let a = tables-of t e in
+      on-ok _ (a .1)
+      ∙ ap (moved (a .0 .start)) (on-ok _ (a .2) ∙ on-refused _ h)
+      ∙ ap (λ (n : ℕ). refused (atOffset r (n + r .offset))) (frame-start (a .0) (a .1))

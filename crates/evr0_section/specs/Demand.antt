@@ -3,7 +3,8 @@ use Prim.Native.Nat.{ℕ, _≤_, _<_}
 use mathlib.Core.Path.{_≡_}
 use mathlib.Core.Logic.{_↔_, _⊎_}
 use mathlib.Core.List.{List}
-use Rattle.local_format.specs.Out.{ok}
+use Rattle.local_format.specs.Refusal.{Refusal}
+use Rattle.local_format.specs.Out.{ok, refused}
 use Rattle.derivation.specs.Rule.{Rule, posWitness1, negWitness1, joinSameP1}
 use Rattle.derivation.specs.Section as derivation
 use Rattle.derivation.specs.Section.{proofAt, witnessAt, proofTotal, witnessTotal}
@@ -22,11 +23,17 @@ pub record Accepted (t : Tables) (ds : List ℕ) : Type 0 where
   pub down : (limit i : ℕ) → i < proofTotal (sectionOf t) → Tells (sectionOf t) limit i (wayDown (sectionOf t) limit i)
   pub neverSpent : (limit i : ℕ) → i < proofTotal (sectionOf t) → 255 ≤ limit → (k : ℕ) → wayDown (sectionOf t) limit i ≡ spent k → ⊥
 
+-- of a refusal: 1 to 24 and 61 where the tables do not read or fail a check of their own, 25 to 29 where they read and pass
+pub data Stage (rules : List Rule) (room : Room) (bytes : List ℕ) (cursor : ℕ) (r : Refusal) : Type 0 where
+  inTables : tablesAt rules room bytes cursor ≡ refused r → (r .number ≤ 24) ⊎ (r .number ≡ 61) → Stage rules room bytes cursor r
+  inLastPass : (t : Tables) → tablesAt rules room bytes cursor ≡ ok t → 25 ≤ r .number → r .number ≤ 29 → Stage rules room bytes cursor r
+
 pub record Demand3 (rules : List Rule) (room : Room) (bytes : List ℕ) (cursor : ℕ) : Type 0 where
   pub tables : (d : Section) → sectionAt rules room bytes cursor ≡ ok d → tablesAt rules room bytes cursor ≡ ok (d .tables)
   pub accepted : (d : Section) → sectionAt rules room bytes cursor ≡ ok d → Accepted (d .tables) (d .depths)
   -- where the tables all read and pass their own checks
   pub exactly : (t : Tables) → tablesAt rules room bytes cursor ≡ ok t → ((d : Section) × (sectionAt rules room bytes cursor ≡ ok d)) ↔ Derivable (sectionOf t)
+  pub stage : (r : Refusal) → sectionAt rules room bytes cursor ≡ refused r → Stage rules room bytes cursor r
 
 -- ---- The words at the four rules
 

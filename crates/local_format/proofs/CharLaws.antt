@@ -1,26 +1,16 @@
 -- Laws of one character at a place, by its number of bytes: what it adds to the scan, or that the bytes are ill-formed.
-use mathlib.Core.Path.{_≡_, refl, ap, sym, _∙_}
-use mathlib.Core.Logic.{_⊎_, inl, inr, ⊎-elim}
-use Prim.Native.Nat.{ℕ, suc, _+_, _*_, _%_, _≤_, _<_}
+use mathlib.Core.Path.{_≡_, ap}
+use mathlib.Core.Logic.{⊎-elim}
+use Prim.Native.Nat.{ℕ, _+_, _*_, _%_, _≤_, _<_}
 use native.Mathlib.Omega.{arith}
-use native.Mathlib.Nat.{add-assoc}
 use mathlib.Core.List.{List}
 use mathlib.Core.Bool.{Bool, true, false, cond}
-use borrow.Author.Tests.{eqb-true, eqb-false}
 use lib.Dec.{eqb}
 use lib.ListN.{length, getD, drop}
 use Rattle.local_format.specs.Utf8.{decode, isControl}
 use Rattle.local_format.specs.Scan.{notUtf8, scanOf, joined, laterAt}
-use Rattle.local_format.proofs.Utf8Laws.{part, lead-2, lead-3, lead-4}
+use Rattle.local_format.proofs.Utf8Laws.{part, bounds, lead-2, lead-3, lead-4}
 use Rattle.local_format.proofs.ScanLaws.{In, no-control, lead, later-ill, later-more, later-char, later-there}
-
--- a bound that is narrower after one lead byte
-bounds : (b narrow then other x : ℕ) → x ≡ cond (eqb b narrow) then other → ((b ≡ narrow) × (x ≡ then)) ⊎ ((b ≡ narrow → ⊥) × (x ≡ other))
-bounds b narrow then other x = go (eqb b narrow) refl
-  where
-    go : (t : Bool) → eqb b narrow ≡ t → x ≡ cond t then other → ((b ≡ narrow) × (x ≡ then)) ⊎ ((b ≡ narrow → ⊥) × (x ≡ other))
-    go true h e = inl (eqb-true b narrow h, e)
-    go false h e = inr (eqb-false b narrow h, e)
 
 module _ (s : List ℕ) (i : ℕ) (here : i < length s) where
   -- ---- Two bytes

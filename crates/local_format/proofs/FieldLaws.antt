@@ -1,6 +1,6 @@
 -- Laws of a field, over its width.
-use mathlib.Core.Path.{_≡_, refl, ap, sym, _∙_}
-use Prim.Native.Nat.{ℕ, zero, suc, _+_, _-_, _*_, _^_, _≤_, _<_, min}
+use mathlib.Core.Path.{_≡_, refl, ap, sym}
+use Prim.Native.Nat.{ℕ, zero, suc, _+_, _-_, _*_, _^_, _≤_, _<_}
 use native.Mathlib.Omega.{arith}
 use native.Mathlib.Nat.{add-assoc, pow-succ'}
 use mathlib.Core.List.{List}
@@ -10,7 +10,7 @@ use lib.ListN.{length, getD, take, drop, length-drop, length-take}
 use lib.Seq.{getD-drop, getD-take}
 use borrow.Author.Tests.{le-leb, lt-leb, leb-true, leb-false}
 use Rattle.local_format.specs.Refusal.{Refusal, refusal}
-use Rattle.local_format.specs.Out.{Out, ok, refused}
+use Rattle.local_format.specs.Out.{ok, refused}
 use Rattle.local_format.specs.Field.{Field, whole, cut, Got, le, fieldAt, orCut, field}
 use Rattle.local_format.proofs.OutLaws.{told, never, refused-same, RefusesWithin, refused-within}
 

@@ -1,3 +1,4 @@
+pub mod BoolLaws
 pub mod OutLaws
 pub mod FieldLaws
 pub mod TagLaws
@@ -5,3 +6,4 @@ pub mod Utf8Laws
 pub mod ScanLaws
 pub mod CharLaws
 pub mod TextLaws
+pub mod Encoding

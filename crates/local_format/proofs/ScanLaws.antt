@@ -5,27 +5,20 @@ use native.Mathlib.Omega.{arith}
 use native.Mathlib.Nat.{zero-add, add-zero, add-assoc}
 use native.Mathlib.Numerals.{add-one, one-add}
 use mathlib.Core.List.{List, [], _∷_}
-use mathlib.Core.Bool.{Bool, true, false, cond, _||_, _&&_}
-use borrow.Author.Tests.{eq-eqb, ne-eqb, le-leb, lt-leb, leb-true, leb-false, lt-ltb, le-ltb, ltb-true, ltb-false}
-use lib.Dec.{eqb, leb, ltb}
-use lib.ListN.{length, getD, take, drop, drop-of-length-le}
+use mathlib.Core.Bool.{Bool, true, false, _||_, _&&_, and-true, or-false}
+use borrow.Author.Tests.{le-leb, lt-leb, leb-true, leb-false, ltb-true}
+use lib.Dec.{leb, ltb}
+use lib.ListN.{length, getD, drop, drop-of-length-le}
 use lib.Seq.{drop-cons}
 use Rattle.local_format.specs.Utf8.{Part, char, more, bad, going, leadOf, table, Decoded, points, ill, onto, decode, decodeFrom, stepOf, isControl, anyControl}
 use Rattle.local_format.specs.Scan.{Scanned, text, notUtf8, scanOf, joined, printable, allPrintable, laterAt}
-use Rattle.local_format.proofs.Utf8Laws.{part, goes, both, lead-on, lead-1, later-on, later-off}
+use Rattle.local_format.proofs.BoolLaws.{both}
+use Rattle.local_format.proofs.Utf8Laws.{part, goes, lead-on, lead-1, later-on, later-off}
 
 -- ---- Counts and marks
 or-assoc : (a b c : Bool) → (a || (b || c)) ≡ ((a || b) || c)
 or-assoc true b c = refl
 or-assoc false b c = refl
-
-and-true : (a : Bool) → (a && true) ≡ a
-and-true true = refl
-and-true false = refl
-
-pub or-false : (a : Bool) → (a || false) ≡ a
-or-false true = refl
-or-false false = refl
 
 pub joined-joined : (n m : ℕ) (c d : Bool) (x : Scanned) → joined n c (joined m d x) ≡ joined (n + m) (c || d) x
 joined-joined n m c d (text k e) = ap₂ text (sym (add-assoc n m k)) (or-assoc c d e)

@@ -1,19 +1,15 @@
 -- Laws of comparing byte strings.
 use mathlib.Core.Path.{_≡_, refl, ap, ap₂, sym, _∙_}
-use Prim.Native.Nat.{ℕ, zero, suc, _+_, _-_, _≤_, _<_}
-use native.Mathlib.Omega.{arith}
+use Prim.Native.Nat.{ℕ, suc, _+_, _-_, _≤_, _<_}
 use native.Mathlib.Numerals.{add-one}
 use mathlib.Core.List.{List, [], _∷_}
-use mathlib.Core.Bool.{Bool, true, false, _&&_}
+use mathlib.Core.Bool.{Bool, true, false, _&&_, and-false}
 use lib.Dec.{eqb, leb}
 use borrow.Author.Tests.{eqb-true, eq-eqb, le-leb, lt-leb, leb-true}
 use lib.ListN.{length, getD, take, drop, drop-of-length-le}
 use lib.Seq.{drop-cons}
 use Rattle.local_format.specs.Tag.{equal, tagAt}
-
-and-false : (a : Bool) → (a && false) ≡ false
-and-false true = refl
-and-false false = refl
+use Rattle.local_format.proofs.BoolLaws.{both}
 
 pub unequal : (a b : List ℕ) → (length a ≡ length b → ⊥) → false ≡ equal a b
 unfolding equal
@@ -59,10 +55,6 @@ pub equal-self : (a : List ℕ) → equal a a ≡ true
 unfolding equal
 equal-self [] = refl
 equal-self (x ∷ xs) = simp (eq-eqb x x refl) (equal-self xs)
-
-both : (a b : Bool) → (a && b) ≡ true → (a ≡ true) × (b ≡ true)
-both true b e = (refl, e)
-both false b e = (cc, cc)
 
 pub tag-there : (tag s : List ℕ) (at : ℕ) → tagAt tag s at ≡ true → (at + length tag ≤ length s) × (take (length tag) (drop at s) ≡ tag)
 unfolding tagAt

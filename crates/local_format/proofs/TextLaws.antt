@@ -1,22 +1,22 @@
 -- Laws of texts at a place: what a reader answers, and where a text that was read, or a refusal, lies.
-use mathlib.Core.Path.{_≡_, refl, ap, sym, _∙_}
+use mathlib.Core.Path.{_≡_, refl, ap}
 use Prim.Native.Nat.{ℕ, _+_, _-_, _≤_, _<_}
 use native.Mathlib.Omega.{arith}
 use mathlib.Core.List.{List}
 use mathlib.Core.Bool.{Bool, true, false, cond, not, _&&_}
-use borrow.Author.Tests.{le-leb, lt-leb, leb-true, leb-false}
+use borrow.Author.Tests.{le-leb, lt-leb, leb-true}
 use lib.Dec.{leb}
 use lib.ListN.{length, take, drop}
 use Rattle.local_format.specs.Refusal.{Refusal}
 use Rattle.local_format.specs.Out.{Out, ok, refused, refuse, check, _>>=_, _>>_}
-use Rattle.local_format.specs.Field.{Got, Field, whole, cut, fieldAt, le, orCut, field}
+use Rattle.local_format.specs.Field.{Got, whole, cut, fieldAt, le, orCut, field}
 use Rattle.local_format.specs.Utf8.{Decoded, points, ill, decode, anyControl}
 use Rattle.local_format.specs.Text.{Span, orIll, bytesAt, sectionField, textAt, decodeAt, stringAt}
 use Rattle.local_format.specs.Scan.{Scanned, text, notUtf8, scanOf, Utf8, utf8At}
 use Rattle.local_format.specs.Scan as scan
 use Rattle.local_format.proofs.OutLaws.{never, ok-same, bind-ok, checked-ok, RefusesWithin, within-bind, within-check, refused-within}
 use Rattle.local_format.proofs.FieldLaws.{field-ok, field-within}
-use Rattle.local_format.proofs.Utf8Laws.{both}
+use Rattle.local_format.proofs.BoolLaws.{both}
 
 -- ---- The bytes of a text
 module _ (s : List ℕ) (at len : ℕ) where

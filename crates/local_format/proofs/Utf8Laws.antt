@@ -1,35 +1,19 @@
 -- Laws of decoding UTF-8: a byte at a time, then a character at a time, then the scan's count and mark of what is passed.
-use mathlib.Core.Path.{_≡_, refl, ap, ap₂, sym, _∙_}
-use Prim.Native.Nat.{ℕ, zero, suc, _+_, _-_, _*_, _%_, _≤_, _<_}
+use mathlib.Core.Path.{_≡_, refl, ap}
+use mathlib.Core.Logic.{_⊎_, inl, inr}
+use Prim.Native.Nat.{ℕ, _+_, _-_, _*_, _%_, _≤_, _<_}
 use native.Mathlib.Omega.{arith}
-use native.Mathlib.Nat.{zero-add, add-zero, add-assoc}
-use native.Mathlib.Numerals.{add-one, one-add}
+use native.Mathlib.Numerals.{add-one}
 use native.Mathlib.Decide.{decLe}
-use mathlib.Core.List.{List, [], _∷_}
-use mathlib.Core.Bool.{Bool, true, false, cond, _||_, _&&_}
-use borrow.Author.Tests.{eq-eqb, ne-eqb, le-leb, lt-leb, leb-true, leb-false, lt-ltb, le-ltb, ltb-true, ltb-false}
+use mathlib.Core.List.{List}
+use mathlib.Core.Bool.{Bool, true, false, cond, _&&_, and-false}
+use borrow.Author.Tests.{eq-eqb, ne-eqb, eqb-true, eqb-false, le-leb, lt-leb, ltb-true, ltb-false}
 use lib.Dec.{eqb, leb, ltb}
-use lib.ListN.{length, getD, take, drop, drop-of-length-le}
+use lib.ListN.{length, getD, drop, drop-of-length-le}
 use lib.Seq.{drop-cons}
-use Rattle.local_format.specs.Utf8.{Part, Step, char, more, bad, going, leadOf, laterOf, table, fresh, stepOf, Decoded, points, ill, onto, after, decode, decodeFrom, isControl, anyControl}
-use Rattle.local_format.specs.Scan.{Scanned, text, notUtf8, scanOf, joined, printable, allPrintable, laterAt}
-
--- ---- Booleans
-pub and-false : (a : Bool) → (a && false) ≡ false
-and-false true = refl
-and-false false = refl
-
-or-assoc : (a b c : Bool) → (a || (b || c)) ≡ ((a || b) || c)
-or-assoc true b c = refl
-or-assoc false b c = refl
-
-or-false : (a : Bool) → (a || false) ≡ a
-or-false true = refl
-or-false false = refl
-
-pub both : (a b : Bool) → (a && b) ≡ true → (a ≡ true) × (b ≡ true)
-both true b e = (refl, e)
-both false b e = (cc, cc)
+use Rattle.local_format.specs.Utf8.{Part, Step, char, more, bad, going, leadOf, laterOf, table, stepOf, Decoded, ill, onto, after, decode, decodeFrom}
+use Rattle.local_format.specs.Scan.{laterAt}
+use Rattle.local_format.proofs.BoolLaws.{both}
 
 -- ---- The lead byte, by the rows of the table
 abbrev pub part : ℕ → ℕ → ℕ → ℕ → Part
@@ -72,6 +56,14 @@ module _ (b : ℕ) where
   pub lead-past : 0xF4 < b → leadOf table b ≡ bad
   unfolding leadOf table
   lead-past g = simp (lt-leb b 0x7F (omega arith), lt-leb b 0xDF (omega arith), lt-leb b 0xE0 (omega arith), lt-leb b 0xEC (omega arith), lt-leb b 0xED (omega arith), lt-leb b 0xEF (omega arith), lt-leb b 0xF0 (omega arith), lt-leb b 0xF3 (omega arith), lt-leb b 0xF4 g, and-false)
+
+-- a bound that is narrower after one lead byte
+pub bounds : (b narrow then other x : ℕ) → x ≡ cond (eqb b narrow) then other → ((b ≡ narrow) × (x ≡ then)) ⊎ ((b ≡ narrow → ⊥) × (x ≡ other))
+bounds b narrow then other x = go (eqb b narrow) refl
+  where
+    go : (t : Bool) → eqb b narrow ≡ t → x ≡ cond t then other → ((b ≡ narrow) × (x ≡ then)) ⊎ ((b ≡ narrow → ⊥) × (x ≡ other))
+    go true h e = inl (eqb-true b narrow h, e)
+    go false h e = inr (eqb-false b narrow h, e)
 
 -- ---- One byte
 -- what a step makes of the bytes from a place on

@@ -8,3 +8,4 @@ pub mod Tag
 pub mod Scan
 pub mod Maps
 pub mod Number
+mod Vectors

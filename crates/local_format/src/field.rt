@@ -27,14 +27,14 @@ fn left(len: usize, at: usize) -> usize
 }
 
 // The number of two bytes, low byte first.
-fn le16(a: u8, b: u8) -> u16
+pub fn le16(a: u8, b: u8) -> u16
     ensures { λ r. ⌜ r ≡ a + 256 * b ⌝ }
 {
     (a as u16) + 256 * (b as u16)
 }
 
 // The number of four bytes, low byte first.
-fn le32(a: u8, b: u8, c: u8, d: u8) -> u32
+pub fn le32(a: u8, b: u8, c: u8, d: u8) -> u32
     ensures { λ r. ⌜ r ≡ a + 256 * (b + 256 * (c + 256 * d)) ⌝ }
 {
     (a as u32) + 256 * ((b as u32) + 256 * ((c as u32) + 256 * (d as u32)))

@@ -197,13 +197,11 @@ fn all_printable(bytes: &[u8]) -> bool
 pub fn scan(bytes: &[u8]) -> Scanned
     ensures { λ r. ⌜ scannedOut r ≡ scanOf (decode (now (bytes .entry))) ⌝ }
 {
-    if 16 <= bytes.len() {
-        if all_printable(bytes) {
-            return Scanned::Text {
-                chars: bytes.len(),
-                control: false,
-            };
-        }
+    if all_printable(bytes) {
+        return Scanned::Text {
+            chars: bytes.len(),
+            control: false,
+        };
     }
     scan_chars(bytes)
 }

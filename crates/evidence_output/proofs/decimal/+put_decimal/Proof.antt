@@ -4,7 +4,6 @@ use Prim.Native.Nat.{ℕ, _≤_, _<_}
 use native.Mathlib.Omega.{arith}
 use borrow.Fn.Kinds.{In}
 use borrow.Fn.PlainCycle.{Measures, is, falls, and}
-use Rattle.evidence_output.specs.Written.{Written}
 use Rattle.evidence_output.proofs.WrittenLaws.{written-append}
 use Rattle.evidence_output.proofs.DecimalLaws.{decimal-small, decimal-large}
 use Rattle.evidence_output.proofs.decimal.put_decimal.Reads as put-decimal

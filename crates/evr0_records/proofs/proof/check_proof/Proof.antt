@@ -1,6 +1,7 @@
 use mathlib.Core.Path.{sym, _∙_}
 use borrow.Author.Tests.{not-true, not-false}
-use Rattle.evr0_records.specs.Maps.{countsOut, unownedOut, proofRecord}
+use Rattle.evr0_head.specs.Maps.{countsOut}
+use Rattle.evr0_records.specs.Maps.{unownedOut, proofRecord}
 use Rattle.evr0_section.specs.Proof.{checkProof}
 use Rattle.evr0_records.proofs.ProofLaws.{same-range}
 use borrow.Author.Needs.{needs}

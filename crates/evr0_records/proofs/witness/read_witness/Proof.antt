@@ -94,7 +94,7 @@ returns-5 c =
       p10 .sign .given .1,
       ← p8 .read-zeros .ensures,
       p6 .zeros .given .1,
-      ← p4 .read-digest .ensures,
+      ← p4 .read-digest .ensures .0,
       c .before .before .enum-told5 .given .1,
     )
 
@@ -123,7 +123,7 @@ returns-6 c =
       p14 .sign .given .1,
       ← p12 .read-zeros .ensures,
       p10 .zeros .given .1,
-      ← p8 .read-digest .ensures,
+      ← p8 .read-digest .ensures .0,
       p6 .file-place .given .1,
       ← p4 .read-u32-le3 .ensures,
       c .before .before .enum-told6 .given .1,
@@ -156,7 +156,7 @@ returns-7 c =
       p18 .sign .given .1,
       ← p16 .read-zeros .ensures,
       p14 .zeros .given .1,
-      ← p12 .read-digest .ensures,
+      ← p12 .read-digest .ensures .0,
       p10 .file-place .given .1,
       ← p8 .read-u32-le3 .ensures,
       p6 .start .given .1,
@@ -193,13 +193,13 @@ returns-8 c =
       p22 .sign .given .1,
       ← p20 .read-zeros .ensures,
       p18 .zeros .given .1,
-      ← p16 .read-digest .ensures,
+      ← p16 .read-digest .ensures .0,
       p14 .file-place .given .1,
       ← p12 .read-u32-le3 .ensures,
       p10 .start .given .1,
       ← p8 .read-u32-le4 .ensures,
       p6 .end .given .1,
-      ← p4 .read-digest2 .ensures,
+      ← p4 .read-digest2 .ensures .0,
       c .before .before .enum-told8 .given .1,
     )
 
@@ -231,13 +231,13 @@ returns-9 c =
       p23 .sign .given .1,
       ← p21 .read-zeros .ensures,
       p19 .zeros .given .1,
-      ← p17 .read-digest .ensures,
+      ← p17 .read-digest .ensures .0,
       p15 .file-place .given .1,
       ← p13 .read-u32-le3 .ensures,
       p11 .start .given .1,
       ← p9 .read-u32-le4 .ensures,
       p7 .end .given .1,
-      ← p5 .read-digest2 .ensures,
+      ← p5 .read-digest2 .ensures .0,
       p3 .origin-place .given .1,
     )
 

@@ -1,5 +1,6 @@
 use mathlib.Core.Path.{_≡_, ap, _∙_}
 use borrow.Author.Needs.{needs}
+use native.Mathlib.Omega.{arith}
 use Rattle.local_format.specs.Field.{whole, fieldAt}
 use Rattle.local_format.specs.Text.{textAt}
 use Rattle.local_format.specs.Maps.{utf8Out}
@@ -17,16 +18,25 @@ size c = rw (c .before .size .given .1) at (c .before .before .before .read-u16-
 body : (c : tie.After-read-utf8)
     → textFrom (c .before .before .before .before .size .given .0 .1 .0) (c .before .before .before .before .size .given .0 .0) (utf8Out (c .read-utf8 .result))
     ≡ textAt (c .before .before .before .before .before .before .before .before .args .bytes .now) (c .before .before .before .before .before .before .before .before .args .at)
-body c = ap (textFrom _ _) (c .read-utf8 .ensures) ∙ text-is _ _ _ _ (size (c .before .before .before)) (c .before .before .if1 .left) (c .before .if2 .left)
+body c =
+    let a = c .before .before .before .before .before .before .before .before .args in
+    let g = c .before .before .before .before .size .given .0 in
+    ap (textFrom _ _) (c .read-utf8 .ensures) ∙ text-is (a .bytes .now) (a .at) (g .0) (g .1 .0) (size (c .before .before .before)) (omega arith) (omega arith)
 
 returns : tie.Need-returns
 returns c = c .refused .ensures ∙ text-no-length _ _ (rw (c .before .enum-told .given .1) at (c .before .before .before .read-u16-le .ensures))
 
 returns-2 : tie.Need-returns-2
-returns-2 c = c .refused2 .ensures ∙ text-empty _ _ _ _ (size (c .before .before)) (c .before .if1 .taken)
+returns-2 c =
+    let a = c .before .before .before .before .before .before .before .args in
+    let g = c .before .before .before .size .given .0 in
+    c .refused2 .ensures ∙ text-empty (a .bytes .now) (a .at) (g .0) (g .1 .0) (size (c .before .before)) (omega arith)
 
 returns-3 : tie.Need-returns-3
-returns-3 c = c .refused3 .ensures ∙ text-long _ _ _ _ (size (c .before .before .before)) (c .before .if2 .taken)
+returns-3 c =
+    let a = c .before .before .before .before .before .before .before .before .args in
+    let g = c .before .before .before .before .size .given .0 in
+    c .refused3 .ensures ∙ text-long (a .bytes .now) (a .at) (g .0) (g .1 .0) (size (c .before .before .before)) (omega arith)
 
 returns-4 : tie.Need-returns-4
 returns-4 c = c .refused4 .ensures ∙ rw (c .before .before .before .body .given .1, c .before .if3 .taken) at (body (c .before .before .before .before .before))

@@ -1,6 +1,4 @@
 use borrow.Author.Needs.{needs}
-use mathlib.Core.Path.{ap, sym, _∙_}
-use Rattle.local_format.specs.Maps.{refusalOf, textOut}
 use Rattle.local_format.proofs.text.text_refusal.Statement.{statement}
 use Rattle.local_format.proofs.text.text_refusal.Tie as tie
 

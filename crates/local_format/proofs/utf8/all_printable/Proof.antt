@@ -1,9 +1,8 @@
-use mathlib.Core.Path.{_≡_, refl, ap₂, sym, _∙_}
-use Prim.Native.Nat.{ℕ, _+_, _-_, _≤_, _<_, min, max}
+use mathlib.Core.Path.{_≡_, refl, _∙_}
+use Prim.Native.Nat.{_-_, _≤_}
 use native.Mathlib.Omega.{arith}
 use borrow.Author.Needs.{needs}
 use lib.ListN.{length}
-use mathlib.Core.Bool.{Bool}
 use Rattle.local_format.specs.Scan.{allPrintable}
 use Rattle.local_format.proofs.ScanLaws.{printableFrom, printable-turn, printable-none, printable-end}
 use Rattle.local_format.proofs.utf8.all_printable.Statement.{statement}

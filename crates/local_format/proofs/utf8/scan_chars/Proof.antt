@@ -3,10 +3,10 @@ use Prim.Native.Nat.{_+_, _-_, _≤_}
 use native.Mathlib.Omega.{arith}
 use borrow.Author.Needs.{needs}
 use lib.ListN.{length, drop}
-use mathlib.Core.Bool.{false}
+use mathlib.Core.Bool.{false, or-false}
 use Rattle.local_format.specs.Utf8.{decode}
 use Rattle.local_format.specs.Scan.{scanOf, joined}
-use Rattle.local_format.proofs.ScanLaws.{or-false, joined-none, printable-on, scan-turn, scan-end}
+use Rattle.local_format.proofs.ScanLaws.{joined-none, printable-on, scan-turn, scan-end}
 use Rattle.local_format.proofs.utf8.scan_chars.Statement.{statement}
 use Rattle.local_format.proofs.utf8.scan_chars.Tie as tie
 

@@ -1,0 +1,88 @@
+-- An accepted section by its two cursors: where its payload lies, and what the payload's tables are.
+use Prim.Native.Nat.{ℕ, zero, suc, _+_, _-_, _≤_}
+use mathlib.Core.Path.{_≡_, refl, ap, subst, _∙_}
+use mathlib.Core.Bool.{_&&_}
+use mathlib.Core.List.{List, [], _∷_, _++_}
+use native.Mathlib.Omega.{arith}
+use lib.Dec.{leb}
+use lib.ListN.{length, take, drop, length-append, length-map}
+use Rattle.local_format.specs.Out.{ok}
+use Rattle.local_format.specs.Field.{field}
+use Rattle.local_format.specs.Text.{bytesAt}
+use Rattle.local_format.specs.Tag.{tagAt, evr0}
+use Rattle.local_format.proofs.OutLaws.{ok-same, bind-ok, checked-ok, moved-ok}
+use Rattle.local_format.proofs.FieldLaws.{field-ok}
+use Rattle.derivation.specs.Rule.{Rule}
+use Rattle.derivation.specs.Section as derivation
+use Rattle.derivation.specs.Pass.{depthOf, depthsFrom, depths}
+use Rattle.evr0_section.specs.Head.{Room}
+use Rattle.evr0_section.specs.Proof.{proofRow}
+use Rattle.evr0_section.specs.Section.{Frame, Section, frameAt, sectionOf, proofItem, tablesOf, sectionIn, sectionAt}
+use Rattle.evr0_section.proofs.RowsLaws.{trace, trace-length}
+use Rattle.evr0_section.proofs.CheckedTables.{Steps, steps}
+
+-- ---- The frame
+
+-- it starts 8 bytes after the cursor, and ends within the file
+frame-place : (s : List ℕ) (cursor : ℕ) {f : Frame} → frameAt s cursor ≡ ok f → (f .start ≡ cursor + 8) × (f .start + f .len ≤ length s)
+unfolding frameAt
+frame-place s cursor {f} e =
+    let t = checked-ok (tagAt evr0 s cursor) 1 cursor _ e in
+    let size = bind-ok (field 2 4 s (cursor + 4)) _ (t .1) in
+    let c = checked-ok (leb 1 (size .0 .value) && leb (size .0 .value) 4194304) 3 (cursor + 4) _ (size .2) in
+    let payload = bind-ok (field 4 (size .0 .value) s (size .0 .next)) _ (c .1) in
+    let next : size .0 .next ≡ cursor + 8 = omega (arith, field-ok 2 4 s (cursor + 4) (size .1) .0) in
+    let within : size .0 .next + size .0 .value ≤ length s = field-ok 4 (size .0 .value) s (size .0 .next) (payload .1) .1 in
+    subst (λ (x : Frame). (x .start ≡ cursor + 8) × (x .start + x .len ≤ length s)) (ok-same (payload .2)) (next, within)
+
+-- ---- The depths are as many as the proofs
+depths-length : (cellsAt : ℕ) (s : derivation.Section) (n i : ℕ) (ds : List ℕ) {es : List ℕ} → depthsFrom cellsAt s n i ds ≡ ok es → length es ≡ length ds + n
+unfolding depthsFrom
+depths-length cellsAt s zero i ds e = omega (arith, ap length (ok-same e))
+depths-length cellsAt s (suc n) i ds e =
+    let d = bind-ok (depthOf cellsAt s (derivation.proofAt s i) ds) _ e in
+    omega (arith, depths-length cellsAt s n (suc i) (ds ++ (d .0 ∷ [])) (d .2), length-append ds (d .0 ∷ []))
+
+-- ---- The section
+module _ (rules : List Rule) (room : Room) (s : List ℕ) (cursor : ℕ) where
+  -- the bytes between the frame and the cursor after the section
+  abbrev pub payloadTo : ℕ → List ℕ
+  payloadTo end = take (end - (cursor + 8)) (drop (cursor + 8) s)
+
+  pub record Accepted (d : Section) : Type 0 where
+    pub start : cursor + 8 ≤ d .cursor
+    pub end : d .cursor ≤ length s
+    pub tables : Steps rules room (payloadTo (d .cursor)) (d .tables)
+    pub proofs : length (d .tables .proofs .entries) ≡ d .tables .head .counts .proofs
+    pub depths : depths (d .tables .witnesses .next) (sectionOf (d .tables)) ≡ ok (d .depths)
+    pub depthCount : length (d .depths) ≡ d .tables .head .counts .proofs
+
+  section-in : (p : List ℕ) (end : ℕ) {d : Section} → sectionIn rules room p end ≡ ok d
+      → (tablesOf rules room p ≡ ok (d .tables)) × (depths (d .tables .witnesses .next) (sectionOf (d .tables)) ≡ ok (d .depths)) × (end ≡ d .cursor)
+  unfolding sectionIn
+  section-in p end {d} e =
+      let t = bind-ok (tablesOf rules room p) _ e in
+      let ds = bind-ok (depths (t .0 .witnesses .next) (sectionOf (t .0))) _ (t .2) in
+      subst (λ (x : Section). (tablesOf rules room p ≡ ok (x .tables)) × (depths (x .tables .witnesses .next) (sectionOf (x .tables)) ≡ ok (x .depths)) × (end ≡ x .cursor))
+      (ok-same (ds .2)) (t .1, ds .1, refl)
+
+  pub accepted : {d : Section} → sectionAt rules room s cursor ≡ ok d → Accepted d
+  unfolding sectionAt depths sectionOf derivation.proofTotal
+  accepted {d} e =
+      let f = bind-ok (frameAt s cursor) _ e in
+      let place = frame-place s cursor (f .1) in
+      let p = bytesAt s (f .0 .start) (f .0 .len) in
+      let g = section-in p (f .0 .start + f .0 .len) (moved-ok (f .0 .start) (sectionIn rules room p (f .0 .start + f .0 .len)) (f .2)) in
+      let len : d .cursor - (cursor + 8) ≡ f .0 .len = omega (arith, g .2, place .0) in
+      let same : p ≡ payloadTo (d .cursor) = rw (len, ← place .0) in
+      let t : Steps rules room (payloadTo (d .cursor)) (d .tables) = steps rules room (payloadTo (d .cursor)) (d .tables) (rw same at (g .0)) in
+      let n : length (d .tables .proofs .entries) ≡ d .tables .head .counts .proofs =
+      trace-length (proofRow rules (d .tables .head .counts)) (payloadTo (d .cursor)) (trace (proofRow rules (d .tables .head .counts)) (payloadTo (d .cursor)) _ _ _ (d .tables .proofs) (t .proofs)) in
+      record {
+        start = omega (arith, g .2, place .0);
+        end = omega (arith, g .2, place .1);
+        tables = t;
+        proofs = n;
+        depths = g .1;
+        depthCount = depths-length _ _ _ _ [] (g .1) ∙ omega (arith, n, length-map (d .tables .proofs .entries) proofItem);
+      }

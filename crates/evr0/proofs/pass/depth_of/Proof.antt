@@ -1,0 +1,58 @@
+use mathlib.Core.Path.{sym, ap, _∙_}
+use lib.ListN.{take}
+use Rattle.local_format.specs.Out.{refused}
+use Rattle.local_format.proofs.OutLaws.{told}
+use Rattle.evr0_head.specs.Maps.{checkedOut}
+use Rattle.evr0.specs.PassMaps.{tablesIn, proofOut, depthOut}
+use Rattle.derivation.proofs.Laws.{depth-refused, depth-27, depth-unwitnessed, depth-ok}
+use borrow.Author.Needs.{needs}
+use Rattle.evr0.proofs.pass.depth_of.Statement.{statement}
+use Rattle.evr0.proofs.pass.depth_of.Tie as tie
+
+returns : tie.Need-returns
+returns c =
+    let a = c .before .before .before .before .before .before .before .before .before .args in
+    let s = tablesIn (a .payload .now) (a .starts .now) (a .tables) in
+    let ds = take (a .proof .«proof_id» .0) (a .depths .now) in
+    ap refused (c .refuse .ensures)
+    ∙ sym (depth-27 (a .tables .«parents_at») s (proofOut (a .proof)) ds _ (told depthOut (c .before .before .before .before .before .parents-from .ensures) (c .before .before .before .parents2 .given .1)) (c .before .if1 .taken))
+
+returns-2 : tie.Need-returns-2
+returns-2 c =
+    let a = c .before .before .before .before .before .before .before .args in
+    let s = tablesIn (a .payload .now) (a .starts .now) (a .tables) in
+    let ds = take (a .proof .«proof_id» .0) (a .depths .now) in
+    sym (depth-refused (a .tables .«parents_at») s (proofOut (a .proof)) ds _ (told depthOut (c .before .before .before .parents-from .ensures) (c .before .parents .given .1)))
+
+returns-3 : tie.Need-returns-3
+returns-3 c =
+    let a = c .before .before .before .before .before .before .before .before .before .before .before .before .args in
+    let s = tablesIn (a .payload .now) (a .starts .now) (a .tables) in
+    let ds = take (a .proof .«proof_id» .0) (a .depths .now) in
+    sym (depth-unwitnessed (a .tables .«parents_at») s (proofOut (a .proof)) ds _ _ (told depthOut (c .before .before .before .before .before .before .before .before .parents-from .ensures) (c .before .before .before .before .before .before .parents2 .given .1)) (c .before .before .before .before .if1 .left)
+    (told checkedOut (c .before .before .before .witnesses-from .ensures (a .starts .now)) (c .before .witnesses .given .1)))
+
+returns-4 : tie.Need-returns-4
+returns-4 c =
+    let a = c .before .before .before .before .before .before .before .before .before .before .before .args in
+    let s = tablesIn (a .payload .now) (a .starts .now) (a .tables) in
+    let ds = take (a .proof .«proof_id» .0) (a .depths .now) in
+    sym (depth-ok (a .tables .«parents_at») s (proofOut (a .proof)) ds _ (told depthOut (c .before .before .before .before .before .before .before .parents-from .ensures) (c .before .before .before .before .before .parents2 .given .1)) (c .before .before .before .if1 .left)
+    (told checkedOut (c .before .before .witnesses-from .ensures (a .starts .now)) (c .enum-told .given .1)))
+
+pub depth-of-spec : {M : Type 1} → statement M
+depth-of-spec =
+    tie.close
+    (tie.spec
+    (λ c κs. search needs)
+    (λ c. search needs)
+    (λ c. search needs)
+    (λ c κs. search needs)
+    returns
+    (λ c κs. search needs)
+    (λ c. search needs)
+    (λ c. search needs)
+    (λ c. search needs)
+    returns-2
+    returns-3
+    returns-4)

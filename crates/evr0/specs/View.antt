@@ -1,0 +1,93 @@
+-- The tables of a payload as its bytes hold them at known places, for the last pass, which runs over a payload whose tables have been read.
+use Prim.Native.Nat.{ℕ, zero, suc, _+_, _*_, _≤_, _<_}
+use mathlib.Core.Path.{_≡_}
+use mathlib.Core.List.{List, [], _∷_, map}
+use lib.ListN.{length, getD}
+use Rattle.local_format.specs.Field.{le}
+use Rattle.local_format.specs.Text.{bytesAt}
+use Rattle.derivation.specs.Rule.{Rule, Named, known, unknown, ruleNamed}
+use Rattle.derivation.specs.Section.{Proof, Witness, Section}
+use Rattle.evr0_section.specs.Head.{Counts}
+
+-- the counts of the tables, and where those of the witnesses and of the parents start
+pub record Layout : Type 0 where
+  pub counts : Counts
+  pub witnessesAt : ℕ
+  pub parentsAt : ℕ
+
+-- n places from `at` on, `size` apart
+unfoldable pub places : ℕ → ℕ → ℕ → List ℕ
+places size zero at = []
+places size (suc n) at = at ∷ places size n (at + size)
+
+-- ---- A proof by its start
+
+-- the name of its rule
+abbrev pub nameAt : List ℕ → ℕ → List ℕ
+nameAt p start = bytesAt p (start + 10) (le 2 p (start + 8))
+
+-- the place after that name, where the authority stands
+abbrev pub afterName : List ℕ → ℕ → ℕ
+afterName p start = start + 10 + le 2 p (start + 8)
+
+-- the rule of a name; a nameless one where there is none
+abbrev pub ruleIn : Named → Rule
+ruleIn (known r) = r
+ruleIn unknown = record { name = []; witnesses = 0; parents = 0; operation = 0; polarity = 2 }
+
+unfoldable pub proofView : List Rule → List ℕ → ℕ → Proof
+proofView rules p start =
+    record {
+      number = le 4 p start;
+      proposition = le 4 p (start + 4);
+      rule = ruleIn (ruleNamed rules (nameAt p start));
+      authority = le 4 p (afterName p start);
+      firstWitness = le 4 p (afterName p start + 4);
+      witnessCount = le 4 p (afterName p start + 8);
+      firstParent = le 4 p (afterName p start + 12);
+      parentCount = le 4 p (afterName p start + 16);
+      operation = le 1 p (afterName p start + 20);
+    }
+
+-- ---- The three tables
+
+unfoldable pub witnessView : List ℕ → ℕ → Witness
+witnessView p at =
+    record { number = le 4 p at; proposition = le 4 p (at + 4); polarity = le 1 p (at + 8); spanStart = le 4 p (at + 44); spanEnd = le 4 p (at + 48) }
+
+-- proofs by their starts, witnesses of 84 bytes, parent cells of 4
+unfoldable pub view : List Rule → List ℕ → List ℕ → Layout → Section
+view rules p starts l =
+    record {
+      propositions = l .counts .propositions;
+      proofs = map (proofView rules p) starts;
+      witnesses = map (witnessView p) (places 84 (l .counts .witnesses) (l .witnessesAt));
+      parents = map (le 4 p) (places 4 (l .counts .parents) (l .parentsAt));
+    }
+
+-- ---- What the last pass relies on
+
+-- a name that one of the rules has
+abbrev pub Known : List Rule → List ℕ → Type 0
+Known rules name = (r : Rule) × (ruleNamed rules name ≡ known r)
+
+-- the proof at a start is the i-th and lies in the payload, with 24 bytes after its rule's name; its rule is known, and what it owns is there
+pub record ProofThere (rules : List Rule) (p : List ℕ) (l : Layout) (start i : ℕ) : Type 0 where
+  pub inside : afterName p start + 24 ≤ length p
+  pub number : proofView rules p start .number ≡ i
+  pub named : Known rules (nameAt p start)
+  pub witnesses : proofView rules p start .firstWitness + proofView rules p start .witnessCount ≤ l .counts .witnesses
+  pub parents : proofView rules p start .firstParent + proofView rules p start .parentCount ≤ l .counts .parents
+
+pub record TablesThere (rules : List Rule) (p starts : List ℕ) (l : Layout) : Type 0 where
+  pub proofs : (i : ℕ) → i < length starts → ProofThere rules p l (getD starts i 0) i
+  pub witnesses : l .witnessesAt + 84 * l .counts .witnesses ≤ length p
+  pub parents : l .parentsAt + 4 * l .counts .parents ≤ length p
+
+-- a proof of these tables, after those whose depths are known
+pub record ProofDue (rules : List Rule) (p starts : List ℕ) (l : Layout) (depths : List ℕ) (q : Proof) : Type 0 where
+  pub tables : TablesThere rules p starts l
+  pub witnesses : q .firstWitness + q .witnessCount ≤ l .counts .witnesses
+  pub parents : q .firstParent + q .parentCount ≤ l .counts .parents
+  pub started : q .number ≤ length starts
+  pub known : q .number ≤ length depths

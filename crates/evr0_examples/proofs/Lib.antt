@@ -1,0 +1,5 @@
+pub mod Front
+pub mod Each
+pub mod Shown
+pub mod Small
+pub mod Chains

@@ -1,0 +1,197 @@
+-- Laws of a payload's head and of the checks after its counts.
+use Prim.Native.Nat.{ℕ, _+_, _-_, _≤_}
+use mathlib.Core.Path.{_≡_, refl, ap, sym, _∙_}
+use mathlib.Core.List.{List}
+use native.Mathlib.Omega.{arith}
+use lib.Dec.{leb, eqb}
+use lib.ListN.{length}
+use borrow.Author.Tests.{leb-true, le-leb}
+use Rattle.local_format.specs.Refusal.{Refusal}
+use Rattle.local_format.specs.Out.{Out, ok, refused, check, _>>=_, _>>_}
+use Rattle.local_format.specs.Field.{Got}
+use Rattle.local_format.specs.Text.{Span, sectionField, textAt}
+use Rattle.local_format.proofs.OutLaws.{ok-same, bind-ok, checked-ok, RefusesWithin, within-bind, within-check}
+use Rattle.local_format.proofs.FieldLaws.{field-ok, field-within}
+use Rattle.local_format.proofs.TextLaws.{text-ok, text-refused-within}
+use Rattle.evr0_section.specs.Head.{
+  Counts,
+  Counted,
+  Digest,
+  Head,
+  Room,
+  digestAt,
+  countsAt,
+  headOf,
+  listed,
+  countLimits,
+  withinLimits,
+  sizes,
+  hasRoom,
+  checkCounts,
+}
+use Rattle.evr0_head.specs.Posts.{Limited, checkedHead}
+use Rattle.evr0_head.specs.Maps.{Beside, beside, headIn, headOut, headBeside}
+use Rattle.evr0_head.specs.declared.head.HeadAnswer.{HeadAnswer}
+use Rattle.evr0_head.specs.declared.head.HeadRead.{HeadRead}
+use Rattle.evr0_head.proofs.PlaceLaws.{all-within, digest-ok, digest-within}
+
+module _ (c : Counts) (at : ℕ) where
+  pub within : Limited c → withinLimits (listed c) countLimits at ≡ ok tt
+  unfolding withinLimits
+  within h =
+      rw (
+        le-leb (c .propositions) 65536 (h .propositions),
+        le-leb (c .proofs) 65536 (h .proofs),
+        le-leb (c .witnesses) 262144 (h .witnesses),
+        le-leb (c .parents) 262144 (h .parents),
+      )
+
+  pub limited : withinLimits (listed c) countLimits at ≡ ok tt → Limited c
+  unfolding withinLimits
+  limited e =
+      let a = checked-ok _ _ _ _ e in
+      let b = checked-ok _ _ _ _ (a .1) in
+      let d = checked-ok _ _ _ _ (b .1) in
+      let f = checked-ok _ _ _ _ (d .1) in
+      record {
+        propositions = leb-true (c .propositions) 65536 (a .0);
+        proofs = leb-true (c .proofs) 65536 (b .0);
+        witnesses = leb-true (c .witnesses) 262144 (d .0);
+        parents = leb-true (c .parents) 262144 (f .0);
+      }
+
+-- ---- Where a head that was read ends, and where a refusal stands
+module _ (p : List ℕ) (at : ℕ) where
+  pub counts-ok : {c : Counted} → countsAt p at ≡ ok c → (c .next ≡ at + 16) × (c .next ≤ length p)
+  unfolding countsAt
+  counts-ok e =
+      let (g1, f1, e1) = bind-ok (sectionField 4 p at) _ e in
+      let (g2, f2, e2) = bind-ok (sectionField 4 p (g1 .next)) _ e1 in
+      let (g3, f3, e3) = bind-ok (sectionField 4 p (g2 .next)) _ e2 in
+      let (g4, f4, e4) = bind-ok (sectionField 4 p (g3 .next)) _ e3 in
+      let x1 = field-ok 5 4 p at f1 in
+      let x2 = field-ok 5 4 p (g1 .next) f2 in
+      let x3 = field-ok 5 4 p (g2 .next) f3 in
+      let x4 = field-ok 5 4 p (g3 .next) f4 in
+      rw (← ok-same e4) (omega arith, omega arith)
+
+  pub counts-within : at ≤ length p → RefusesWithin (length p) (countsAt p at)
+  unfolding countsAt
+  counts-within here =
+      within-bind (length p) (sectionField 4 p at) _ (field-within 5 4 p at here) λ g1 f1.
+      let x1 = field-ok 5 4 p at f1 in
+      within-bind (length p) (sectionField 4 p (g1 .next)) _ (field-within 5 4 p (g1 .next) (omega arith)) λ g2 f2.
+      let x2 = field-ok 5 4 p (g1 .next) f2 in
+      within-bind (length p) (sectionField 4 p (g2 .next)) _ (field-within 5 4 p (g2 .next) (omega arith)) λ g3 f3.
+      let x3 = field-ok 5 4 p (g2 .next) f3 in
+      within-bind (length p) (sectionField 4 p (g3 .next)) _ (field-within 5 4 p (g3 .next) (omega arith)) λ g4 f4. tt
+
+-- where the parts of a head lie
+pub record Lies (p : List ℕ) (h : Head) : Type 0 where
+  pub policy : h .policyAt ≡ 70
+  pub issuer : h .issuerAt ≡ 72 + h .policy .len
+  pub counts : h .countsAt ≡ 74 + h .policy .len + h .issuer .len
+  pub next : h .next ≡ h .countsAt + 16
+  pub ends : h .next ≤ length p
+
+lies : (p : List ℕ) {a b c d e : ℕ} (policy issuer : Span) (counted : Counted) → a ≡ 0 + 2 → b ≡ a + 2 → c ≡ b + 32 → d ≡ c + 32 → e ≡ d + 2
+    → policy .next ≡ e + 2 + policy .len → issuer .next ≡ policy .next + 2 + issuer .len
+    → (counted .next ≡ issuer .next + 16) × (counted .next ≤ length p) → {source contract : List ℕ} {epoch : ℕ}
+    → Lies p
+    (record {
+      sourceSet = source;
+      compilerContract = contract;
+      epoch = epoch;
+      policyAt = e;
+      policy = policy;
+      issuerAt = policy .next;
+      issuer = issuer;
+      counts = counted .counts;
+      countsAt = issuer .next;
+      next = counted .next;
+    })
+lies p policy issuer counted h1 h2 h3 h4 h5 h6 h7 h8 =
+    record { policy = omega arith; issuer = omega arith; counts = omega arith; next = h8 .0; ends = h8 .1 }
+
+pub head-ok : (p : List ℕ) {h : Head} → headOf p ≡ ok h → Lies p h
+unfolding headOf
+head-ok p e =
+    let (schema, f1, e1) = bind-ok (sectionField 2 p 0) _ e in
+    let (t1, e2) = checked-ok (eqb (schema .value) 1) 10 (schema .next) _ e1 in
+    let (flags, f2, e3) = bind-ok (sectionField 2 p (schema .next)) _ e2 in
+    let (t2, e4) = checked-ok (eqb (flags .value) 0) 11 (flags .next) _ e3 in
+    let (source, f3, e5) = bind-ok (digestAt p (flags .next)) _ e4 in
+    let (contract, f4, e6) = bind-ok (digestAt p (source .next)) _ e5 in
+    let (epoch, f5, e7) = bind-ok (sectionField 2 p (contract .next)) _ e6 in
+    let (policy, f6, e8) = bind-ok (textAt p (epoch .next)) _ e7 in
+    let (issuer, f7, e9) = bind-ok (textAt p (policy .next)) _ e8 in
+    let (counted, f8, e10) = bind-ok (countsAt p (issuer .next)) _ e9 in
+    rw (← ok-same e10)
+    (lies p policy issuer counted
+    (field-ok 5 2 p 0 f1 .0)
+    (field-ok 5 2 p (schema .next) f2 .0)
+    (digest-ok p (flags .next) f3 .0)
+    (digest-ok p (source .next) f4 .0)
+    (field-ok 5 2 p (contract .next) f5 .0)
+    (text-ok p (epoch .next) f6 .3)
+    (text-ok p (policy .next) f7 .3)
+    (counts-ok p (issuer .next) f8))
+
+text-within : (s : List ℕ) (at : ℕ) → at ≤ length s → RefusesWithin (length s) (textAt s at)
+text-within s at here = all-within (length s) (textAt s at) (λ r e. text-refused-within s at here e)
+
+pub head-within : (p : List ℕ) → RefusesWithin (length p) (headOf p)
+unfolding headOf
+head-within p =
+    within-bind (length p) (sectionField 2 p 0) _ (field-within 5 2 p 0 (omega arith)) λ schema f1.
+    let x1 = field-ok 5 2 p 0 f1 in
+    within-check (length p) (eqb (schema .value) 1) 10 (schema .next) _ (omega arith)
+    (within-bind (length p) (sectionField 2 p (schema .next)) _ (field-within 5 2 p (schema .next) (omega arith)) λ flags f2.
+    let x2 = field-ok 5 2 p (schema .next) f2 in
+    within-check (length p) (eqb (flags .value) 0) 11 (flags .next) _ (omega arith)
+    (within-bind (length p) (digestAt p (flags .next)) _ (digest-within p (flags .next) (omega arith)) λ source f3.
+    let x3 = digest-ok p (flags .next) f3 in
+    within-bind (length p) (digestAt p (source .next)) _ (digest-within p (source .next) (omega arith)) λ contract f4.
+    let x4 = digest-ok p (source .next) f4 in
+    within-bind (length p) (sectionField 2 p (contract .next)) _ (field-within 5 2 p (contract .next) (omega arith)) λ epoch f5.
+    let x5 = field-ok 5 2 p (contract .next) f5 in
+    within-bind (length p) (textAt p (epoch .next)) _ (text-within p (epoch .next) (omega arith)) λ policy f6.
+    let x6 = text-ok p (epoch .next) f6 in
+    within-bind (length p) (textAt p (policy .next)) _ (text-within p (policy .next) (omega arith)) λ issuer f7.
+    let x7 = text-ok p (policy .next) f7 in
+    within-bind (length p) (countsAt p (issuer .next)) _ (counts-within p (issuer .next) (omega arith)) λ counted f8. tt))
+
+-- ---- A head whose counts passed
+module _ (room : Room) (p : List ℕ) where
+  pub checked-refused : {q : Refusal} → headOf p ≡ refused q → checkedHead room p ≡ refused q
+  unfolding checkedHead
+  checked-refused e = rw e
+
+  pub checked-as : {h : Head} → headOf p ≡ ok h → checkedHead room p ≡ (checkCounts room p h >> ok h)
+  unfolding checkedHead
+  checked-as e = rw e
+
+  -- what comes after a head and its counts' checks comes after a checked head
+  pub checked-then : {A : Type 0} (f : Head → Out A) → (headOf p >>= λ h. checkCounts room p h >> f h) ≡ (checkedHead room p >>= f)
+  unfolding checkedHead
+  checked-then f = go (headOf p)
+    where
+      after : (x : Out (Unit {0})) (h : Head) → (x >> f h) ≡ ((x >> ok h) >>= f)
+      after (ok u) h = refl
+      after (refused r) h = refl
+
+      go : (x : Out Head) → (x >>= λ h. checkCounts room p h >> f h) ≡ ((x >>= λ h. checkCounts room p h >> ok h) >>= f)
+      go (ok h) = after (checkCounts room p h) h
+      go (refused r) = refl
+
+-- ---- What the code's answer says of a head
+besides : {A : Type 0} (first second : A → List ℕ) (d : Out A) → beside first second d .answer ≡ d
+besides first second (ok a) = refl
+besides first second (refused r) = refl
+
+module _ (r : HeadRead) (d : Out Head) (e : headOut r ≡ headBeside d) where
+  pub head-answer : headIn (r .«source_set») (r .«compiler_contract») (r .answer) ≡ d
+  head-answer = ap (λ (b : Beside Head). b .answer) e ∙ besides (λ h. h .sourceSet) (λ h. h .compilerContract) d
+
+  pub head-told : {a : HeadAnswer} → r .answer ≡ a → d ≡ headIn (r .«source_set») (r .«compiler_contract») a
+  head-told k = sym head-answer ∙ ap (headIn (r .«source_set») (r .«compiler_contract»)) k

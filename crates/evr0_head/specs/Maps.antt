@@ -1,0 +1,100 @@
+-- From the code's structs and enums to the definitions' types.
+use Prim.Native.Nat.{ℕ}
+use mathlib.Core.List.{List, [], _∷_}
+use lib.ListN.{replicate}
+use Rattle.local_format.specs.Out.{Out, ok, refused}
+use Rattle.local_format.specs.Text as text
+use Rattle.local_format.specs.Maps.{refusalOut}
+use Rattle.evr0_section.specs.Head as of
+use Rattle.evr0_head.specs.declared.check.Checked.{Checked}
+use Rattle.evr0_head.specs.declared.check.Checked.the-variants as checked
+use Rattle.evr0_head.specs.declared.place.Place.{Place}
+use Rattle.evr0_head.specs.declared.place.Place.the-variants as place
+use Rattle.evr0_head.specs.declared.place.Digest.{Digest}
+use Rattle.evr0_head.specs.declared.span.Span.{Span}
+use Rattle.evr0_head.specs.declared.counts.Counts.{Counts}
+use Rattle.evr0_head.specs.declared.counts.Counted.{Counted}
+use Rattle.evr0_head.specs.declared.counts.Counted.the-variants as counted
+use Rattle.evr0_head.specs.declared.head.Head.{Head}
+use Rattle.evr0_head.specs.declared.head.HeadAnswer.{HeadAnswer}
+use Rattle.evr0_head.specs.declared.head.HeadAnswer.the-variants as head
+use Rattle.evr0_head.specs.declared.head.HeadRead.{HeadRead}
+use Rattle.evr0_head.specs.declared.head.Room.{Room}
+
+abbrev pub checkedOut : Checked → Out (Unit {0})
+checkedOut checked.Passed = ok tt
+checkedOut (checked.Refused r) = refused (refusalOut r)
+
+abbrev pub placeOut : Place → Out ℕ
+placeOut (place.Next n) = ok n
+placeOut (place.Refused r) = refused (refusalOut r)
+
+abbrev pub spanOut : Span → text.Span
+spanOut s = record { start = s .start; len = s .len; chars = s .chars; next = s .next }
+
+-- ---- Digests
+
+-- an answer and the two digests that stand beside it
+pub record Beside (A : Type 0) : Type 0 where
+  pub first : List ℕ
+  pub second : List ℕ
+  pub answer : Out A
+
+-- what stands in a digest's place where the answer is a refusal
+abbrev pub zeros : List ℕ
+zeros = replicate 32 0
+
+-- an answer with its digests
+abbrev pub beside : {A : Type 0} → (A → List ℕ) → (A → List ℕ) → Out A → Beside A
+beside first second (ok a) = record { first = first a; second = second a; answer = ok a }
+beside first second (refused r) = record { first = zeros; second = zeros; answer = refused r }
+
+abbrev pub digestIn : List ℕ → Place → Out of.Digest
+digestIn bytes (place.Next n) = ok (record { bytes = bytes; next = n })
+digestIn bytes (place.Refused r) = refused (refusalOut r)
+
+abbrev pub digestOut : Digest → Out of.Digest
+digestOut d = digestIn (d .bytes) (d .place)
+
+abbrev pub digestBytes : Out of.Digest → List ℕ
+digestBytes (ok d) = d .bytes
+digestBytes (refused r) = zeros
+
+-- ---- The head
+
+abbrev pub countsOut : Counts → of.Counts
+countsOut c = record { propositions = c .propositions; proofs = c .proofs; witnesses = c .witnesses; parents = c .parents }
+
+abbrev pub countedOut : Counted → Out of.Counted
+countedOut (counted.Read c n) = ok (record { counts = countsOut c; next = n })
+countedOut (counted.Refused r) = refused (refusalOut r)
+
+abbrev pub roomOut : Room → of.Room
+roomOut r = record { propositions = r .propositions; proofs = r .proofs; depths = r .depths }
+
+abbrev pub headRecord : List ℕ → List ℕ → Head → of.Head
+headRecord source contract h =
+    record {
+      sourceSet = source;
+      compilerContract = contract;
+      epoch = h .epoch;
+      policyAt = h .«policy_at»;
+      policy = spanOut (h .«policy_namespace»);
+      issuerAt = h .«issuer_at»;
+      issuer = spanOut (h .«issuer_namespace»);
+      counts = countsOut (h .counts);
+      countsAt = h .«counts_at»;
+      next = h .next;
+    }
+
+abbrev pub headIn : List ℕ → List ℕ → HeadAnswer → Out of.Head
+headIn source contract (head.Read h) = ok (headRecord source contract h)
+headIn source contract (head.Refused r) = refused (refusalOut r)
+
+abbrev pub headOut : HeadRead → Beside of.Head
+headOut r =
+    record { first = r .«source_set»; second = r .«compiler_contract»; answer = headIn (r .«source_set») (r .«compiler_contract») (r .answer) }
+
+-- a head with its digests
+abbrev pub headBeside : Out of.Head → Beside of.Head
+headBeside d = beside (λ h. h .sourceSet) (λ h. h .compilerContract) d

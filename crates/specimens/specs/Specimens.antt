@@ -1,0 +1,19 @@
+-- The twelve specimens of document 01, in one table: sections at cursor 0, and blocks at a base.
+use Prim.Native.Nat.{ℕ}
+use mathlib.Core.List.{List, map, _++_}
+use Rattle.evr0_section.specs.Build.{Free}
+use Rattle.evr0_section.specs.Specimens as evr0
+use Rattle.semcode_decode.specs.Specimens as semcode
+
+pub data Specimen : Type 0 where
+  section : evr0.Specimen → Specimen
+  block : semcode.Specimen → Specimen
+
+-- a specimen with the answer of the definitions, at any base
+abbrev pub answered : ℕ → Specimen → Specimen
+answered base (section x) = section (evr0.answered x)
+answered base (block x) = block (semcode.answered base x)
+
+-- what they leave free is any: the free bytes of 1 to 8, the base of 9 to 12, the revision of 9 to 11
+unfoldable pub specimens : Free → ℕ → ℕ → ℕ → List Specimen
+specimens free byte base revision = map section (evr0.specimens free byte) ++ map block (semcode.specimens base revision)

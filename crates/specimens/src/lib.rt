@@ -1,0 +1,1 @@
+// Definitions and theorems only: the twelve specimens of document 01.
