@@ -1,17 +1,17 @@
--- Laws of decoding UTF-8: a byte at a time, then a character at a time, then the scan's count and mark of what is passed.
-use mathlib.Core.Path.{_≡_, refl, ap}
+-- Laws of decoding UTF-8 a byte at a time: the row of a lead byte, and the step of each later byte.
+use mathlib.Core.Path.{_≡_, refl, ap, _∙_}
 use mathlib.Core.Logic.{_⊎_, inl, inr}
-use Prim.Native.Nat.{ℕ, _+_, _-_, _*_, _%_, _≤_, _<_}
+use Prim.Native.Nat.{ℕ, zero, suc, _+_, _-_, _*_, _%_, _≤_, _<_}
 use native.Mathlib.Omega.{arith}
 use native.Mathlib.Numerals.{add-one}
 use native.Mathlib.Decide.{decLe}
-use mathlib.Core.List.{List}
+use mathlib.Core.List.{List, [], _∷_}
 use mathlib.Core.Bool.{Bool, true, false, cond, _&&_, and-false}
 use borrow.Author.Tests.{eq-eqb, ne-eqb, eqb-true, eqb-false, le-leb, lt-leb, ltb-true, ltb-false}
 use lib.Dec.{eqb, leb, ltb}
 use lib.ListN.{length, getD, drop, drop-of-length-le}
 use lib.Seq.{drop-cons}
-use Rattle.local_format.specs.Utf8.{Part, Step, char, more, bad, going, leadOf, laterOf, table, stepOf, Decoded, ill, onto, after, decode, decodeFrom}
+use Rattle.local_format.specs.Utf8.{Row, row, Part, Step, char, more, bad, going, leadOf, laterOf, table, stepOf, Decoded, ill, onto, after, decode, decodeFrom}
 use Rattle.local_format.specs.Scan.{laterAt}
 use Rattle.local_format.proofs.BoolLaws.{both}
 
@@ -19,43 +19,72 @@ use Rattle.local_format.proofs.BoolLaws.{both}
 abbrev pub part : ℕ → ℕ → ℕ → ℕ → Part
 part due low high point = record { due = due; low = low; high = high; point = point }
 
+-- the k-th row has a lead byte, which is past the rows before
+abbrev Has : ℕ → List Row → ℕ → Type 0
+Has k [] b = ⊥
+Has zero (row first last due low high top ∷ rows) b = (first ≤ b) × (b ≤ last)
+Has (suc k) (row first last due low high top ∷ rows) b = (last < b) × Has k rows b
+
+abbrev rowStep : ℕ → List Row → ℕ → Step
+rowStep k [] b = bad
+rowStep zero (row first last due low high top ∷ rows) b = going due low high (b % top)
+rowStep (suc k) (r ∷ rows) b = rowStep k rows b
+
+lead-has : (k : ℕ) (rows : List Row) (b : ℕ) → Has k rows b → leadOf rows b ≡ rowStep k rows b
+unfolding leadOf
+lead-has k [] b h = absurd h
+lead-has zero (row first last due low high top ∷ rows) b h = simp (le-leb first b (h .0), le-leb b last (h .1))
+lead-has (suc k) (row first last due low high top ∷ rows) b h = simp (lt-leb b last (h .0), and-false) (lead-has k rows b (h .1))
+
+-- no row has it: it is past k rows and before the others
+abbrev Lacks : ℕ → List Row → ℕ → Type 0
+Lacks k [] b = Unit {0}
+Lacks zero (row first last due low high top ∷ rows) b = (b < first) × Lacks zero rows b
+Lacks (suc k) (row first last due low high top ∷ rows) b = (last < b) × Lacks k rows b
+
+lead-lacks : (k : ℕ) (rows : List Row) (b : ℕ) → Lacks k rows b → leadOf rows b ≡ bad
+unfolding leadOf
+lead-lacks k [] b h = refl
+lead-lacks zero (row first last due low high top ∷ rows) b h = simp (lt-leb first b (h .0)) (lead-lacks zero rows b (h .1))
+lead-lacks (suc k) (row first last due low high top ∷ rows) b h = simp (lt-leb b last (h .0), and-false) (lead-lacks k rows b (h .1))
+
 module _ (b : ℕ) where
   pub lead-1 : b ≤ 0x7F → leadOf table b ≡ char b
-  unfolding leadOf table
-  lead-1 h = simp (le-leb 0 b (omega arith), le-leb b 0x7F h) (ap char (omega arith))
+  unfolding table
+  lead-1 h = lead-has 0 table b (omega arith) ∙ ap char (omega arith)
 
   pub lead-none : 0x7F < b → b ≤ 0xC1 → leadOf table b ≡ bad
-  unfolding leadOf table
-  lead-none g h = simp (lt-leb b 0x7F g, and-false, lt-leb 0xC2 b (omega arith), lt-leb 0xE0 b (omega arith), lt-leb 0xE1 b (omega arith), lt-leb 0xED b (omega arith), lt-leb 0xEE b (omega arith), lt-leb 0xF0 b (omega arith), lt-leb 0xF1 b (omega arith), lt-leb 0xF4 b (omega arith))
+  unfolding table
+  lead-none g h = lead-lacks 1 table b (omega arith)
 
   pub lead-2 : 0xC1 < b → b ≤ 0xDF → leadOf table b ≡ more (part 1 0x80 0xBF (b % 32))
-  unfolding leadOf table
-  lead-2 g h = simp (lt-leb b 0x7F (omega arith), and-false, le-leb 0xC2 b (omega arith), le-leb b 0xDF h)
+  unfolding table
+  lead-2 g h = lead-has 1 table b (omega arith)
 
+  -- the second byte starts at A0 after E0 and ends at 9F after ED
   pub lead-3 : 0xDF < b → b ≤ 0xEF → leadOf table b ≡ more (part 2 (cond (eqb b 0xE0) 0xA0 0x80) (cond (eqb b 0xED) 0x9F 0xBF) (b % 16))
-  unfolding leadOf table
+  unfolding table
   lead-3 g h = go (decLe b 0xE0) (decLe b 0xEC) (decLe b 0xED)
     where
-      go : Dec (b ≤ 0xE0) → Dec (b ≤ 0xEC) → Dec (b ≤ 0xED)
-          → leadOf table b ≡ more (part 2 (cond (eqb b 0xE0) 0xA0 0x80) (cond (eqb b 0xED) 0x9F 0xBF) (b % 16))
-      go (yes x) y z = simp (eq-eqb b 0xE0 (omega arith), ne-eqb b 0xED (omega arith), lt-leb b 0x7F (omega arith), lt-leb b 0xDF g, and-false, le-leb 0xE0 b (omega arith), le-leb b 0xE0 x)
-      go (no x) (yes y) z = simp (ne-eqb b 0xE0 (omega arith), ne-eqb b 0xED (omega arith), lt-leb b 0x7F (omega arith), lt-leb b 0xDF g, lt-leb b 0xE0 (omega arith), and-false, le-leb 0xE1 b (omega arith), le-leb b 0xEC y)
-      go (no x) (no y) (yes z) = simp (ne-eqb b 0xE0 (omega arith), eq-eqb b 0xED (omega arith), lt-leb b 0x7F (omega arith), lt-leb b 0xDF g, lt-leb b 0xE0 (omega arith), lt-leb b 0xEC (omega arith), and-false, le-leb 0xED b (omega arith), le-leb b 0xED z)
-      go (no x) (no y) (no z) = simp (ne-eqb b 0xE0 (omega arith), ne-eqb b 0xED (omega arith), lt-leb b 0x7F (omega arith), lt-leb b 0xDF g, lt-leb b 0xE0 (omega arith), lt-leb b 0xEC (omega arith), lt-leb b 0xED (omega arith), and-false, le-leb 0xEE b (omega arith), le-leb b 0xEF h)
+      go : Dec (b ≤ 0xE0) → Dec (b ≤ 0xEC) → Dec (b ≤ 0xED) → leadOf table b ≡ more (part 2 (cond (eqb b 0xE0) 0xA0 0x80) (cond (eqb b 0xED) 0x9F 0xBF) (b % 16))
+      go (yes x) y z = simp (eq-eqb b 0xE0 (omega arith), ne-eqb b 0xED (omega arith)) (lead-has 2 table b (omega arith))
+      go (no x) (yes y) z = simp (ne-eqb b 0xE0 (omega arith), ne-eqb b 0xED (omega arith)) (lead-has 3 table b (omega arith))
+      go (no x) (no y) (yes z) = simp (ne-eqb b 0xE0 (omega arith), eq-eqb b 0xED (omega arith)) (lead-has 4 table b (omega arith))
+      go (no x) (no y) (no z) = simp (ne-eqb b 0xE0 (omega arith), ne-eqb b 0xED (omega arith)) (lead-has 5 table b (omega arith))
 
+  -- the second byte starts at 90 after F0 and ends at 8F after F4
   pub lead-4 : 0xEF < b → b ≤ 0xF4 → leadOf table b ≡ more (part 3 (cond (eqb b 0xF0) 0x90 0x80) (cond (eqb b 0xF4) 0x8F 0xBF) (b % 8))
-  unfolding leadOf table
+  unfolding table
   lead-4 g h = go (decLe b 0xF0) (decLe b 0xF3)
     where
-      go : Dec (b ≤ 0xF0) → Dec (b ≤ 0xF3)
-          → leadOf table b ≡ more (part 3 (cond (eqb b 0xF0) 0x90 0x80) (cond (eqb b 0xF4) 0x8F 0xBF) (b % 8))
-      go (yes x) y = simp (eq-eqb b 0xF0 (omega arith), ne-eqb b 0xF4 (omega arith), lt-leb b 0x7F (omega arith), lt-leb b 0xDF (omega arith), lt-leb b 0xE0 (omega arith), lt-leb b 0xEC (omega arith), lt-leb b 0xED (omega arith), lt-leb b 0xEF g, and-false, le-leb 0xF0 b (omega arith), le-leb b 0xF0 x)
-      go (no x) (yes y) = simp (ne-eqb b 0xF0 (omega arith), ne-eqb b 0xF4 (omega arith), lt-leb b 0x7F (omega arith), lt-leb b 0xDF (omega arith), lt-leb b 0xE0 (omega arith), lt-leb b 0xEC (omega arith), lt-leb b 0xED (omega arith), lt-leb b 0xEF g, lt-leb b 0xF0 (omega arith), and-false, le-leb 0xF1 b (omega arith), le-leb b 0xF3 y)
-      go (no x) (no y) = simp (ne-eqb b 0xF0 (omega arith), eq-eqb b 0xF4 (omega arith), lt-leb b 0x7F (omega arith), lt-leb b 0xDF (omega arith), lt-leb b 0xE0 (omega arith), lt-leb b 0xEC (omega arith), lt-leb b 0xED (omega arith), lt-leb b 0xEF g, lt-leb b 0xF0 (omega arith), lt-leb b 0xF3 (omega arith), and-false, le-leb 0xF4 b (omega arith), le-leb b 0xF4 h)
+      go : Dec (b ≤ 0xF0) → Dec (b ≤ 0xF3) → leadOf table b ≡ more (part 3 (cond (eqb b 0xF0) 0x90 0x80) (cond (eqb b 0xF4) 0x8F 0xBF) (b % 8))
+      go (yes x) y = simp (eq-eqb b 0xF0 (omega arith), ne-eqb b 0xF4 (omega arith)) (lead-has 6 table b (omega arith))
+      go (no x) (yes y) = simp (ne-eqb b 0xF0 (omega arith), ne-eqb b 0xF4 (omega arith)) (lead-has 7 table b (omega arith))
+      go (no x) (no y) = simp (ne-eqb b 0xF0 (omega arith), eq-eqb b 0xF4 (omega arith)) (lead-has 8 table b (omega arith))
 
   pub lead-past : 0xF4 < b → leadOf table b ≡ bad
-  unfolding leadOf table
-  lead-past g = simp (lt-leb b 0x7F (omega arith), lt-leb b 0xDF (omega arith), lt-leb b 0xE0 (omega arith), lt-leb b 0xEC (omega arith), lt-leb b 0xED (omega arith), lt-leb b 0xEF (omega arith), lt-leb b 0xF0 (omega arith), lt-leb b 0xF3 (omega arith), lt-leb b 0xF4 g, and-false)
+  unfolding table
+  lead-past g = lead-lacks 9 table b (omega arith)
 
 -- a bound that is narrower after one lead byte
 pub bounds : (b narrow then other x : ℕ) → x ≡ cond (eqb b narrow) then other → ((b ≡ narrow) × (x ≡ then)) ⊎ ((b ≡ narrow → ⊥) × (x ≡ other))

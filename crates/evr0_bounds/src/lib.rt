@@ -1,0 +1,1 @@
+// Theorems only: the refusals of an evidence section's payload stand within it.
