@@ -26,9 +26,6 @@ const PARTS: [Part; 5] = [
     ("blocks", blocks::run),
 ];
 
-/// The part that shows only what its inputs reach: the port has no section decoder yet.
-const NOT_COMPARED: &str = "sections";
-
 fn main() {
     let options = options().unwrap_or_else(|| {
         eprintln!("{USAGE}");
@@ -44,10 +41,8 @@ fn main() {
         if options.part.as_ref().is_none_or(|part| part == name) {
             let tally = run(&mut Random::new(options.seed), options.count);
             tally.print();
-            if name != NOT_COMPARED {
-                inputs += tally.inputs();
-                differences += tally.differences();
-            }
+            inputs += tally.inputs();
+            differences += tally.differences();
         }
     }
     println!("{inputs} inputs compared, {differences} differences");
