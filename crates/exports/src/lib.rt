@@ -4,6 +4,7 @@ pub mod field;
 pub mod number;
 pub mod record;
 pub mod refusal;
+pub mod section;
 pub mod tag;
 pub mod text;
 pub mod utf8;

@@ -2,6 +2,13 @@
 
 #[derive(Debug, Clone, PartialEq, Eq)]
 pub struct Section {
+    pub head: Head,
+    pub cursor: usize,
+    pub tables: Tables,
+}
+
+#[derive(Debug, Clone, Copy, PartialEq, Eq)]
+pub struct Head {
     pub source_set: [u8; 32],
     pub compiler_contract: [u8; 32],
     pub epoch: u16,
@@ -10,8 +17,6 @@ pub struct Section {
     pub issuer: usize,
     /// Propositions, proofs, witnesses, parents.
     pub counts: [usize; 4],
-    pub cursor: usize,
-    pub tables: Tables,
 }
 
 /// The start of each proposition and of each proof, and each proof's depth.

@@ -3,6 +3,7 @@
 mod blocks;
 mod measure;
 mod rows;
+mod sections;
 mod texts;
 
 use measure::{Measured, measure};

@@ -35,5 +35,6 @@ pub fn calls(call: impl Fn() -> u64 + 'static) -> Calls {
 pub fn all() -> Vec<Row> {
     let mut rows = crate::texts::rows();
     rows.extend(crate::blocks::rows());
+    rows.extend(crate::sections::rows());
     rows
 }

@@ -4,6 +4,7 @@ mod block_compare;
 mod block_numbers;
 mod blocks;
 mod fields;
+mod section_compare;
 mod sections;
 mod tally;
 mod texts;
@@ -44,7 +45,7 @@ fn main() {
             differences += tally.differences();
         }
     }
-    println!("{inputs} inputs, {differences} differences");
+    println!("{inputs} inputs compared, {differences} differences");
     if differences != 0 {
         std::process::exit(1);
     }

@@ -1,13 +1,14 @@
 //! Sections: every cut and byte change of small ones, faults one and two at once, limits, and large ones.
 
+use crate::section_compare;
 use crate::tally::Tally;
+use inputs::cases::{self, SectionCase};
 use inputs::random::Random;
 use inputs::section::Section;
-use inputs::section_conditions::condition;
-use inputs::{cases, shapes};
+use inputs::shapes;
 
 pub fn run(r: &mut Random, count: usize) -> Tally {
-    let mut tally = Tally::new("sections, by the Rust alone");
+    let mut tally = Tally::new("sections");
     for shape in [shapes::one_proof, shapes::two_proofs, shapes::joined] {
         let bytes = shape(r).bytes();
         cuts(&mut tally, &bytes);
@@ -16,19 +17,14 @@ pub fn run(r: &mut Random, count: usize) -> Tally {
     large(&mut tally, r);
     for _ in 0..count {
         let case = cases::section(r);
-        compare(&mut tally, &case.file, case.cursor);
+        section_compare::compare(&mut tally, &case);
     }
     tally
 }
 
-fn compare(tally: &mut Tally, bytes: &[u8], cursor: usize) {
-    match oracle::section::section(bytes, cursor) {
-        Ok(_) => tally.input((0, "")),
-        Err(refusal) => {
-            let condition = condition(bytes, cursor, &refusal);
-            tally.input((refusal.number, condition));
-        }
-    }
+fn compare(tally: &mut Tally, file: &[u8], cursor: usize) {
+    let file = file.to_vec();
+    section_compare::compare(tally, &SectionCase { file, cursor });
 }
 
 /// Every cut, once with the payload length as it was and once with it repaired.

@@ -153,6 +153,15 @@ pub fn condition(bytes: &[u8], cursor: usize, refusal: &Refusal) -> &'static str
     }
 }
 
+/// The four counts of a section whose head reads, and the place in the file after them.
+pub fn counts(bytes: &[u8], cursor: usize) -> ([u32; 4], usize) {
+    let mut records = Records::default();
+    let start = cursor + 8;
+    let cut = records.read(&bytes[start..]);
+    assert!(cut.is_ok() || records.counts_at != 0, "the head reads");
+    (records.counts, start + records.counts_at + 16)
+}
+
 fn clause(s: &Records, number: u8, at: usize) -> &'static str {
     match number {
         6 => match s.texts.iter().find(|t| t.1 == at) {

@@ -29,15 +29,15 @@ pub fn section_line(bytes: &[u8], cursor: usize) -> Answer<String> {
         "cursor={} counts={} depths={} propositions={} proofs={} policy={} issuer={} epoch={} \
          source_set={} compiler_contract={}",
         s.cursor,
-        list(s.counts),
+        list(s.head.counts),
         list(&s.tables.depths),
         list(&s.tables.propositions),
         list(&s.tables.proofs),
-        s.policy,
-        s.issuer,
-        s.epoch,
-        hex(&s.source_set),
-        hex(&s.compiler_contract),
+        s.head.policy,
+        s.head.issuer,
+        s.head.epoch,
+        hex(&s.head.source_set),
+        hex(&s.head.compiler_contract),
     ))
 }
 

@@ -3,7 +3,7 @@
 use crate::evr0::{DecodedEvr0, Proof, decode_evr0_section};
 use crate::messages::of_section;
 use answers::Answer;
-use answers::section::{Section, Tables};
+use answers::section::{Head, Section, Tables};
 
 /// The section at a cursor, with the Rust's own records.
 pub fn section(bytes: &[u8], cursor: usize) -> Answer<(Section, DecodedEvr0)> {
@@ -32,17 +32,19 @@ fn answer(d: &DecodedEvr0, cursor: usize) -> Section {
     let (propositions, next) = starts(first, d.propositions.iter().map(|p| text(&p.kind) + 12));
     let (proofs, _) = starts(next, d.proofs.iter().map(|p| 8 + text(&p.rule_id) + 24));
     Section {
-        source_set: d.source_set,
-        compiler_contract: d.compiler_contract,
-        epoch: d.epoch,
-        policy,
-        issuer,
-        counts: [
-            d.propositions.len(),
-            d.proofs.len(),
-            d.witnesses.len(),
-            d.parents.len(),
-        ],
+        head: Head {
+            source_set: d.source_set,
+            compiler_contract: d.compiler_contract,
+            epoch: d.epoch,
+            policy,
+            issuer,
+            counts: [
+                d.propositions.len(),
+                d.proofs.len(),
+                d.witnesses.len(),
+                d.parents.len(),
+            ],
+        },
         cursor,
         tables: Tables {
             propositions,

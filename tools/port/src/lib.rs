@@ -5,6 +5,7 @@ pub mod block;
 pub mod field;
 pub mod number;
 pub mod refusal;
+pub mod section;
 pub mod tag;
 pub mod text;
 pub mod utf8;
