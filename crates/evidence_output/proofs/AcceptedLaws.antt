@@ -24,7 +24,7 @@ use Rattle.evr0_section.proofs.CheckedTables.{Steps, steps}
 -- ---- The frame
 
 -- it starts 8 bytes after the cursor, and ends within the file
-frame-place : (s : List ℕ) (cursor : ℕ) {f : Frame} → frameAt s cursor ≡ ok f → (f .start ≡ cursor + 8) × (f .start + f .len ≤ length s)
+pub frame-place : (s : List ℕ) (cursor : ℕ) {f : Frame} → frameAt s cursor ≡ ok f → (f .start ≡ cursor + 8) × (f .start + f .len ≤ length s)
 unfolding frameAt
 frame-place s cursor {f} e =
     let t = checked-ok (tagAt evr0 s cursor) 1 cursor _ e in

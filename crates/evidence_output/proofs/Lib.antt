@@ -3,6 +3,7 @@ pub mod DecimalLaws
 pub mod LineLaws
 pub mod NumberLaws
 pub mod Enough
+pub mod OffsetLaws
 pub mod OutputLength
 pub mod ListedLaws
 pub mod AcceptedLaws

@@ -85,7 +85,10 @@ pub fn proposition_in(payload: &[u8], starts: &[u64], number: PropositionIndex) 
         return PropositionEntry::Refused(local_format::refusal::refuse(62, 0));
     }
     let start = starts[i] as usize;
-    let read = evr0_records::proposition::read_proposition(local_format::part::tail(payload, start));
+    let read = evr0_records::proposition::read_proposition(local_format::part::tail(
+        payload,
+        start,
+    ));
     match read {
         PropositionRead::Read {
             proposition,
