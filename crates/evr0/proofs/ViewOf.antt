@@ -4,7 +4,7 @@ use mathlib.Core.Path.{_≡_, refl, ap, ap₂, _∙_}
 use mathlib.Core.List.{List, _∷_, map}
 use native.Mathlib.Nat.{zero-add}
 use native.Mathlib.Omega.{arith}
-use lib.ListN.{length, getD, drop}
+use lib.ListN.{length, getD, drop, length-map}
 use lib.Seq.{drop-drop}
 use Rattle.local_format.specs.Out.{Out, ok}
 use Rattle.local_format.specs.Field.{le}
@@ -15,7 +15,7 @@ use Rattle.evr0_section.specs.Head.{Counts, Room}
 use Rattle.evr0_section.specs.Proof.{ProofRecord, Settled, Unowned, proofRow}
 use Rattle.evr0_section.specs.Witness.{WitnessRecord, witnessRow, parentRow}
 use Rattle.evr0_section.specs.Section.{Tables, proofItem, witnessItem, parentItem, sectionOf, tablesOf}
-use Rattle.evr0_section.proofs.RowsLaws.{entry, Trace, none, more, trace}
+use Rattle.evr0_section.proofs.RowsLaws.{entry, Trace, none, more, trace, trace-length}
 use Rattle.evr0_section.proofs.RowChecks.{GoodProof, proof-known, proof-behind, witness-behind}
 use Rattle.evr0_section.proofs.RecordLaws.{ProofLies, proof-lies, witness-lies, parent-lies}
 use Rattle.evr0_section.proofs.CheckedTables.{Steps, steps}
@@ -135,6 +135,11 @@ module _ (rules : List Rule) (room : Room) (p : List ℕ) (t : Tables) (read : t
   parents-read : Trace parentRow p (t .head .counts .parents) tt (t .witnesses .next) (t .parents .entries) (t .parents .state) (t .parents .next)
   parents-read = trace parentRow p _ _ _ (t .parents) (read-steps .parents)
 
+  -- a start for each proof
+  pub starts-total : length (startsOf (t .proofs .entries)) ≡ t .head .counts .proofs
+  starts-total = length-map (t .proofs .entries) _ ∙ trace-length (proofRow rules (t .head .counts)) p proofs-read
+
+  -- the tables that were read are those that the bytes hold
   pub section-view : sectionOf t ≡ view rules p (startsOf (t .proofs .entries)) (layoutOf t)
   unfolding sectionOf view
   section-view =
@@ -148,6 +153,7 @@ module _ (rules : List Rule) (room : Room) (p : List ℕ) (t : Tables) (read : t
         cs .0,
       )
 
+  -- and they are there, as the last pass asks
   pub tables-there : TablesThere rules p (startsOf (t .proofs .entries)) (layoutOf t)
   tables-there =
       let ws = same-size (witnessRow 4 (t .head .counts)) p 84 (witness-size p (t .head .counts)) witnesses-read in

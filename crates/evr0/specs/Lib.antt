@@ -1,5 +1,5 @@
 pub mod Maps
 pub mod Answer
-pub mod Front
 pub mod View
 pub mod PassMaps
+pub mod Front

@@ -3,37 +3,21 @@ use Prim.Native.Nat.{ℕ, _+_, _-_, _≤_}
 use mathlib.Core.Path.{_≡_, refl, ap, sym, _∙_}
 use mathlib.Core.List.{List}
 use native.Mathlib.Omega.{arith}
-use lib.Dec.{leb, eqb}
+use lib.Dec.{eqb}
 use lib.ListN.{length}
 use borrow.Author.Tests.{leb-true, le-leb}
 use Rattle.local_format.specs.Refusal.{Refusal}
-use Rattle.local_format.specs.Out.{Out, ok, refused, check, _>>=_, _>>_}
-use Rattle.local_format.specs.Field.{Got}
+use Rattle.local_format.specs.Out.{Out, ok, refused, _>>=_, _>>_}
 use Rattle.local_format.specs.Text.{Span, sectionField, textAt}
-use Rattle.local_format.proofs.OutLaws.{ok-same, bind-ok, checked-ok, RefusesWithin, within-bind, within-check}
-use Rattle.local_format.proofs.FieldLaws.{field-ok, field-within}
-use Rattle.local_format.proofs.TextLaws.{text-ok, text-refused-within}
-use Rattle.evr0_section.specs.Head.{
-  Counts,
-  Counted,
-  Digest,
-  Head,
-  Room,
-  digestAt,
-  countsAt,
-  headOf,
-  listed,
-  countLimits,
-  withinLimits,
-  sizes,
-  hasRoom,
-  checkCounts,
-}
-use Rattle.evr0_head.specs.Posts.{Limited, checkedHead}
+use Rattle.local_format.proofs.OutLaws.{ok-same, bind-ok, checked-ok}
+use Rattle.local_format.proofs.FieldLaws.{field-ok}
+use Rattle.local_format.proofs.TextLaws.{text-ok}
+use Rattle.evr0_section.specs.Head.{Counts, Counted, Head, Room, digestAt, countsAt, headOf, listed, countLimits, withinLimits, checkCounts}
+use Rattle.evr0_head.specs.Checks.{Limited, checkedHead}
 use Rattle.evr0_head.specs.Maps.{Beside, beside, headIn, headOut, headBeside}
 use Rattle.evr0_head.specs.declared.head.HeadAnswer.{HeadAnswer}
 use Rattle.evr0_head.specs.declared.head.HeadRead.{HeadRead}
-use Rattle.evr0_head.proofs.PlaceLaws.{all-within, digest-ok, digest-within}
+use Rattle.evr0_head.proofs.PlaceLaws.{digest-ok}
 
 module _ (c : Counts) (at : ℕ) where
   pub within : Limited c → withinLimits (listed c) countLimits at ≡ ok tt
@@ -60,7 +44,7 @@ module _ (c : Counts) (at : ℕ) where
         parents = leb-true (c .parents) 262144 (f .0);
       }
 
--- ---- Where a head that was read ends, and where a refusal stands
+-- ---- Where a head that was read lies
 module _ (p : List ℕ) (at : ℕ) where
   pub counts-ok : {c : Counted} → countsAt p at ≡ ok c → (c .next ≡ at + 16) × (c .next ≤ length p)
   unfolding countsAt
@@ -74,17 +58,6 @@ module _ (p : List ℕ) (at : ℕ) where
       let x3 = field-ok 5 4 p (g2 .next) f3 in
       let x4 = field-ok 5 4 p (g3 .next) f4 in
       rw (← ok-same e4) (omega arith, omega arith)
-
-  pub counts-within : at ≤ length p → RefusesWithin (length p) (countsAt p at)
-  unfolding countsAt
-  counts-within here =
-      within-bind (length p) (sectionField 4 p at) _ (field-within 5 4 p at here) λ g1 f1.
-      let x1 = field-ok 5 4 p at f1 in
-      within-bind (length p) (sectionField 4 p (g1 .next)) _ (field-within 5 4 p (g1 .next) (omega arith)) λ g2 f2.
-      let x2 = field-ok 5 4 p (g1 .next) f2 in
-      within-bind (length p) (sectionField 4 p (g2 .next)) _ (field-within 5 4 p (g2 .next) (omega arith)) λ g3 f3.
-      let x3 = field-ok 5 4 p (g2 .next) f3 in
-      within-bind (length p) (sectionField 4 p (g3 .next)) _ (field-within 5 4 p (g3 .next) (omega arith)) λ g4 f4. tt
 
 -- where the parts of a head lie
 pub record Lies (p : List ℕ) (h : Head) : Type 0 where
@@ -137,30 +110,6 @@ head-ok p e =
     (text-ok p (policy .next) f7 .3)
     (counts-ok p (issuer .next) f8))
 
-text-within : (s : List ℕ) (at : ℕ) → at ≤ length s → RefusesWithin (length s) (textAt s at)
-text-within s at here = all-within (length s) (textAt s at) (λ r e. text-refused-within s at here e)
-
-pub head-within : (p : List ℕ) → RefusesWithin (length p) (headOf p)
-unfolding headOf
-head-within p =
-    within-bind (length p) (sectionField 2 p 0) _ (field-within 5 2 p 0 (omega arith)) λ schema f1.
-    let x1 = field-ok 5 2 p 0 f1 in
-    within-check (length p) (eqb (schema .value) 1) 10 (schema .next) _ (omega arith)
-    (within-bind (length p) (sectionField 2 p (schema .next)) _ (field-within 5 2 p (schema .next) (omega arith)) λ flags f2.
-    let x2 = field-ok 5 2 p (schema .next) f2 in
-    within-check (length p) (eqb (flags .value) 0) 11 (flags .next) _ (omega arith)
-    (within-bind (length p) (digestAt p (flags .next)) _ (digest-within p (flags .next) (omega arith)) λ source f3.
-    let x3 = digest-ok p (flags .next) f3 in
-    within-bind (length p) (digestAt p (source .next)) _ (digest-within p (source .next) (omega arith)) λ contract f4.
-    let x4 = digest-ok p (source .next) f4 in
-    within-bind (length p) (sectionField 2 p (contract .next)) _ (field-within 5 2 p (contract .next) (omega arith)) λ epoch f5.
-    let x5 = field-ok 5 2 p (contract .next) f5 in
-    within-bind (length p) (textAt p (epoch .next)) _ (text-within p (epoch .next) (omega arith)) λ policy f6.
-    let x6 = text-ok p (epoch .next) f6 in
-    within-bind (length p) (textAt p (policy .next)) _ (text-within p (policy .next) (omega arith)) λ issuer f7.
-    let x7 = text-ok p (policy .next) f7 in
-    within-bind (length p) (countsAt p (issuer .next)) _ (counts-within p (issuer .next) (omega arith)) λ counted f8. tt))
-
 -- ---- A head whose counts passed
 module _ (room : Room) (p : List ℕ) where
   pub checked-refused : {q : Refusal} → headOf p ≡ refused q → checkedHead room p ≡ refused q
@@ -185,7 +134,7 @@ module _ (room : Room) (p : List ℕ) where
       go (refused r) = refl
 
 -- ---- What the code's answer says of a head
-besides : {A : Type 0} (first second : A → List ℕ) (d : Out A) → beside first second d .answer ≡ d
+pub besides : {A : Type 0} (first second : A → List ℕ) (d : Out A) → beside first second d .answer ≡ d
 besides first second (ok a) = refl
 besides first second (refused r) = refl
 

@@ -1,18 +1,17 @@
 -- What is left of a list from a place on says whether a field is there: reserved bytes and digests.
 use Prim.Native.Nat.{ℕ, _+_, _*_, _-_, _≤_, _<_}
-use mathlib.Core.Path.{_≡_, refl, sym, ap, _∙_}
+use mathlib.Core.Path.{_≡_, refl, ap, _∙_}
 use mathlib.Core.List.{List}
 use native.Mathlib.Omega.{arith}
 use native.Mathlib.Nat.{add-zero}
 use lib.ListN.{length, getD, take, drop, length-drop}
 use borrow.Author.Tests.{le-leb, lt-leb, eq-eqb, ne-eqb}
 use lib.Dec.{eqb}
-use Rattle.local_format.specs.Refusal.{Refusal}
-use Rattle.local_format.specs.Out.{Out, ok, refused, refuse, check, _>>=_, _>>_}
-use Rattle.local_format.specs.Field.{Got, le, fieldAt}
+use Rattle.local_format.specs.Out.{ok, refuse}
+use Rattle.local_format.specs.Field.{le, fieldAt}
 use Rattle.local_format.specs.Text.{bytesAt, sectionField}
-use Rattle.local_format.proofs.OutLaws.{ok-same, bind-ok, checked-ok, RefusesWithin, within-bind, within-check}
-use Rattle.local_format.proofs.FieldLaws.{le-drop, field-ok, field-within}
+use Rattle.local_format.proofs.OutLaws.{ok-same, bind-ok, checked-ok}
+use Rattle.local_format.proofs.FieldLaws.{le-drop, field-ok}
 use Rattle.evr0_section.specs.Head.{Digest, digestAt}
 use Rattle.evr0_section.specs.Proof.{zerosAt}
 
@@ -52,12 +51,7 @@ module _ (s : List ℕ) {rest : List ℕ} (at : ℕ) (e : rest ≡ drop at s) wh
   unfolding digestAt fieldAt
   digest-whole bytes h k = simp (le-leb (at + 32) (length s) (ends 32 h (omega arith)), k, e)
 
--- ---- Where a field that was read ends, and where a refusal stands
--- a law of refusals, of an answer as it is
-pub all-within : {A : Type 0} (n : ℕ) (x : Out A) → ((r : Refusal) → x ≡ refused r → r .offset ≤ n) → RefusesWithin n x
-all-within n (ok a) h = tt
-all-within n (refused r) h = h r refl
-
+-- ---- Where a field that was read ends
 module _ (s : List ℕ) (at : ℕ) where
   pub zeros-ok : {next : ℕ} → zerosAt s at ≡ ok next → (next ≡ at + 3) × (next ≤ length s)
   unfolding zerosAt
@@ -73,15 +67,3 @@ module _ (s : List ℕ) (at : ℕ) where
       let (g, f, e1) = bind-ok (sectionField 32 s at) _ e in
       let x = field-ok 5 32 s at f in
       rw (← ok-same e1) (x .0, omega arith, refl)
-
-  module _ (here : at ≤ length s) where
-    pub zeros-within : RefusesWithin (length s) (zerosAt s at)
-    unfolding zerosAt
-    zeros-within =
-        within-bind (length s) (sectionField 3 s at) _ (field-within 5 3 s at here) λ g f.
-        let x = field-ok 5 3 s at f in
-        within-check (length s) (eqb (g .value) 0) 9 (g .next) _ (omega arith) tt
-
-    pub digest-within : RefusesWithin (length s) (digestAt s at)
-    unfolding digestAt
-    digest-within = within-bind (length s) (sectionField 32 s at) _ (field-within 5 32 s at here) λ g f. tt

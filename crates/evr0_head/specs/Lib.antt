@@ -1,2 +1,2 @@
 pub mod Maps
-pub mod Posts
+pub mod Checks

@@ -6,7 +6,7 @@ ghost use lib.ListN.{length};
 ghost use Rattle.local_format.specs.Out.{refused};
 ghost use Rattle.local_format.specs.Maps.{refusalOut};
 ghost use Rattle.evr0_section.specs.Head.{listed, countLimits, withinLimits, sizes, hasRoom, headOf, checkCounts};
-ghost use Rattle.evr0_head.specs.Posts.{Limited, checkedHead};
+ghost use Rattle.evr0_head.specs.Checks.{Limited, checkedHead};
 ghost use Rattle.evr0_head.specs.Maps.{countsOut, roomOut, checkedOut, headRecord, headOut, headBeside};
 use crate::check::Checked;
 use crate::counts::Counted;

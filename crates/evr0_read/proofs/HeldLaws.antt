@@ -25,7 +25,7 @@ use Rattle.evr0_section.specs.Section.{Section, proofItem, parentItem, sectionO
 use Rattle.evr0_section.proofs.RowChecks.{proof-behind}
 use Rattle.evr0_section.proofs.RowsLaws.{trace, trace-length}
 use Rattle.evr0_section.proofs.CheckedTables.{Steps, steps, tables-checked}
-use Rattle.evr0.specs.Answer.{startsOf}
+use Rattle.evr0.specs.Maps.{startsOf}
 use Rattle.evr0_read.specs.Held.{Held, proofIn}
 use Rattle.evr0_read.proofs.FoundLaws.{Found, trace-found, found-map, fixed-start}
 

@@ -21,7 +21,7 @@ use Rattle.evr0_section.proofs.RowChecks.{proof-behind, witness-behind}
 use Rattle.evr0_section.proofs.RecordLaws.{witness-lies}
 use Rattle.evr0_section.proofs.CheckedTables.{Steps, steps}
 use Rattle.evr0_section.proofs.RowsLaws.{Trace, trace, trace-length}
-use Rattle.evr0.specs.Answer.{startsOf}
+use Rattle.evr0.specs.Maps.{startsOf}
 use Rattle.evr0_read.specs.Entry.{shown, shownProposition, shownProof, placedProposition, placedProof, placedWitness, placedParent, entryAt}
 use Rattle.evr0_read.proofs.FoundLaws.{not-found, found-map, trace-found, fixed-size, fixed-start}
 use Rattle.evr0_read.proofs.HeldLaws.{parent-cell}

@@ -1,16 +1,13 @@
 -- The tests of a proof.
 use Prim.Native.Nat.{ℕ, _+_}
-use mathlib.Core.Path.{_≡_, refl, sym, ap₂, _∙_}
-use mathlib.Core.Bool.{Bool, true, false, _&&_}
-use lib.Dec.{eqb, leb}
+use mathlib.Core.Path.{_≡_, sym, ap₂}
+use mathlib.Core.Bool.{true, _&&_}
+use lib.Dec.{leb}
 use borrow.Author.Tests.{eqb-true}
+use Rattle.local_format.proofs.BoolLaws.{both}
 use Rattle.evr0_section.specs.Head.{Counts}
 use Rattle.evr0_section.specs.Proof.{ProofRecord, Unowned}
-use Rattle.evr0_records.specs.Tests.{isContiguous, endsWithin}
-
-both : (a b : Bool) → (a && b) ≡ true → (a ≡ true) × (b ≡ true)
-both true b e = (refl, e)
-both false b e = (cc, cc)
+use Rattle.evr0_records.specs.Checks.{isContiguous, endsWithin}
 
 -- the range of a proof that passes 18, from its own first witness and parent
 pub same-range : (counts : Counts) (u : Unowned) (r : ProofRecord) → isContiguous u r ≡ true

@@ -1,3 +1,2 @@
 pub mod Maps
-pub mod Posts
-pub mod Tests
+pub mod Checks

@@ -4,7 +4,7 @@ ghost use Rattle.local_format.specs.Out.{refuse};
 ghost use Rattle.derivation.specs.Rule.{fourRules};
 ghost use Rattle.evr0_section.specs.Proof.{proofOf, hasNumbers, checkProof};
 ghost use Rattle.evr0_head.specs.Maps.{countsOut};
-ghost use Rattle.evr0_records.specs.Tests.{isNext, isContiguous, endsWithin};
+ghost use Rattle.evr0_records.specs.Checks.{isNext, isContiguous, endsWithin};
 ghost use Rattle.evr0_records.specs.Maps.{unownedOut, ruleOut, proofRecord, proofOut, settledOut};
 use crate::rule::Named;
 use crate::rule::Rule;

@@ -85,15 +85,15 @@ pub fn read_proposition(tail: &[u8]) -> PropositionRead
     }
 }
 
-// Whether the proposition `a` at the front of `before` comes before the proposition `b` at the front of `tail`: by kind's bytes, then owner,
+// Whether the proposition `a` at the front of `part` comes before the proposition `b` at the front of `tail`: by kind's bytes, then owner,
 // scope, type.
-pub fn precedes(before: &[u8], a: Proposition, tail: &[u8], b: Proposition) -> bool
-    ensures { λ r. ⌜ r ≡ isLess (compareKeys (keyOf (now (before .entry)) (propositionRecord a)) (keyOf (now (tail .entry)) (propositionRecord b))) ⌝ }
+pub fn precedes(part: &[u8], a: Proposition, tail: &[u8], b: Proposition) -> bool
+    ensures { λ r. ⌜ r ≡ isLess (compareKeys (keyOf (now (part .entry)) (propositionRecord a)) (keyOf (now (tail .entry)) (propositionRecord b))) ⌝ }
 {
     let a_kind = a.kind;
     let b_kind = b.kind;
     let kinds = crate::order::compare_bytes(
-        evr0_head::span::bytes_of(before, a_kind),
+        evr0_head::span::bytes_of(part, a_kind),
         evr0_head::span::bytes_of(tail, b_kind),
     );
     let owners = crate::order::compare(a.ast_owner_id, b.ast_owner_id);

@@ -2,7 +2,7 @@
 ghost use mathlib.Core.Path.{_≡_};
 ghost use Rattle.derivation.specs.Rule.{ruleNamed, fourRules, polarityFits};
 ghost use Rattle.evr0_records.specs.Maps.{ruleOut, namedOut};
-ghost use Rattle.evr0_records.specs.Posts.{HasShape};
+ghost use Rattle.evr0_records.specs.Checks.{HasShape};
 use local_format::tag::same;
 
 pub enum Rule {

@@ -28,11 +28,9 @@ pub struct Symbol {
     pub next: usize,
 }
 
-#[no_mangle]
-pub extern "C" fn falgnust_read_debug_symbol(code: &[u8], at: usize) -> Symbol
-    ensures { λ r. ⌜ symbolFrom r ≡ symbolAt (now (code .entry)) at ⌝ }
+pub fn flat_symbol(read: semcode_records::symbol::Symbol) -> Symbol
+    ensures { λ r. ⌜ symbolFrom r ≡ symbolOut read ⌝ }
 {
-    let read = read_debug_symbol(code, at);
     match read {
         semcode_records::symbol::Symbol::Whole { symbol, next } => Symbol {
             accepted: true,
@@ -51,6 +49,13 @@ pub extern "C" fn falgnust_read_debug_symbol(code: &[u8], at: usize) -> Symbol
             next: 0,
         },
     }
+}
+
+#[no_mangle]
+pub extern "C" fn falgnust_read_debug_symbol(code: &[u8], at: usize) -> Symbol
+    ensures { λ r. ⌜ symbolFrom r ≡ symbolAt (now (code .entry)) at ⌝ }
+{
+    flat_symbol(read_debug_symbol(code, at))
 }
 
 // ---- Paths
@@ -91,11 +96,9 @@ pub struct Path {
     pub next: usize,
 }
 
-#[no_mangle]
-pub extern "C" fn falgnust_read_path(code: &[u8], at: usize, header_rev: u16) -> Path
-    ensures { λ r. ⌜ pathFrom r ≡ headAt «header_rev» (now (code .entry)) at ⌝ }
+pub fn flat_path(read: semcode_records::path::Path) -> Path
+    ensures { λ r. ⌜ pathFrom r ≡ pathOut read ⌝ }
 {
-    let read = read_path(code, at, header_rev);
     match read {
         semcode_records::path::Path::Whole { path, next } => {
             let event = path.event;
@@ -121,6 +124,13 @@ pub extern "C" fn falgnust_read_path(code: &[u8], at: usize, header_rev: u16) ->
     }
 }
 
+#[no_mangle]
+pub extern "C" fn falgnust_read_path(code: &[u8], at: usize, header_rev: u16) -> Path
+    ensures { λ r. ⌜ pathFrom r ≡ headAt «header_rev» (now (code .entry)) at ⌝ }
+{
+    flat_path(read_path(code, at, header_rev))
+}
+
 // ---- Components
 
 // The kind is the byte of the format; a variant's index is the second number.
@@ -131,7 +141,7 @@ pub struct Parts {
     pub second: u16,
 }
 
-fn flat_component(component: DecodedAccessPathComponent) -> Parts
+fn parts_of(component: DecodedAccessPathComponent) -> Parts
     ensures { λ r. ⌜ componentOf (r .kind) (r .first) (r .second) ≡ componentIs component ⌝ }
 {
     match component {
@@ -166,21 +176,14 @@ pub struct Component {
     pub next: usize,
 }
 
-#[no_mangle]
-pub extern "C" fn falgnust_read_component(
-    code: &[u8],
-    at: usize,
-    header_rev: u16,
-    kind: u8,
-) -> Component
-    ensures { λ r. ⌜ componentFrom r ≡ componentAt «header_rev» kind (now (code .entry)) at ⌝ }
+pub fn flat_component(read: semcode_records::component::Component) -> Component
+    ensures { λ r. ⌜ componentFrom r ≡ componentOut read ⌝ }
 {
-    let read = read_component(code, at, header_rev, kind);
     match read {
         semcode_records::component::Component::Whole { component, next } => Component {
             accepted: true,
             refusal: no_refusal(),
-            component: flat_component(component),
+            component: parts_of(component),
             next,
         },
         semcode_records::component::Component::Refused(refused) => Component {
@@ -194,4 +197,16 @@ pub extern "C" fn falgnust_read_component(
             next: 0,
         },
     }
+}
+
+#[no_mangle]
+pub extern "C" fn falgnust_read_component(
+    code: &[u8],
+    at: usize,
+    header_rev: u16,
+    kind: u8,
+) -> Component
+    ensures { λ r. ⌜ componentFrom r ≡ componentAt «header_rev» kind (now (code .entry)) at ⌝ }
+{
+    flat_component(read_component(code, at, header_rev, kind))
 }

@@ -20,7 +20,7 @@ pub struct Text {
     pub next: usize,
 }
 
-fn flat_text(text: local_format::text::Text) -> Text
+pub fn flat_text(text: local_format::text::Text) -> Text
     ensures { λ r. ⌜ textFrom r ≡ textOut text ⌝ }
 {
     match text {

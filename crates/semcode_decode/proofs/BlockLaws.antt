@@ -1,7 +1,7 @@
 -- A block's layout and its starts from those of its three tables.
 use mathlib.Core.Path.{_≡_, refl, ap, sym, _∙_}
 use Prim.Native.Nat.{ℕ}
-use mathlib.Core.List.{List, []}
+use mathlib.Core.List.{List}
 use Rattle.local_format.specs.Refusal.{Refusal}
 use Rattle.local_format.specs.Out.{Out, ok, refused, _>>=_}
 use Rattle.local_format.specs.Text.{Span}
@@ -11,7 +11,7 @@ use Rattle.semcode_records.specs.Records.{Table}
 use Rattle.semcode_records.specs.Symbol.{Symbol}
 use Rattle.semcode_records.specs.Path.{Path}
 use Rattle.semcode_decode.specs.Block.{Rooms, stringTable, symbolTable, pathTable, Section, sectionAt, Block, blockOf}
-use Rattle.semcode_decode.specs.Layout.{Layout, layoutOf, layout, Extent, extentOf, extent, Tagged, tagged, starts, sectionStarts, stringStarts, pathStarts}
+use Rattle.semcode_decode.specs.Layout.{Layout, layout, Extent, extentOf, extent, Tagged, tagged, starts, sectionStarts, stringStarts, pathStarts}
 
 -- a step of which only a part is kept, in front of two others
 step : {A B C E : Type 0} (x : Out A) (part : A → E) (f : A → Out B) (g : B → Out C) (h : E → Out C)

@@ -1,5 +1,5 @@
 -- A section by its tag: absent, or the table after the tag.
-use mathlib.Core.Path.{_≡_, refl, ap}
+use mathlib.Core.Path.{_≡_, refl}
 use Prim.Native.Nat.{ℕ, _+_}
 use mathlib.Core.Bool.{true, false}
 use mathlib.Core.List.{List}
@@ -7,8 +7,8 @@ use lib.ListN.{length}
 use Rattle.local_format.specs.Out.{Out, ok, refused, _>>=_}
 use Rattle.local_format.specs.Tag.{tagAt}
 use Rattle.semcode_records.specs.Records.{Table, noRecords}
-use Rattle.semcode_decode.specs.Block.{Section, sectionAt}
-use Rattle.semcode_decode.specs.Layout.{Extent, extent, Tagged, tagged, starts, sectionStarts}
+use Rattle.semcode_decode.specs.Block.{sectionAt}
+use Rattle.semcode_decode.specs.Layout.{extent, tagged, starts, sectionStarts}
 
 module _ {A : Type 0} (tag : List ℕ) (tableAt : ℕ → Out (Table A)) (s : List ℕ) (at : ℕ) where
   pub absent : tagAt tag s at ≡ false → sectionAt tag tableAt s at ≡ ok (record { found = false; table = noRecords at })

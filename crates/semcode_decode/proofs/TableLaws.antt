@@ -1,18 +1,18 @@
 -- How a lent table is filled with the starts of records, whatever reader reads each: what is done, then the rest from here.
 use mathlib.Core.Path.{_≡_, refl, ap, sym, _∙_}
-use Prim.Native.Nat.{ℕ, suc, _+_, _-_, _≤_, _<_}
+use Prim.Native.Nat.{ℕ, _+_, _-_, _≤_, _<_}
 use native.Mathlib.Omega.{arith}
 use native.Mathlib.Nat.{sub-zero}
 use native.Mathlib.Numerals.{add-one}
-use mathlib.Core.List.{List, [], _∷_, _++_, map, append-nil, append-assoc}
+use mathlib.Core.List.{List, [], _∷_, _++_, append-nil, append-assoc}
 use lib.ListN.{length, take, set}
 use lib.Seq.{take-suc-set, length-take-le}
 use Rattle.local_format.specs.Refusal.{Refusal}
 use Rattle.local_format.specs.Out.{Out, ok, refused, _>>=_}
 use Rattle.local_format.proofs.OutLaws.{never, refused-same, ok-same, bind-ok}
-use Rattle.semcode_records.specs.Records.{Taken, Entry, Table, noRecords, before, records, ends}
+use Rattle.semcode_records.specs.Records.{Taken, Entry, Table, before, records, ends}
 use Rattle.semcode_records.proofs.RecordsLaws.{none-left, first-refused, first-read, as-many}
-use Rattle.semcode_decode.specs.Layout.{Extent, extentOf, extent, startsOf, starts}
+use Rattle.semcode_decode.specs.Layout.{extent, startsOf, starts}
 use Rattle.semcode_decode.specs.Front.{Front}
 
 -- what a loop keeps of a table: the starts and the place after the last record
@@ -65,7 +65,7 @@ module _ {A : Type 0} (read : ℕ → Out (Taken A)) (count at : ℕ) where
         let s : take (i + 1) (set xs i place) ≡ take i xs ++ place ∷ [] = rw add-one (take-suc-set xs i place room) in
         inv
         ∙ ap (λ (x : Out (Table A)). after (take i xs) (kept x)) (first-read read count i place more e)
-        ∙ after-one (take i xs) (record { start = place; value = t .value }) (records read (count - (i + 1)) (t .next))
+        ∙ after-one (take i xs) (record { start = place; value = t .value; next = t .next }) (records read (count - (i + 1)) (t .next))
         ∙ ap (λ (ys : List ℕ). after ys (kept (records read (count - (i + 1)) (t .next)))) (sym s)
 
   pub filled : (place : ℕ) (xs : List ℕ) → Filling count place xs → count ≤ length xs

@@ -5,7 +5,7 @@ use mathlib.Core.Bool.{Bool, true, false, cond}
 use lib.ListN.{length}
 use lib.Dec.{leb}
 use Rattle.local_format.specs.Out.{Out, ok, check, based, _>>=_, _>>_}
-use Rattle.local_format.specs.Field.{Got, field}
+use Rattle.local_format.specs.Field.{field}
 use Rattle.local_format.specs.Text.{Span, stringAt}
 use Rattle.local_format.specs.Tag.{tagAt, dbg0, own0}
 use Rattle.semcode_records.specs.Records.{Taken, taken, Table, noRecords, records}

@@ -4,7 +4,7 @@ use mathlib.Core.List.{List, [], map}
 use mathlib.Core.Bool.{Bool}
 use lib.ListN.{length}
 use Rattle.local_format.specs.Out.{Out, ok, refused, _>>=_}
-use Rattle.semcode_records.specs.Records.{Entry, Table}
+use Rattle.semcode_records.specs.Records.{Table}
 use Rattle.semcode_decode.specs.Block.{Rooms, Section, Block}
 
 -- the result: three counts, whether each tag was found, and places in the block

@@ -5,8 +5,8 @@ use mathlib.Core.Bool.{true, false}
 use Rattle.local_format.specs.Out.{Out, ok, refuse, held, _>>=_}
 use Rattle.semcode_records.specs.Records.{noRecords}
 use Rattle.semcode_records.specs.Path.{Path, Activation, noActivation, frameEntry, borrow}
-use Rattle.semcode_decode.specs.Block.{Rooms, Section, Block, decodeBlock}
-use Rattle.semcode_decode.specs.Number.{Chosen, pathNumber}
+use Rattle.semcode_decode.specs.Block.{Rooms, Block, decodeBlock}
+use Rattle.semcode_decode.specs.Number.{pathNumber}
 
 pub record Specimen : Type 0 where
   pub bytes : List ℕ
@@ -28,7 +28,7 @@ answered base x =
       block = block;
       path = (do
         chosen ← pathNumber 0 block
-        ok (chosen .value));
+        ok (chosen .entry .value));
     }
 
 -- one borrow without components, in a block without strings and debug symbols
@@ -43,7 +43,7 @@ oneBorrowBlock activation root end =
       ownership =
           record {
             found = true;
-            table = record { start = 8; entries = record { start = 8; value = oneBorrow activation root end } ∷ []; end = end };
+            table = record { start = 8; entries = record { start = 8; value = oneBorrow activation root end; next = end } ∷ []; end = end };
           };
     }
 

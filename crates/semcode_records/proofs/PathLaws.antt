@@ -1,14 +1,18 @@
 -- A path read back: its components are counted and passed, and none is kept.
 use mathlib.Core.Path.{_≡_, refl, ap, sym, _∙_}
 use Prim.Native.Nat.{ℕ}
+use mathlib.Core.Bool.{Bool, true, false, cond}
 use mathlib.Core.List.{List}
+use lib.Dec.{eqb}
+use lib.ListN.{length}
+use package.borrow.Author.Tests.{eqb-true}
 use Rattle.local_format.specs.Refusal.{Refusal}
 use Rattle.local_format.specs.Out.{Out, ok, refused, _>>=_}
-use Rattle.local_format.specs.Field.{Got, field}
+use Rattle.local_format.specs.Field.{field}
 use Rattle.local_format.proofs.OutLaws.{never, refused-same, ok-same, bind-ok}
 use Rattle.semcode_records.specs.Records.{Taken, taken, Table, records, ends}
 use Rattle.semcode_records.specs.Component.{Component, componentAt}
-use Rattle.semcode_records.specs.Path.{Kinded, known, unknown, eventOf, orUnknown, Path, pathAt, Head, headOf, headAt}
+use Rattle.semcode_records.specs.Path.{Activation, noActivation, activationAt, Execution, noExecution, executionAt, Event, borrow, write, modeAt, Kinded, known, unknown, borrowed, written, eventOf, orUnknown, kindOfEvent, Path, pathAt, Head, headOf, headAt}
 use Rattle.semcode_records.proofs.RecordsLaws.{as-many}
 
 -- a step in front of two others
@@ -66,3 +70,53 @@ module _ (revision : ℕ) (s : List ℕ) (at : ℕ) where
         q .1 ∙ ap (λ (t : Taken Head). taken (q .0 .value) (t .next)) h,
         ap (λ (t : Taken Head). t .value) h,
       )
+
+-- ---- The components of an accepted path
+
+of-borrow : (a : Activation) (e : Event) → known (borrow a) ≡ known e → 0 ≡ kindOfEvent e
+of-borrow a (borrow b) h = refl
+of-borrow a (write x) h = cc
+
+of-write : (x : Execution) (e : Event) → known (write x) ≡ known e → 1 ≡ kindOfEvent e
+of-write x (borrow a) h = cc
+of-write x (write y) h = refl
+
+-- an event's kind is the byte that was read
+kind-read : (kind revision : ℕ) (s : List ℕ) (at : ℕ) {t : Taken Kinded} (e : Event) → eventOf kind revision s at ≡ ok t → t .value ≡ known e → kind ≡ kindOfEvent e
+unfolding eventOf
+kind-read kind revision s at {t} e h k = go (eqb kind 0) (eqb kind 1) refl refl h
+  where
+    borrows : Out (Taken Activation)
+    borrows = modeAt revision noActivation (activationAt s) at
+
+    writes : Out (Taken Execution)
+    writes = modeAt revision noExecution (executionAt s) at
+
+    go : (b w : Bool) → eqb kind 0 ≡ b → eqb kind 1 ≡ w → cond b (borrowed borrows) (cond w (written writes) (taken unknown at)) ≡ ok t → kind ≡ kindOfEvent e
+    go true w p q r =
+        let a = bind-ok borrows _ r in
+        eqb-true kind 0 p ∙ of-borrow (a .0 .value) e (ap (λ (t : Taken Kinded). t .value) (ok-same (a .2)) ∙ k)
+    go false true p q r =
+        let x = bind-ok writes _ r in
+        eqb-true kind 1 q ∙ of-write (x .0 .value) e (ap (λ (t : Taken Kinded). t .value) (ok-same (x .2)) ∙ k)
+    go false false p q r = let u : unknown ≡ known e = ap (λ (t : Taken Kinded). t .value) (ok-same r) ∙ k in cc
+
+is-known : (number at : ℕ) (kinded : Kinded) {e : Event} → orUnknown number at kinded ≡ ok e → kinded ≡ known e
+is-known number at (known x) h = ap known (ok-same h)
+is-known number at unknown h = absurd (never h)
+
+pub path-components : (revision : ℕ) (s : List ℕ) (at : ℕ) {t : Taken Path} → pathAt revision s at ≡ ok t
+    → let p = t .value in
+    records (componentAt revision (kindOfEvent (p .event)) s) (length (p .components .entries)) (p .components .start) ≡ ok (p .components)
+unfolding pathAt
+path-components revision s at {t} h =
+    let a = bind-ok (field 41 1 s at) _ h in
+    let b = bind-ok (eventOf (a .0 .value) revision s (a .0 .next)) _ (a .2) in
+    let c = bind-ok (field 48 4 s (b .0 .next)) _ (b .2) in
+    let d = bind-ok (field 49 2 s (c .0 .next)) _ (c .2) in
+    let read = componentAt revision (a .0 .value) s in
+    let e = bind-ok (records read (d .0 .value) (d .0 .next)) _ (d .2) in
+    let f = bind-ok (orUnknown 60 (e .0 .end) (b .0 .value)) _ (e .2) in
+    let many = as-many read (d .0 .value) (d .0 .next) (e .1) in
+    let kind = kind-read (a .0 .value) revision s (a .0 .next) (f .0) (b .1) (is-known 60 (e .0 .end) (b .0 .value) (f .1)) in
+    rw (← ok-same (f .2), many .0, many .1, ← kind) (e .1)

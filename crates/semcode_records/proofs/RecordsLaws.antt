@@ -1,9 +1,8 @@
 -- Laws of records that stand one after the other, whatever reader reads each: what the first of them decides.
 use mathlib.Core.Path.{_≡_, refl, ap, sym, _∙_}
-use Prim.Native.Nat.{ℕ, zero, suc, _+_, _-_, _≤_, _<_}
+use Prim.Native.Nat.{ℕ, zero, suc, _+_, _-_, _<_}
 use native.Mathlib.Omega.{arith}
 use native.Mathlib.Numerals.{add-one}
-use mathlib.Core.List.{List, [], _∷_}
 use lib.ListN.{length}
 use Rattle.local_format.specs.Refusal.{Refusal}
 use Rattle.local_format.specs.Out.{Out, ok, refused, _>>=_}
@@ -30,7 +29,7 @@ module _ {A : Type 0} (read : ℕ → Out (Taken A)) where
 
     pub first-read : {t : Taken A} → read at ≡ ok t
         → records read (count - i) at
-        ≡ (records read (count - (i + 1)) (t .next) >>= λ rest. ok (before (record { start = at; value = t .value }) rest))
+        ≡ (records read (count - (i + 1)) (t .next) >>= λ rest. ok (before (record { start = at; value = t .value; next = t .next }) rest))
     unfolding records
     first-read e =
         let left : count - i ≡ suc (count - suc i) = omega arith in
@@ -38,7 +37,7 @@ module _ {A : Type 0} (read : ℕ → Out (Taken A)) where
 
     pub ends-on : {t : Taken A} → read at ≡ ok t → ends (records read (count - i) at) ≡ ends (records read (count - (i + 1)) (t .next))
     ends-on {t} e =
-        ap ends (first-read e) ∙ ends-before (record { start = at; value = t .value }) (records read (count - (i + 1)) (t .next))
+        ap ends (first-read e) ∙ ends-before (record { start = at; value = t .value; next = t .next }) (records read (count - (i + 1)) (t .next))
 
   -- as many records as were asked for, from the place that was given
   pub as-many : (count at : ℕ) {t : Table A} → records read count at ≡ ok t → (length (t .entries) ≡ count) × (t .start ≡ at)
@@ -49,6 +48,6 @@ module _ {A : Type 0} (read : ℕ → Out (Taken A)) where
   as-many (suc count) at {t} e =
       let p = bind-ok (read at) _ e in
       let q = bind-ok (records read count (p .0 .next)) _ (p .2) in
-      let s : before (record { start = at; value = p .0 .value }) (q .0) ≡ t = ok-same (q .2) in
+      let s : before (record { start = at; value = p .0 .value; next = p .0 .next }) (q .0) ≡ t = ok-same (q .2) in
       let many = as-many count (p .0 .next) (q .1) .0 in
       (ap (λ (t : Table A). length (t .entries)) (sym s) ∙ ap suc many, ap (λ (t : Table A). t .start) (sym s))

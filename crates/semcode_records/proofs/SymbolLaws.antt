@@ -1,15 +1,15 @@
 -- Debug symbols have 10 bytes each, so where so many stand is known without reading them.
-use mathlib.Core.Path.{_≡_, refl, ap, sym, _∙_}
+use mathlib.Core.Path.{_≡_, refl, ap, _∙_}
 use Prim.Native.Nat.{ℕ, zero, suc, _+_, _-_, _*_, _≤_, _<_}
 use native.Mathlib.Omega.{arith}
 use mathlib.Core.List.{List}
 use lib.ListN.{length}
-use Rattle.local_format.specs.Out.{Out, ok, refused, _>>=_}
+use Rattle.local_format.specs.Out.{Out, ok, refused}
 use Rattle.local_format.specs.Maps.{refusalOf}
-use Rattle.local_format.specs.Field.{Got, le, field}
-use Rattle.local_format.proofs.OutLaws.{bind-ok, ok-same}
+use Rattle.local_format.specs.Field.{le, field}
+use Rattle.local_format.proofs.OutLaws.{bind-ok}
 use Rattle.local_format.proofs.FieldLaws.{field-ok, field-there}
-use Rattle.semcode_records.specs.Records.{Taken, taken, Table, records, ends}
+use Rattle.semcode_records.specs.Records.{Taken, taken, records, ends}
 use Rattle.semcode_records.specs.Symbol.{Symbol, symbolAt}
 use Rattle.semcode_records.proofs.RecordsLaws.{ends-before}
 

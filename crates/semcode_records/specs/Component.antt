@@ -3,8 +3,8 @@ use Prim.Native.Nat.{ℕ}
 use mathlib.Core.List.{List}
 use mathlib.Core.Bool.{cond, not}
 use lib.Dec.{leb, eqb}
-use Rattle.local_format.specs.Out.{Out, ok, refuse, check, _>>=_, _>>_}
-use Rattle.local_format.specs.Field.{Got, field}
+use Rattle.local_format.specs.Out.{Out, refuse, check, _>>=_, _>>_}
+use Rattle.local_format.specs.Field.{field}
 use Rattle.semcode_records.specs.Records.{Taken, taken}
 
 pub data Component : Type 0 where

@@ -5,8 +5,8 @@ use mathlib.Core.Bool.{cond}
 use lib.Dec.{leb, eqb}
 use lib.ListN.{length}
 use Rattle.local_format.specs.Out.{Out, ok, refuse, check, _>>=_, _>>_}
-use Rattle.local_format.specs.Field.{Got, field}
-use Rattle.semcode_records.specs.Records.{Taken, taken, Entry, Table, records}
+use Rattle.local_format.specs.Field.{field}
+use Rattle.semcode_records.specs.Records.{Taken, taken, Table, records}
 use Rattle.semcode_records.specs.Component.{Component, componentAt}
 
 -- ---- The event
@@ -69,6 +69,11 @@ eventOf kind revision s at =
 abbrev pub orUnknown : ℕ → ℕ → Kinded → Out Event
 orUnknown number at (known e) = ok e
 orUnknown number at unknown = refuse number at
+
+-- the byte of an event's kind
+abbrev pub kindOfEvent : Event → ℕ
+kindOfEvent (borrow activation) = 0
+kindOfEvent (write execution) = 1
 
 -- ---- The path
 

@@ -11,10 +11,11 @@ pub record Taken (A : Type 0) : Type 0 where
 abbrev pub taken : {A : Type 0} → A → ℕ → Out (Taken A)
 taken value next = ok (record { value = value; next = next })
 
--- a record of a table: its first byte's place, and what it holds
+-- a record of a table: the place of its first byte, what it holds, and the place after it
 pub record Entry (A : Type 0) : Type 0 where
   pub start : ℕ
   pub value : A
+  pub next : ℕ
 
 -- records one after the other: the place of the first, the records, and the place after the last
 pub record Table (A : Type 0) : Type 0 where
@@ -35,7 +36,7 @@ records read zero at = ok (noRecords at)
 records read (suc count) at = do
   first ← read at
   rest ← records read count (first .next)
-  ok (before (record { start = at; value = first .value }) rest)
+  ok (before (record { start = at; value = first .value; next = first .next }) rest)
 
 -- the place after the last
 abbrev pub ends : {A : Type 0} → Out (Table A) → Out ℕ

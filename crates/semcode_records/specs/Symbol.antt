@@ -1,8 +1,8 @@
 -- One debug symbol.
 use Prim.Native.Nat.{ℕ}
 use mathlib.Core.List.{List}
-use Rattle.local_format.specs.Out.{Out, ok, _>>=_}
-use Rattle.local_format.specs.Field.{Got, field}
+use Rattle.local_format.specs.Out.{Out, _>>=_}
+use Rattle.local_format.specs.Field.{field}
 use Rattle.semcode_records.specs.Records.{Taken, taken}
 
 pub record Symbol : Type 0 where

@@ -14,9 +14,9 @@ use local_format::refusal::Refusal;
 use local_format::refusal::refuse;
 ghost use mathlib.Core.Path.{_≡_};
 ghost use Rattle.local_format.specs.Maps.{refusalOf, refusalOut};
-ghost use Rattle.semcode_records.specs.Maps.{activationIs, executionIs, eventOut, pathOut};
+ghost use Rattle.semcode_records.specs.Maps.{activationIs, executionIs, eventIs, eventOut, pathOut};
 ghost use Rattle.semcode_records.specs.Records.{taken};
-ghost use Rattle.semcode_records.specs.Path.{borrowed, written, activationAt, executionAt, eventOf, headAt};
+ghost use Rattle.semcode_records.specs.Path.{borrowed, kindOfEvent, written, activationAt, executionAt, eventOf, headAt};
 
 pub const SEMCODE_OWNERSHIP_ANCHOR_MIN_REVISION: u16 = 21;
 
@@ -146,6 +146,16 @@ fn read_execution(bytes: &[u8], at: usize) -> Event
         return write_of(DecodedWriteExecution::StoreVarSite(anchor), next);
     }
     write_of(DecodedWriteExecution::MakeRecordSite(anchor), next)
+}
+
+// The byte of an event's kind.
+pub fn event_kind(event: DecodedEvent) -> u8
+    ensures { λ r. ⌜ r ≡ kindOfEvent (eventIs event) ⌝ }
+{
+    match event {
+        DecodedEvent::Borrow(_) => OWNERSHIP_EVENT_KIND_BORROW,
+        DecodedEvent::Write(_) => OWNERSHIP_EVENT_KIND_WRITE,
+    }
 }
 
 // What follows the event kind; an unknown kind brings no mode.

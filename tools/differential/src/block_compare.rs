@@ -1,5 +1,6 @@
 //! One block on both sides: the result, every entry of both lent tables, and every record.
 
+use crate::block_numbers;
 use crate::tally::{Tally, hex};
 use answers::Answer;
 use answers::block::{Block, Event, Layout, Path, Symbol};
@@ -12,7 +13,7 @@ use port::block::{
 use port::text::read_string;
 
 /// What a lent table holds before a call.
-const OLD: u64 = 0xA5A5_A5A5_A5A5_A5A5;
+pub const OLD: u64 = 0xA5A5_A5A5_A5A5_A5A5;
 
 /// The most strings, symbols and paths that a block may have.
 const MOST: [usize; 3] = [256, 8192, 65_535];
@@ -23,7 +24,11 @@ pub fn compare(tally: &mut Tally, case: &BlockCase) {
         Ok(_) => (0, accepted(case.revision)),
         Err(refusal) => (refusal.number, condition(&case.code, case.base, refusal)),
     });
-    with_rooms(tally, case, rooms(case), &rust);
+    let rooms = rooms(case);
+    with_rooms(tally, case, rooms, &rust);
+    if tally.inputs().is_multiple_of(8) {
+        block_numbers::compare(tally, case, &rust, rooms);
+    }
     if let Ok(block) = &rust {
         records(tally, case, block);
         short_tables(tally, case, &block.layout);
@@ -71,7 +76,7 @@ pub fn lent(entries: &[u64], room: usize) -> Vec<u64> {
     table
 }
 
-fn what(case: &BlockCase) -> String {
+pub fn what(case: &BlockCase) -> String {
     format!(
         "base {}, revision {}, {}",
         case.base,

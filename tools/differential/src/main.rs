@@ -1,6 +1,7 @@
 //! Compares the port with the Rust on seeded inputs: kind, number and offset of each refusal, and each result and table entry.
 
 mod block_compare;
+mod block_numbers;
 mod blocks;
 mod fields;
 mod sections;

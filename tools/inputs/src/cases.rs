@@ -55,7 +55,7 @@ pub fn block(r: &mut Random) -> BlockCase {
     let base = match r.below(3) {
         0 => r.pick(&BASES),
         1 => usize::MAX - r.below(code.len() + 2),
-        _ => r.next() as usize,
+        _ => r.u64() as usize,
     };
     BlockCase {
         code,

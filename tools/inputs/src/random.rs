@@ -7,7 +7,7 @@ impl Random {
         Random(seed)
     }
 
-    pub fn next(&mut self) -> u64 {
+    pub fn u64(&mut self) -> u64 {
         self.0 = self.0.wrapping_add(0x9E37_79B9_7F4A_7C15);
         let mut z = self.0;
         z = (z ^ (z >> 30)).wrapping_mul(0xBF58_476D_1CE4_E5B9);
@@ -17,7 +17,7 @@ impl Random {
 
     /// A number below `n`, which is not 0.
     pub fn below(&mut self, n: usize) -> usize {
-        (self.next() % n as u64) as usize
+        (self.u64() % n as u64) as usize
     }
 
     /// A number from `low` to `high`, both included.
@@ -30,15 +30,15 @@ impl Random {
     }
 
     pub fn byte(&mut self) -> u8 {
-        self.next() as u8
+        self.u64() as u8
     }
 
     pub fn u16(&mut self) -> u16 {
-        self.next() as u16
+        self.u64() as u16
     }
 
     pub fn u32(&mut self) -> u32 {
-        self.next() as u32
+        self.u64() as u32
     }
 
     pub fn pick<T: Copy>(&mut self, items: &[T]) -> T {

@@ -53,7 +53,7 @@ fn bytes(hex: &str) -> Vec<u8> {
         .filter(|c| !c.is_whitespace())
         .map(|c| c.to_digit(16).expect("a hexadecimal digit") as u8)
         .collect();
-    assert!(digits.len() % 2 == 0, "half a byte is left over");
+    assert!(digits.len().is_multiple_of(2), "half a byte is left over");
     digits
         .chunks(2)
         .map(|pair| pair[0] * 16 + pair[1])

@@ -19,7 +19,7 @@ struct FlatBlock {
 }
 
 #[repr(C)]
-struct FlatSymbol {
+pub(crate) struct FlatSymbol {
     accepted: bool,
     refusal: Refusal,
     pc: usize,
@@ -35,7 +35,7 @@ struct FlatEvent {
 }
 
 #[repr(C)]
-struct FlatPath {
+pub(crate) struct FlatPath {
     accepted: bool,
     refusal: Refusal,
     event: FlatEvent,
@@ -53,7 +53,7 @@ struct Parts {
 }
 
 #[repr(C)]
-struct FlatComponent {
+pub(crate) struct FlatComponent {
     accepted: bool,
     refusal: Refusal,
     component: Parts,
@@ -122,7 +122,10 @@ pub fn parse_string_table_debug_and_ownership(
 
 /// The symbol at a place, and the place after it.
 pub fn read_debug_symbol(code: &[u8], at: usize) -> Answer<(Symbol, usize)> {
-    let s = unsafe { falgnust_read_debug_symbol(code.as_ptr(), code.len(), at) };
+    symbol(unsafe { falgnust_read_debug_symbol(code.as_ptr(), code.len(), at) })
+}
+
+pub(crate) fn symbol(s: FlatSymbol) -> Answer<(Symbol, usize)> {
     if !s.accepted {
         return Err(s.refusal.into());
     }
@@ -145,7 +148,10 @@ pub struct Head {
 }
 
 pub fn read_path(code: &[u8], at: usize, header_rev: u16) -> Answer<Head> {
-    let p = unsafe { falgnust_read_path(code.as_ptr(), code.len(), at, header_rev) };
+    path(unsafe { falgnust_read_path(code.as_ptr(), code.len(), at, header_rev) })
+}
+
+pub(crate) fn path(p: FlatPath) -> Answer<Head> {
     if !p.accepted {
         return Err(p.refusal.into());
     }
@@ -175,7 +181,10 @@ pub fn read_component(
     header_rev: u16,
     kind: u8,
 ) -> Answer<(Component, usize)> {
-    let c = unsafe { falgnust_read_component(code.as_ptr(), code.len(), at, header_rev, kind) };
+    component(unsafe { falgnust_read_component(code.as_ptr(), code.len(), at, header_rev, kind) })
+}
+
+pub(crate) fn component(c: FlatComponent) -> Answer<(Component, usize)> {
     if !c.accepted {
         return Err(c.refusal.into());
     }

@@ -3,6 +3,7 @@
 
 pub mod block;
 pub mod field;
+pub mod number;
 pub mod refusal;
 pub mod tag;
 pub mod text;

@@ -5,7 +5,7 @@ use answers::Answer;
 use answers::text::Span;
 
 #[repr(C)]
-struct Text {
+pub(crate) struct Text {
     accepted: bool,
     refusal: Refusal,
     start: usize,
@@ -19,7 +19,7 @@ unsafe extern "C" {
     fn falgnust_read_string(bytes: *const u8, len: usize, at: usize) -> Text;
 }
 
-fn answer(t: Text) -> Answer<Span> {
+pub(crate) fn answer(t: Text) -> Answer<Span> {
     if !t.accepted {
         return Err(t.refusal.into());
     }

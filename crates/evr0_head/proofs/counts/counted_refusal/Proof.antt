@@ -1,3 +1,4 @@
+-- The refusal is the one that the answer holds.
 use borrow.Author.Needs.{needs}
 use Rattle.evr0_head.proofs.counts.counted_refusal.Statement.{statement}
 use Rattle.evr0_head.proofs.counts.counted_refusal.Tie as tie

@@ -1,5 +1,6 @@
-use Rattle.evr0_section.specs.Head.{countsAt}
+-- Each return is the definition with what its fields were found to be.
 use borrow.Author.Needs.{needs}
+use Rattle.evr0_section.specs.Head.{countsAt}
 use Rattle.evr0_head.proofs.counts.read_counts.Statement.{statement}
 use Rattle.evr0_head.proofs.counts.read_counts.Tie as tie
 

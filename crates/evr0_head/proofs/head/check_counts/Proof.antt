@@ -1,8 +1,9 @@
+-- 12 passed says that the counts are within their limits, which `check_sizes` asks.
+use mathlib.Core.Path.{sym, ap, _∙_}
+use borrow.Author.Needs.{needs}
 use Rattle.evr0_head.proofs.HeadLaws.{limited}
 use Rattle.evr0_head.specs.Maps.{countsOut, checkedOut}
 use Rattle.evr0_section.specs.Head.{checkCounts}
-use mathlib.Core.Path.{sym, ap, _∙_}
-use borrow.Author.Needs.{needs}
 use Rattle.evr0_head.proofs.head.check_counts.Statement.{statement}
 use Rattle.evr0_head.proofs.head.check_counts.Tie as tie
 

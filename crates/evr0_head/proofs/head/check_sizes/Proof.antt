@@ -1,8 +1,9 @@
+-- Counts within their limits pass 12; the other tests are the definition's, in its order.
+use borrow.Author.Tests.{lt-leb, le-leb}
+use borrow.Author.Needs.{needs}
 use Rattle.evr0_head.proofs.HeadLaws.{within}
 use Rattle.evr0_head.specs.Maps.{countsOut}
 use Rattle.evr0_section.specs.Head.{checkCounts}
-use borrow.Author.Tests.{lt-leb, le-leb}
-use borrow.Author.Needs.{needs}
 use Rattle.evr0_head.proofs.head.check_sizes.Statement.{statement}
 use Rattle.evr0_head.proofs.head.check_sizes.Tie as tie
 

@@ -1,5 +1,6 @@
-use Rattle.evr0_section.specs.Head.{hasRoom}
+-- The tests are the definition's, in its order.
 use borrow.Author.Tests.{lt-leb, le-leb}
+use Rattle.evr0_section.specs.Head.{hasRoom}
 use Rattle.evr0_head.proofs.head.has_room.Statement.{statement}
 use Rattle.evr0_head.proofs.head.has_room.Tie as tie
 

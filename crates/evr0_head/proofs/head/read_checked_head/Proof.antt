@@ -1,10 +1,11 @@
+-- The head's answer, or the counts' refusal in its place. Where the head lies says that its counts stand within the payload.
+use native.Mathlib.Omega.{arith}
+use mathlib.Core.Path.{ap, sym, _∙_}
+use borrow.Author.Needs.{needs}
 use Rattle.evr0_head.specs.Maps.{roomOut}
 use Rattle.evr0_section.specs.Head.{headOf}
 use Rattle.evr0_head.proofs.HeadLaws.{head-ok, head-told, checked-refused, checked-as}
-use Rattle.evr0_head.specs.Maps.{headBeside, checkedOut}
-use native.Mathlib.Omega.{arith}
-use mathlib.Core.Path.{_≡_, ap, sym, _∙_}
-use borrow.Author.Needs.{needs}
+use Rattle.evr0_head.specs.Maps.{headBeside}
 use Rattle.evr0_head.proofs.head.read_checked_head.Statement.{statement}
 use Rattle.evr0_head.proofs.head.read_checked_head.Tie as tie
 

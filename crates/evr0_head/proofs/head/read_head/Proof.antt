@@ -1,6 +1,7 @@
+-- Each return is the definition with what its fields, texts and digests were found to be.
 use borrow.Author.Tests.{eq-eqb, ne-eqb}
-use Rattle.evr0_section.specs.Head.{headOf}
 use borrow.Author.Needs.{needs}
+use Rattle.evr0_section.specs.Head.{headOf}
 use Rattle.evr0_head.proofs.head.read_head.Statement.{statement}
 use Rattle.evr0_head.proofs.head.read_head.Tie as tie
 

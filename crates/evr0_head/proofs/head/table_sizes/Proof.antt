@@ -1,6 +1,7 @@
-use Rattle.evr0_section.specs.Head.{sizes}
+-- The four products add up.
 use native.Mathlib.Omega.{arith}
 use borrow.Author.Needs.{needs}
+use Rattle.evr0_section.specs.Head.{sizes}
 use Rattle.evr0_head.proofs.head.table_sizes.Statement.{statement}
 use Rattle.evr0_head.proofs.head.table_sizes.Tie as tie
 

@@ -1,6 +1,7 @@
-use Rattle.evr0_section.specs.Head.{withinLimits}
+-- The tests are the definition's, in its order, and so are the places.
 use borrow.Author.Tests.{lt-leb, le-leb}
 use borrow.Author.Needs.{needs}
+use Rattle.evr0_section.specs.Head.{withinLimits}
 use Rattle.evr0_head.proofs.head.within_limits.Statement.{statement}
 use Rattle.evr0_head.proofs.head.within_limits.Tie as tie
 

@@ -1,6 +1,6 @@
 -- The copy is the first 32 bytes: after i turns the first i bytes of both are the same.
 use borrow.Author.Needs.{needs}
-use Prim.Native.Nat.{_≤_, _<_, _+_, _-_}
+use Prim.Native.Nat.{_≤_, _<_, _-_}
 use mathlib.Core.Path.{_≡_, refl, sym, _∙_}
 use native.Mathlib.Omega.{arith}
 use native.Mathlib.Numerals.{add-one}

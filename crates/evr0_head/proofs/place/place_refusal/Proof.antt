@@ -1,4 +1,4 @@
-use mathlib.Core.Path.{sym, ap}
+-- The refusal is the one that the place holds.
 use borrow.Author.Needs.{needs}
 use Rattle.evr0_head.proofs.place.place_refusal.Statement.{statement}
 use Rattle.evr0_head.proofs.place.place_refusal.Tie as tie

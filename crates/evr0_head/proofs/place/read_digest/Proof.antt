@@ -1,8 +1,9 @@
-use Rattle.evr0_head.specs.Maps.{digestBytes}
+-- What is left of the bytes says whether the field is there.
 use mathlib.Core.Path.{ap}
 use native.Mathlib.Omega.{arith}
-use Rattle.evr0_head.proofs.PlaceLaws.{ends, digest-cut, digest-whole}
 use borrow.Author.Needs.{needs}
+use Rattle.evr0_head.specs.Maps.{digestBytes}
+use Rattle.evr0_head.proofs.PlaceLaws.{ends, digest-cut, digest-whole}
 use Rattle.evr0_head.proofs.place.read_digest.Statement.{statement}
 use Rattle.evr0_head.proofs.place.read_digest.Tie as tie
 

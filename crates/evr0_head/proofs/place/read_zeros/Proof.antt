@@ -1,6 +1,7 @@
-use Rattle.evr0_head.proofs.PlaceLaws.{ends, zeros-cut, zeros-bad, zeros-good}
+-- What is left of the bytes says whether the field is there, and its number whether they are zeros.
 use native.Mathlib.Omega.{arith}
 use borrow.Author.Needs.{needs}
+use Rattle.evr0_head.proofs.PlaceLaws.{ends, zeros-cut, zeros-bad, zeros-good}
 use Rattle.evr0_head.proofs.place.read_zeros.Statement.{statement}
 use Rattle.evr0_head.proofs.place.read_zeros.Tie as tie
 

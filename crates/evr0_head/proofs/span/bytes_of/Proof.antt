@@ -1,9 +1,8 @@
-use Prim.Native.Nat.{ℕ}
-use mathlib.Core.List.{List}
+-- A prefix of the tail, which is the whole tail where that is shorter.
 use mathlib.Core.Path.{sym, ap, _∙_}
 use native.Mathlib.Omega.{arith}
 use lib.Seq.{take-all}
-use lib.ListN.{length, take, length-take}
+use lib.ListN.{take, length-take}
 use borrow.Author.Needs.{needs}
 use Rattle.evr0_head.proofs.span.bytes_of.Statement.{statement}
 use Rattle.evr0_head.proofs.span.bytes_of.Tie as tie

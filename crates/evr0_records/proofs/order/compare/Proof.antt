@@ -1,5 +1,6 @@
-use Rattle.evr0_section.specs.Proposition as of
+-- The tests are the definition's, in its order.
 use borrow.Author.Tests.{lt-ltb, le-ltb}
+use Rattle.evr0_section.specs.Proposition as of
 use Rattle.evr0_records.proofs.order.compare.Statement.{statement}
 use Rattle.evr0_records.proofs.order.compare.Tie as tie
 

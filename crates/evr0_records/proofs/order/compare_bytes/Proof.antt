@@ -1,11 +1,11 @@
 -- The answer is the order of the strings from i on, since all bytes before i are the same.
 use borrow.Author.Tests.{lt-ltb, le-ltb}
-use Rattle.evr0_records.proofs.OrderLaws.{both-go-on, second-ends, first-ends, both-end}
 use borrow.Author.Needs.{needs}
 use Prim.Native.Nat.{_≤_, _-_}
 use mathlib.Core.Path.{_≡_, refl}
 use native.Mathlib.Omega.{arith}
 use lib.ListN.{length, drop}
+use Rattle.evr0_records.proofs.OrderLaws.{both-go-on, second-ends, first-ends, both-end}
 use Rattle.evr0_section.specs.Proposition.{compare, compareBytes}
 use Rattle.evr0_records.proofs.order.compare_bytes.Statement.{statement}
 use Rattle.evr0_records.proofs.order.compare_bytes.Tie as tie

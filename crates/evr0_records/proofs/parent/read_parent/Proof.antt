@@ -1,5 +1,6 @@
-use Rattle.evr0_section.specs.Witness.{parentRow}
+-- Each return is the definition with what its field was found to be.
 use borrow.Author.Needs.{needs}
+use Rattle.evr0_section.specs.Witness.{parentRow}
 use Rattle.evr0_records.proofs.parent.read_parent.Statement.{statement}
 use Rattle.evr0_records.proofs.parent.read_parent.Tie as tie
 

@@ -1,10 +1,11 @@
+-- The tests are the definition's, in its order; 18 says that 19's sums may start at the proof's own first witness and parent.
 use mathlib.Core.Path.{sym, _∙_}
 use borrow.Author.Tests.{not-true, not-false}
+use borrow.Author.Needs.{needs}
 use Rattle.evr0_head.specs.Maps.{countsOut}
 use Rattle.evr0_records.specs.Maps.{unownedOut, proofRecord}
 use Rattle.evr0_section.specs.Proof.{checkProof}
 use Rattle.evr0_records.proofs.ProofLaws.{same-range}
-use borrow.Author.Needs.{needs}
 use Rattle.evr0_records.proofs.proof.check_proof.Statement.{statement}
 use Rattle.evr0_records.proofs.proof.check_proof.Tie as tie
 

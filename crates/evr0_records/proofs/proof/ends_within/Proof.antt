@@ -1,3 +1,4 @@
+-- The sums fit, since their parts have 32 bits.
 use borrow.Author.Tests.{lt-leb, le-leb}
 use borrow.Author.Needs.{needs}
 use Rattle.evr0_records.proofs.proof.ends_within.Statement.{statement}

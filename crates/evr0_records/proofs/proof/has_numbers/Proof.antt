@@ -1,6 +1,7 @@
-use Rattle.evr0_section.specs.Proof.{hasNumbers}
+-- The tests are the definition's, in its order.
 use borrow.Author.Tests.{eq-eqb, ne-eqb}
 use borrow.Author.Needs.{needs}
+use Rattle.evr0_section.specs.Proof.{hasNumbers}
 use Rattle.evr0_records.proofs.proof.has_numbers.Statement.{statement}
 use Rattle.evr0_records.proofs.proof.has_numbers.Tie as tie
 

@@ -1,3 +1,4 @@
+-- The tests are the definition's, in its order.
 use borrow.Author.Tests.{eq-eqb, ne-eqb}
 use borrow.Author.Needs.{needs}
 use Rattle.evr0_records.proofs.proof.is_next.Statement.{statement}

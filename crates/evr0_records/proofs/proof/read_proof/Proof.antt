@@ -1,5 +1,6 @@
-use Rattle.evr0_section.specs.Proof.{proofOf}
+-- Each return is the definition with what its fields and its text were found to be.
 use borrow.Author.Needs.{needs}
+use Rattle.evr0_section.specs.Proof.{proofOf}
 use Rattle.evr0_records.proofs.proof.read_proof.Statement.{statement}
 use Rattle.evr0_records.proofs.proof.read_proof.Tie as tie
 

@@ -1,5 +1,6 @@
-use Rattle.evr0_section.specs.Proposition.{compareKeys}
+-- The four orders, joined as the definition joins them.
 use borrow.Author.Needs.{needs}
+use Rattle.evr0_section.specs.Proposition.{compareKeys}
 use Rattle.evr0_records.proofs.proposition.precedes.Statement.{statement}
 use Rattle.evr0_records.proofs.proposition.precedes.Tie as tie
 

@@ -1,5 +1,6 @@
-use Rattle.evr0_section.specs.Proposition.{propositionOf}
+-- Each return is the definition with what its text and its fields were found to be.
 use borrow.Author.Needs.{needs}
+use Rattle.evr0_section.specs.Proposition.{propositionOf}
 use Rattle.evr0_records.proofs.proposition.read_proposition.Statement.{statement}
 use Rattle.evr0_records.proofs.proposition.read_proposition.Tie as tie
 

@@ -1,5 +1,6 @@
-use Rattle.derivation.specs.Rule.{polarityFits}
+-- Rule by rule.
 use borrow.Author.Needs.{needs}
+use Rattle.derivation.specs.Rule.{polarityFits}
 use Rattle.evr0_records.proofs.rule.polarity_fits.Statement.{statement}
 use Rattle.evr0_records.proofs.rule.polarity_fits.Tie as tie
 

@@ -1,5 +1,6 @@
-use Rattle.derivation.specs.Rule.{ruleNamed, fourRules}
+-- The names are compared in the definition's order.
 use borrow.Author.Needs.{needs}
+use Rattle.derivation.specs.Rule.{ruleNamed, fourRules}
 use Rattle.evr0_records.proofs.rule.rule_named.Statement.{statement}
 use Rattle.evr0_records.proofs.rule.rule_named.Tie as tie
 

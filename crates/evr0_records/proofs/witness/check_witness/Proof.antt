@@ -1,6 +1,7 @@
-use Rattle.evr0_section.specs.Witness.{checkWitness}
+-- The tests are the definition's, in its order.
 use borrow.Author.Tests.{eq-eqb, ne-eqb, lt-ltb, le-ltb, le-leb, lt-leb}
 use borrow.Author.Needs.{needs}
+use Rattle.evr0_section.specs.Witness.{checkWitness}
 use Rattle.evr0_records.proofs.witness.check_witness.Statement.{statement}
 use Rattle.evr0_records.proofs.witness.check_witness.Tie as tie
 

@@ -1,5 +1,6 @@
-use Rattle.evr0_section.specs.Witness.{witnessOf}
+-- Each return is the definition with what its fields and digests were found to be.
 use borrow.Author.Needs.{needs}
+use Rattle.evr0_section.specs.Witness.{witnessOf}
 use Rattle.evr0_records.proofs.witness.read_witness.Statement.{statement}
 use Rattle.evr0_records.proofs.witness.read_witness.Tie as tie
 

@@ -1,29 +1,16 @@
 -- The flat struct holds what `read_debug_symbol` answers.
 use borrow.Author.Needs.{needs}
-use mathlib.Core.Path.{sym, ap, _∙_}
-use Rattle.local_format.specs.Out.{refused}
-use Rattle.semcode_records.specs.Maps.{symbolOut}
+use mathlib.Core.Path.{_∙_}
 use Rattle.exports.proofs.record.falgnust_read_debug_symbol.Statement.{statement}
 use Rattle.exports.proofs.record.falgnust_read_debug_symbol.Tie as tie
 
 returns : tie.Need-returns
-returns c =
-    sym (ap symbolOut (c .before .before .read .given .1)) ∙ c .before .before .before .before .read-debug-symbol .ensures
-
-returns-2 : tie.Need-returns-2
-returns-2 c =
-    ap refused (c .flat-refusal .ensures)
-    ∙ sym (ap symbolOut (c .before .before .read2 .given .1))
-    ∙ c .before .before .before .before .read-debug-symbol .ensures
+returns c = c .flat-symbol .ensures ∙ c .before .read-debug-symbol .ensures
 
 pub falgnust-read-debug-symbol-spec : {M : Type 1} → statement M
 falgnust-read-debug-symbol-spec =
     tie.close
     (tie.spec
     (λ c κs. search needs)
-    (λ c. search needs)
     (λ c κs. search needs)
-    (λ c. search needs)
-    (λ c κs. search needs)
-    returns
-    returns-2)
+    returns)

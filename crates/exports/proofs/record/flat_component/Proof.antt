@@ -1,32 +1,29 @@
--- Each variant is told by its own fields.
+-- Either variant is told by its own fields.
 use borrow.Author.Needs.{needs}
-use mathlib.Core.Path.{sym, ap}
-use Rattle.semcode_records.specs.Maps.{componentIs}
+use mathlib.Core.Path.{sym, ap, _∙_}
+use Rattle.local_format.specs.Out.{refused}
+use Rattle.semcode_records.specs.Component.{Component}
+use Rattle.semcode_records.specs.Records.{taken}
+use Rattle.semcode_records.specs.Maps.{componentOut}
 use Rattle.exports.proofs.record.flat_component.Statement.{statement}
 use Rattle.exports.proofs.record.flat_component.Tie as tie
 
 returns : tie.Need-returns
-returns c = sym (ap componentIs (c .before .component .given .1))
+returns c =
+    ap (λ (v : Component). taken v (c .before .before .before .read .given .0 .1 .0)) (c .parts-of .ensures)
+    ∙ sym (ap componentOut (c .before .before .before .read .given .1))
 
 returns-2 : tie.Need-returns-2
-returns-2 c = sym (ap componentIs (c .before .component2 .given .1))
-
-returns-3 : tie.Need-returns-3
-returns-3 c = sym (ap componentIs (c .before .component3 .given .1))
-
-returns-4 : tie.Need-returns-4
-returns-4 c = sym (ap componentIs (c .before .component4 .given .1))
+returns-2 c = ap refused (c .flat-refusal .ensures) ∙ sym (ap componentOut (c .before .before .read2 .given .1))
 
 pub flat-component-spec : {M : Type 1} → statement M
 flat-component-spec =
     tie.close
     (tie.spec
     (λ c. search needs)
+    (λ c κs. search needs)
+    (λ c κs. search needs)
     (λ c. search needs)
-    (λ c. search needs)
-    (λ c. search needs)
-    (λ c. search needs)
+    (λ c κs. search needs)
     returns
-    returns-2
-    returns-3
-    returns-4)
+    returns-2)

@@ -1,4 +1,5 @@
-use mathlib.Core.Path.{_≡_, refl, ap, sym, _∙_}
+-- Meets its contract: a refusal is moved by the base and both tables are cleared; else they are cleared past the counts.
+use mathlib.Core.Path.{ap, sym, _∙_}
 use Prim.Native.Nat.{ℕ}
 use mathlib.Core.List.{[]}
 use lib.ListN.{length}

@@ -1,3 +1,4 @@
+-- Meets its contract, by the law of the block for each table at which it can end.
 use mathlib.Core.Path.{refl, sym}
 use Rattle.local_format.proofs.OutLaws.{told}
 use Rattle.semcode_decode.specs.Block.{Rooms}

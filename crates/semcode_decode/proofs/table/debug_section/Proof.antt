@@ -1,4 +1,5 @@
-use mathlib.Core.Path.{_≡_, refl, sym, _∙_}
+-- Meets its contract: the tag is there and the table after it is read, or there is no section.
+use mathlib.Core.Path.{sym, _∙_}
 use native.Mathlib.Omega.{arith}
 use Rattle.local_format.specs.Tag.{dbg0}
 use Rattle.local_format.proofs.TagLaws.{tag-there}

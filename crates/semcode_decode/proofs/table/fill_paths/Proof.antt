@@ -1,7 +1,8 @@
+-- Meets its contract. The invariant: the records read so far, then the rest from the cursor on.
 use borrow.Author.Needs.{needs}
 use Prim.Native.Nat.{ℕ, _≤_, _-_}
 use native.Mathlib.Omega.{arith}
-use mathlib.Core.Path.{_≡_, refl, ap, sym, _∙_}
+use mathlib.Core.Path.{_≡_, refl, sym}
 use lib.ListN.{length, length-set}
 use Rattle.local_format.specs.Out.{Out}
 use Rattle.local_format.proofs.OutLaws.{told}

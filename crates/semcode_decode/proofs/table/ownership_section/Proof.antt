@@ -1,3 +1,4 @@
+-- Meets its contract: the tag is there and the table after it is read, or there is no section.
 use mathlib.Core.Path.{_≡_, refl, sym, _∙_}
 use Prim.Native.Nat.{ℕ}
 use mathlib.Core.Bool.{true}

@@ -1,3 +1,4 @@
+-- Meets its contract: each return puts the count and the tests so far into the definition.
 use mathlib.Core.Path.{refl}
 use borrow.Author.Tests.{lt-leb, le-leb}
 use Rattle.semcode_decode.specs.Block.{pathTable}

@@ -1,3 +1,4 @@
+-- Meets its contract: whole symbols are passed by their size, and the first that is cut is read for its refusal.
 use mathlib.Core.Path.{sym}
 use native.Mathlib.Omega.{arith}
 use Rattle.semcode_records.specs.Symbol.{symbolAt}

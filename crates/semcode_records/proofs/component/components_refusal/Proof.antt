@@ -1,3 +1,4 @@
+-- Meets its contract, by cases of the answer.
 use borrow.Author.Needs.{needs}
 use Rattle.semcode_records.proofs.component.components_refusal.Statement.{statement}
 use Rattle.semcode_records.proofs.component.components_refusal.Tie as tie

@@ -1,3 +1,4 @@
+-- Meets its contract: each return puts the fields and tests so far into the definition.
 use borrow.Author.Needs.{needs}
 use Rattle.semcode_records.specs.Component.{tupleIndexAt}
 use Rattle.semcode_records.proofs.component.read_tuple_index.Statement.{statement}

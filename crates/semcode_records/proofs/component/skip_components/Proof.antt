@@ -1,8 +1,9 @@
+-- Meets its contract. The invariant: the end of all components is the end of the rest from the cursor on.
 use borrow.Author.Needs.{needs}
 use Prim.Native.Nat.{ℕ, _≤_, _-_}
 use native.Mathlib.Nat.{sub-zero}
 use native.Mathlib.Omega.{arith}
-use mathlib.Core.Path.{_≡_, refl, ap, sym, _∙_}
+use mathlib.Core.Path.{_≡_, _∙_}
 use Rattle.local_format.specs.Out.{Out}
 use Rattle.local_format.proofs.OutLaws.{told}
 use Rattle.semcode_records.specs.Records.{Taken, records, ends}

@@ -1,3 +1,4 @@
+-- Meets its contract: each return puts the fields and tests so far into the definition.
 use borrow.Author.Needs.{needs}
 use borrow.Author.Tests.{eq-eqb, le-leb, lt-leb, ne-eqb}
 use Rattle.semcode_records.specs.Path.{executionAt}

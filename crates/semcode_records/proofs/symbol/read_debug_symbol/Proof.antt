@@ -1,3 +1,4 @@
+-- Meets its contract: each return puts the fields and tests so far into the definition.
 use borrow.Author.Needs.{needs}
 use Rattle.semcode_records.specs.Symbol.{symbolAt}
 use Rattle.semcode_records.proofs.symbol.read_debug_symbol.Statement.{statement}

@@ -1,9 +1,12 @@
--- The tests of a proof, each by itself.
+-- The tests of a proof, each by itself, and the numbers of a rule.
 use Prim.Native.Nat.{_+_}
+use mathlib.Core.Path.{_≡_}
 use mathlib.Core.Bool.{Bool, _&&_}
 use lib.Dec.{ltb, leb, eqb}
+use Rattle.derivation.specs.Rule as rules
 use Rattle.evr0_section.specs.Head.{Counts}
 use Rattle.evr0_section.specs.Proof.{ProofRecord, Unowned}
+use Rattle.evr0_records.specs.declared.rule.Shape.{Shape}
 
 -- 17
 abbrev pub isNext : Counts → Unowned → ProofRecord → Bool
@@ -17,3 +20,9 @@ isContiguous u r = eqb (r .firstWitness) (u .witness) && eqb (r .firstParent) (u
 abbrev pub endsWithin : Counts → ProofRecord → Bool
 endsWithin counts r =
     leb (r .firstWitness + r .witnessCount) (counts .witnesses) && leb (r .firstParent + r .parentCount) (counts .parents)
+
+-- the numbers of a rule
+pub record HasShape (rule : rules.Rule) (s : Shape) : Type 0 where
+  pub witnesses : s .witnesses ≡ rule .witnesses
+  pub parents : s .parents ≡ rule .parents
+  pub operation : s .operation ≡ rule .operation

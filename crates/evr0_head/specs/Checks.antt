@@ -1,7 +1,6 @@
--- What contracts say beside the definitions.
-use Prim.Native.Nat.{_≤_}
+-- Counts within their limits, and a head whose counts passed their checks.
+use Prim.Native.Nat.{ℕ, _≤_}
 use mathlib.Core.List.{List}
-use Prim.Native.Nat.{ℕ}
 use Rattle.local_format.specs.Out.{Out, ok, _>>=_, _>>_}
 use Rattle.evr0_section.specs.Head.{Counts, Head, Room, headOf, checkCounts}
 

@@ -1,0 +1,46 @@
+"""Sections: `decodeSection`, with the cursor, the starts of propositions and proofs, and the depths."""
+from terms import listed, numbers, refused
+
+CRATES = ["local_format", "derivation", "evr0_section"]
+DEPENDENCIES = CRATES
+NAMES = ["startOf", "told", "room", "answer"]
+HEAD = """use Prim.Native.Nat.{ℕ}
+use mathlib.Core.Path.{_≡_, refl}
+use mathlib.Core.List.{List, [], _∷_, map}
+use Rattle.local_format.specs.Out.{Out, ok, refused}
+use Rattle.local_format.specs.Refusal.{Kind, invalid, limit}
+use Rattle.evr0_section.specs.Head.{Room}
+use Rattle.evr0_section.specs.Rows.{Entry}
+use Rattle.evr0_section.specs.Section.{Section, decodeSection}
+
+pub data Told : Type 0 where
+  accepted : ℕ → List ℕ → List ℕ → List ℕ → Told
+  turnedBack : Kind → ℕ → ℕ → Told
+
+startOf : {A : Type 0} → Entry A → ℕ
+startOf e = e .start
+
+told : Out Section → Told
+told (ok s) =
+    accepted (s .cursor) (map startOf (s .tables .propositions .entries)) (map startOf (s .tables .proofs .entries)) (s .depths)
+told (refused r) = turnedBack (r .kind) (r .number) (r .offset)
+
+room : Room
+room = record { propositions = 65536; proofs = 65536; depths = 65536 }
+
+answer : List ℕ → ℕ → Told
+answer s cursor = told (decodeSection room s cursor)
+"""
+
+
+def question(line):
+    _, code, cursor = line.split(" ")
+    return f"answer {listed(bytes.fromhex(code))} {cursor}"
+
+
+def answer(line):
+    if line.startswith("refused"):
+        return refused(line)
+    fields = dict(item.split("=", 1) for item in line.split(" ")[1:])
+    tables = " ".join(numbers(fields[name]) for name in ["propositions", "proofs", "depths"])
+    return f"accepted {fields['cursor']} {tables}"

@@ -1,0 +1,53 @@
+"""Writes a crate of theorems, each by computation: the definition gives the Rust's answer to one input.
+
+usage: theorems.py section|block REPOSITORY < the lines of tools/sample"""
+import glob
+import os
+import re
+import sys
+
+import blocks
+import sections
+
+
+def unfoldable(repository, crate):
+    """The definitions of a crate that a computation unfolds, as `use` lines and names."""
+    uses, names = [], []
+    for path in sorted(glob.glob(f"{repository}/crates/{crate}/specs/*.antt")):
+        module = os.path.basename(path)[: -len(".antt")]
+        found = re.findall(r"^ *unfoldable pub (\S+) :", open(path).read(), flags=re.M)
+        if found:
+            uses.append(f"use Rattle.{crate}.specs.{module} as {crate}-{module}")
+            names += [f"{crate}-{module}.{name}" for name in found]
+    return uses, names
+
+
+def main():
+    kind, repository = sys.argv[1:]
+    form = {"section": sections, "block": blocks}[kind]
+    uses, names = [], list(form.NAMES)
+    for crate in form.CRATES:
+        more = unfoldable(repository, crate)
+        uses += more[0]
+        names += more[1]
+    text = uses + [form.HEAD]
+    cases = [line.rstrip("\n").split("\t") for line in sys.stdin]
+    for number, (question, answer) in enumerate(cases):
+        text.append(f"case{number} : {form.question(question)} ≡ {form.answer(answer)}")
+        text.append(f"unfolding {' '.join(names)}")
+        text.append(f"case{number} = refl\n")
+    crate = f"{repository}/crates/{kind}_cases"
+    for folder, name, content in [
+        ("src", "lib.rt", "// No code.\n"),
+        ("specs", "Lib.antt", "pub mod Cases\n"),
+        ("specs", "Cases.antt", "\n".join(text)),
+    ]:
+        os.makedirs(f"{crate}/{folder}", exist_ok=True)
+        with open(f"{crate}/{folder}/{name}", "w") as out:
+            out.write(content)
+    with open(f"{repository}/crates.txt", "a") as out:
+        out.write(f"{kind}_cases: {' '.join(form.DEPENDENCIES)}\n")
+    print(f"{len(cases)} {kind}s")
+
+
+main()
