@@ -6,5 +6,4 @@ pub mod Enough
 pub mod OffsetLaws
 pub mod OutputLength
 pub mod ListedLaws
-pub mod AcceptedLaws
 pub mod Printed

@@ -17,7 +17,7 @@ use Rattle.derivation.specs.Rule.{fourRules}
 use Rattle.evr0_section.specs.Head.{Room}
 use Rattle.evr0_section.specs.Section.{frameAt, sectionIn, sectionAt, decodeSection}
 use Rattle.evr0_bounds.proofs.SectionWithin.{four-within}
-use Rattle.evidence_output.proofs.AcceptedLaws.{frame-place}
+use Rattle.evr0_read.proofs.AcceptedLaws.{frame-place}
 
 cut-within : (n number at : ℕ) (f : Field) → at ≤ n → RefusesWithin n (orCut number at f)
 cut-within n number at (whole g) h = tt

@@ -27,7 +27,7 @@ use Rattle.evr0_section.proofs.RowsLaws.{Trace, trace}
 use Rattle.evr0_section.proofs.RowsLaws as rows-laws
 use Rattle.evidence_output.specs.Decimal.{decimal}
 use Rattle.evidence_output.specs.Output.{spaced, line, proofLine, proofLines, headLine, printed, refusedWord, tooLong, enough, outputOf}
-use Rattle.evidence_output.proofs.AcceptedLaws.{payloadTo, accepted}
+use Rattle.evr0_read.proofs.AcceptedLaws.{payloadTo, accepted}
 use Rattle.evidence_output.proofs.Enough.{refused-upto-29}
 use Rattle.evidence_output.proofs.OffsetLaws.{offset-within}
 use Rattle.evidence_output.proofs.DecimalLaws.{decimal-length}

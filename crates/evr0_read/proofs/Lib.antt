@@ -1,3 +1,4 @@
+pub mod AcceptedLaws
 pub mod FoundLaws
 pub mod HeldLaws
 pub mod DownLaws
