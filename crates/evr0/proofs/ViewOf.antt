@@ -19,7 +19,7 @@ use Rattle.evr0_section.proofs.RowsLaws.{entry, Trace, none, more, trace, trace
 use Rattle.evr0_section.proofs.RowChecks.{GoodProof, proof-known, proof-behind, witness-behind}
 use Rattle.evr0_section.proofs.RecordLaws.{ProofLies, proof-lies, witness-lies, parent-lies}
 use Rattle.evr0_section.proofs.CheckedTables.{Steps, steps}
-use Rattle.evr0.specs.Answer.{startsOf}
+use Rattle.evr0.specs.Maps.{startsOf}
 use Rattle.evr0.specs.View.{Layout, places, nameAt, proofView, witnessView, view, ProofThere, TablesThere}
 
 -- ---- Any table

@@ -1,12 +1,24 @@
 -- What the section decoder answers, and what the lent tables then hold.
 use Prim.Native.Nat.{ℕ}
-use mathlib.Core.List.{List, [], map}
-use lib.ListN.{replicate}
-use Rattle.local_format.specs.Refusal.{Refusal}
-use Rattle.local_format.specs.Out.{Out, ok, refused}
-use Rattle.evr0_section.specs.Rows.{Entry}
-use Rattle.evr0_section.specs.Head.{Counts}
+use mathlib.Core.Path.{_≡_}
+use mathlib.Core.List.{List, []}
+use Rattle.local_format.specs.Out.{Out, ok, refused, _>>=_}
+use Rattle.evr0_section.specs.Head.{Counts, Head, Room}
 use Rattle.evr0_section.specs.Section.{Section}
+use Rattle.evr0_head.specs.Maps.{zeros}
+use Rattle.evr0_head.specs.Checks.{checkedHead}
+pub use Rattle.evr0.specs.Maps.{startsOf}
+
+-- the lengths of the lent tables: proposition starts, proof starts, depths
+abbrev pub roomOf : ℕ → ℕ → ℕ → Room
+roomOf a b c = record { propositions = a; proofs = b; depths = c }
+
+-- a payload has a checked head with these counts, after which stands this place
+pub record HeadThere (room : Room) (p : List ℕ) (counts : Counts) (at : ℕ) : Type 0 where
+  pub head : Head
+  pub read : checkedHead room p ≡ ok head
+  pub same : head .counts ≡ counts
+  pub next : head .next ≡ at
 
 -- what is given of an accepted section: the epoch, the places in the payload of both namespaces' lengths, and the counts
 pub record Accepted : Type 0 where
@@ -38,10 +50,7 @@ answerOf cursor (ok s) =
           });
     }
 answerOf cursor (refused r) =
-    record { sourceSet = replicate 32 0; compilerContract = replicate 32 0; cursor = cursor; outcome = refused r }
-
-abbrev pub startsOf : {A : Type 0} → List (Entry A) → List ℕ
-startsOf entries = map (λ e. e .start) entries
+    record { sourceSet = zeros; compilerContract = zeros; cursor = cursor; outcome = refused r }
 
 -- what fills the lent tables; a refusal has nothing
 abbrev pub propositionStarts : Out Section → List ℕ
@@ -55,3 +64,9 @@ proofStarts (refused r) = []
 abbrev pub proofDepths : Out Section → List ℕ
 proofDepths (ok s) = s .depths
 proofDepths (refused r) = []
+
+-- whether a section is accepted, or its refusal
+abbrev pub passedIn : Out Section → Out (Unit {0})
+passedIn x = do
+  s ← x
+  ok tt

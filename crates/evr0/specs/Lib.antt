@@ -2,4 +2,7 @@ pub mod Maps
 pub mod Answer
 pub mod View
 pub mod PassMaps
+pub mod Payload
+pub mod PayloadMaps
+pub mod AnswerMaps
 pub mod Front

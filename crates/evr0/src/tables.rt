@@ -27,7 +27,7 @@ pub enum Table {
 }
 
 // A refusal of a part that starts at `start`.
-fn moved(refused: Refusal, start: usize) -> Refusal
+pub fn moved(refused: Refusal, start: usize) -> Refusal
     requires { ⌜ start + refused .offset ≤ 18446744073709551615 ⌝ }
     ensures { λ r. ⌜ refusalOut r ≡ atOffset (refusalOut refused) (start + refused .offset) ⌝ }
 {

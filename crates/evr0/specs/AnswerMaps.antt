@@ -1,0 +1,25 @@
+-- From the decoder's answer to the definitions' types.
+use Rattle.local_format.specs.Out.{Out, ok, refused}
+use Rattle.local_format.specs.Maps.{refusalOut}
+use Rattle.evr0_head.specs.Maps.{countsOut}
+use Rattle.evr0_head.specs.declared.head.Head as head
+use Rattle.evr0.specs.Answer as of
+use Rattle.evr0.specs.declared.section.Accepted as given
+use Rattle.evr0.specs.declared.section.Outcome as outcome
+use Rattle.evr0.specs.declared.section.Outcome.the-variants as found
+use Rattle.evr0.specs.declared.section.DecodedEvr0.{DecodedEvr0}
+
+abbrev pub acceptedOut : given.Accepted → of.Accepted
+acceptedOut a = record { epoch = a .epoch; policyAt = a .«policy_namespace»; issuerAt = a .«issuer_namespace»; counts = countsOut (a .counts) }
+
+-- what is given of a section with this head
+abbrev pub headOutcome : head.Head → of.Accepted
+headOutcome h = record { epoch = h .epoch; policyAt = h .«policy_at»; issuerAt = h .«issuer_at»; counts = countsOut (h .counts) }
+
+abbrev pub outcomeOut : outcome.Outcome → Out of.Accepted
+outcomeOut (found.Accepted a) = ok (acceptedOut a)
+outcomeOut (found.Refused r) = refused (refusalOut r)
+
+abbrev pub answerOut : DecodedEvr0 → of.Answer
+answerOut d =
+    record { sourceSet = d .«source_set»; compilerContract = d .«compiler_contract»; cursor = d .cursor; outcome = outcomeOut (d .outcome) }

@@ -1,0 +1,221 @@
+// Evidence sections.
+ghost use mathlib.Core.Path.{_≡_};
+ghost use Prim.Native.Nat.{ℕ, _+_, _≤_};
+ghost use lib.ListN.{length};
+ghost use Rattle.local_format.specs.Out.{refused, moved};
+ghost use Rattle.local_format.specs.Text.{bytesAt};
+ghost use Rattle.local_format.specs.Maps.{refusalOut};
+ghost use Rattle.lent_table.specs.Lent.{lent};
+ghost use Rattle.derivation.specs.Rule.{fourRules};
+ghost use Rattle.evr0_section.specs.Section.{sectionIn, decodeSection};
+ghost use Rattle.evr0_section.specs.Demand.{Demand3};
+ghost use Rattle.evr0_head.specs.Maps.{countsOut, checkedOut};
+ghost use Rattle.evr0.specs.Front.{Front};
+ghost use Rattle.evr0.specs.Answer.{roomOf, HeadThere, answerOf, passedIn, propositionStarts, proofStarts, proofDepths};
+ghost use Rattle.evr0.specs.AnswerMaps.{acceptedOut, headOutcome, answerOut};
+use crate::frame::Frame;
+use crate::pass::Layout;
+use crate::payload::Places;
+use evr0_head::check::Checked;
+use evr0_head::counts::Counts;
+use evr0_head::head::Head;
+use evr0_head::head::HeadAnswer;
+use evr0_head::head::Room;
+use local_format::refusal::Refusal;
+
+// What is given of an accepted section: the epoch, the places in the payload of both namespaces' lengths, and the counts.
+pub struct Accepted {
+    pub epoch: u16,
+    pub policy_namespace: usize,
+    pub issuer_namespace: usize,
+    pub counts: Counts,
+}
+
+pub enum Outcome {
+    Accepted(Accepted),
+    Refused(Refusal),
+}
+
+// The outcome with the cursor, and the digests, which are zeros where the section is refused.
+pub struct DecodedEvr0 {
+    pub source_set: [u8; 32],
+    pub compiler_contract: [u8; 32],
+    pub cursor: usize,
+    pub outcome: Outcome,
+}
+
+fn refused_section(refusal: Refusal, cursor: usize) -> DecodedEvr0
+    ensures { λ r. ⌜ answerOut r ≡ answerOf cursor (refused (refusalOut refusal)) ⌝ }
+{
+    DecodedEvr0 {
+        source_set: [0u8; 32],
+        compiler_contract: [0u8; 32],
+        cursor,
+        outcome: Outcome::Refused(refusal),
+    }
+}
+
+fn accept(head: Head) -> Accepted
+    ensures { λ r. ⌜ acceptedOut r ≡ headOutcome head ⌝ }
+{
+    let counts = head.counts;
+    Accepted {
+        epoch: head.epoch,
+        policy_namespace: head.policy_at,
+        issuer_namespace: head.issuer_at,
+        counts,
+    }
+}
+
+// The tables and the depths of a payload with a checked head, with the starts and the depths at the front of the lent tables.
+fn check_tables(
+    payload: &[u8],
+    counts: Counts,
+    at: usize,
+    propositions: &mut [u64],
+    proofs: &mut [u64],
+    depths: &mut [u64],
+) -> Checked
+    requires { ⌜ HeadThere (roomOf (length (now propositions)) (length (now proofs)) (length (now depths))) (now payload) (countsOut counts) at ⌝ }
+    ensures { λ r. ⌜ ((end : ℕ) → checkedOut r ≡ passedIn (sectionIn fourRules (roomOf (length (now (propositions .entry))) (length (now (proofs .entry))) (length (now (depths .entry)))) (now (payload .entry)) end)) ⌝ }
+    ensures { λ r. ⌜ ((end : ℕ) → Front (propositionStarts (sectionIn fourRules (roomOf (length (now (propositions .entry))) (length (now (proofs .entry))) (length (now (depths .entry)))) (now (payload .entry)) end)) (now (propositions .exit))) ⌝ }
+    ensures { λ r. ⌜ ((end : ℕ) → Front (proofStarts (sectionIn fourRules (roomOf (length (now (propositions .entry))) (length (now (proofs .entry))) (length (now (depths .entry)))) (now (payload .entry)) end)) (now (proofs .exit))) ⌝ }
+    ensures { λ r. ⌜ ((end : ℕ) → Front (proofDepths (sectionIn fourRules (roomOf (length (now (propositions .entry))) (length (now (proofs .entry))) (length (now (depths .entry)))) (now (payload .entry)) end)) (now (depths .exit))) ⌝ }
+{
+    let tables = crate::payload::read_tables(payload, counts, at, propositions, proofs);
+    match tables {
+        Places::Refused(refusal) => Checked::Refused(refusal),
+        Places::Read {
+            witnesses_at,
+            parents_at,
+        } => {
+            let count = counts.proofs;
+            let layout = Layout {
+                counts,
+                witnesses_at,
+                parents_at,
+            };
+            crate::pass::derive(payload, &proofs[..count], layout, depths)
+        }
+    }
+}
+
+// The section of a payload after which the cursor stands at `end`, with its starts and depths at the front of the lent tables.
+fn decode_payload(
+    payload: &[u8],
+    end: usize,
+    cursor: usize,
+    propositions: &mut [u64],
+    proofs: &mut [u64],
+    depths: &mut [u64],
+) -> DecodedEvr0
+    ensures { λ r. ⌜ answerOut r ≡ answerOf cursor (sectionIn fourRules (roomOf (length (now (propositions .entry))) (length (now (proofs .entry))) (length (now (depths .entry)))) (now (payload .entry)) end) ⌝ }
+    ensures { λ r. ⌜ Front (propositionStarts (sectionIn fourRules (roomOf (length (now (propositions .entry))) (length (now (proofs .entry))) (length (now (depths .entry)))) (now (payload .entry)) end)) (now (propositions .exit)) ⌝ }
+    ensures { λ r. ⌜ Front (proofStarts (sectionIn fourRules (roomOf (length (now (propositions .entry))) (length (now (proofs .entry))) (length (now (depths .entry)))) (now (payload .entry)) end)) (now (proofs .exit)) ⌝ }
+    ensures { λ r. ⌜ Front (proofDepths (sectionIn fourRules (roomOf (length (now (propositions .entry))) (length (now (proofs .entry))) (length (now (depths .entry)))) (now (payload .entry)) end)) (now (depths .exit)) ⌝ }
+{
+    let room = Room {
+        propositions: propositions.len(),
+        proofs: proofs.len(),
+        depths: depths.len(),
+    };
+    let read = evr0_head::head::read_checked_head(payload, room);
+    let answer = read.answer;
+    match answer {
+        HeadAnswer::Refused(refusal) => refused_section(refusal, cursor),
+        HeadAnswer::Read(head) => {
+            let counts = head.counts;
+            let checked = check_tables(payload, counts, head.next, propositions, proofs, depths);
+            match checked {
+                Checked::Refused(refusal) => refused_section(refusal, cursor),
+                Checked::Passed => {
+                    let source_set = read.source_set;
+                    let compiler_contract = read.compiler_contract;
+                    DecodedEvr0 {
+                        source_set,
+                        compiler_contract,
+                        cursor: end,
+                        outcome: Outcome::Accepted(accept(head)),
+                    }
+                }
+            }
+        }
+    }
+}
+
+// The section whose payload starts at `start` and is `len` bytes long.
+fn decode_at(
+    bytes: &[u8],
+    start: usize,
+    len: usize,
+    cursor: usize,
+    propositions: &mut [u64],
+    proofs: &mut [u64],
+    depths: &mut [u64],
+) -> DecodedEvr0
+    requires { ⌜ start + len ≤ length (now bytes) ⌝ }
+    ensures { λ r. ⌜ answerOut r ≡ answerOf cursor (moved start (sectionIn fourRules (roomOf (length (now (propositions .entry))) (length (now (proofs .entry))) (length (now (depths .entry)))) (bytesAt (now (bytes .entry)) start len) (start + len))) ⌝ }
+    ensures { λ r. ⌜ now (propositions .exit) ≡ lent (length (now (propositions .entry))) (propositionStarts (moved start (sectionIn fourRules (roomOf (length (now (propositions .entry))) (length (now (proofs .entry))) (length (now (depths .entry)))) (bytesAt (now (bytes .entry)) start len) (start + len)))) ⌝ }
+    ensures { λ r. ⌜ now (proofs .exit) ≡ lent (length (now (proofs .entry))) (proofStarts (moved start (sectionIn fourRules (roomOf (length (now (propositions .entry))) (length (now (proofs .entry))) (length (now (depths .entry)))) (bytesAt (now (bytes .entry)) start len) (start + len)))) ⌝ }
+    ensures { λ r. ⌜ now (depths .exit) ≡ lent (length (now (depths .entry))) (proofDepths (moved start (sectionIn fourRules (roomOf (length (now (propositions .entry))) (length (now (proofs .entry))) (length (now (depths .entry)))) (bytesAt (now (bytes .entry)) start len) (start + len)))) ⌝ }
+{
+    let end = start + len;
+    let read = decode_payload(
+        &bytes[start..end],
+        end,
+        cursor,
+        propositions,
+        proofs,
+        depths,
+    );
+    let outcome = read.outcome;
+    match outcome {
+        Outcome::Refused(refusal) => {
+            lent_table::clear(propositions);
+            lent_table::clear(proofs);
+            lent_table::clear(depths);
+            refused_section(crate::tables::moved(refusal, start), cursor)
+        }
+        Outcome::Accepted(given) => {
+            let counts = given.counts;
+            lent_table::clear_from(propositions, counts.propositions);
+            lent_table::clear_from(proofs, counts.proofs);
+            lent_table::clear_from(depths, counts.proofs);
+            read
+        }
+    }
+}
+
+// Decodes the section at `cursor`. Each lent table is filled to its count and has zeros past it; a refusal leaves zeros in all three.
+pub fn decode_evr0_section(
+    bytes: &[u8],
+    cursor: usize,
+    propositions: &mut [u64],
+    proofs: &mut [u64],
+    depths: &mut [u64],
+) -> DecodedEvr0
+    ensures answer { λ r. ⌜ answerOut r ≡ answerOf cursor (decodeSection (roomOf (length (now (propositions .entry))) (length (now (proofs .entry))) (length (now (depths .entry)))) (now (bytes .entry)) cursor) ⌝ }
+    ensures propositions { λ r. ⌜ now (propositions .exit) ≡ lent (length (now (propositions .entry))) (propositionStarts (decodeSection (roomOf (length (now (propositions .entry))) (length (now (proofs .entry))) (length (now (depths .entry)))) (now (bytes .entry)) cursor)) ⌝ }
+    ensures proofs { λ r. ⌜ now (proofs .exit) ≡ lent (length (now (proofs .entry))) (proofStarts (decodeSection (roomOf (length (now (propositions .entry))) (length (now (proofs .entry))) (length (now (depths .entry)))) (now (bytes .entry)) cursor)) ⌝ }
+    ensures depths { λ r. ⌜ now (depths .exit) ≡ lent (length (now (depths .entry))) (proofDepths (decodeSection (roomOf (length (now (propositions .entry))) (length (now (proofs .entry))) (length (now (depths .entry)))) (now (bytes .entry)) cursor)) ⌝ }
+    ensures demand_3 { λ r. ⌜ Demand3 fourRules (roomOf (length (now (propositions .entry))) (length (now (proofs .entry))) (length (now (depths .entry)))) (now (bytes .entry)) cursor ⌝ }
+{
+    let frame = crate::frame::read_frame(bytes, cursor);
+    match frame {
+        Frame::Refused(refusal) => {
+            lent_table::clear(propositions);
+            lent_table::clear(proofs);
+            lent_table::clear(depths);
+            refused_section(refusal, cursor)
+        }
+        Frame::Payload { start, len } => decode_at(
+            bytes,
+            start,
+            len,
+            cursor,
+            propositions,
+            proofs,
+            depths,
+        ),
+    }
+}
