@@ -7,3 +7,4 @@ pub mod OffsetLaws
 pub mod OutputLength
 pub mod ListedLaws
 pub mod Printed
+pub mod EvidenceLaws

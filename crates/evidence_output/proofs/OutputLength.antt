@@ -145,9 +145,18 @@ head-line-length c cursor h k =
     line-length evr0 (also {n = c .propositions} (omega arith) (also {n = c .proofs} (omega arith) (also {n = c .witnesses} (omega arith)
     (also {n = c .parents} (omega arith) (also {n = cursor} (omega arith) none)))))
 
-proofs-few : (c : Counts) → sizes c 15 35 84 4 ≤ 65536 → c .proofs ≤ 1872
+pub proofs-few : (c : Counts) → sizes c 15 35 84 4 ≤ 65536 → c .proofs ≤ 1872
 unfolding sizes
 proofs-few c h = omega arith
+
+-- no input of 65,536 bytes has more
+pub records-few : (s : List ℕ) (cursor : ℕ) {d : Section} → length s ≤ 65536 → decodeSection enough s cursor ≡ ok d → sizes (d .tables .head .counts) 15 35 84 4 ≤ 65536
+unfolding decodeSection
+records-few s cursor {d} l e =
+    let a = accepted fourRules enough s cursor e in
+    let p = payloadTo fourRules enough s cursor (d .cursor) in
+    let short : length p ≤ length s = simp (length-take, length-drop) (omega arith) in
+    omega (arith, counts-few enough p (d .tables .head) (a .tables .counts))
 
 -- a buffer for any accepted input: 60 bytes for the first line and 55 for each proof
 pub accepted-length : (s : List ℕ) (cursor : ℕ) (d : Section) → length s ≤ 65536 → Bytes s → decodeSection enough s cursor ≡ ok d → length (printed (ok d)) ≤ 103020
@@ -156,8 +165,7 @@ accepted-length s cursor d l bytes e =
     let a = accepted fourRules enough s cursor e in
     let c = d .tables .head .counts in
     let p = payloadTo fourRules enough s cursor (d .cursor) in
-    let short : length p ≤ length s = simp (length-take, length-drop) (omega arith) in
-    let few : sizes c 15 35 84 4 ≤ 65536 = omega (arith, counts-few enough p (d .tables .head) (a .tables .counts)) in
+    let few : sizes c 15 35 84 4 ≤ 65536 = records-few s cursor l e in
     let lines = lines-length fourRules c p (take-bytes (d .cursor - (cursor + 8)) (drop (cursor + 8) s) (drop-bytes (cursor + 8) s bytes))
     (trace (proofRow fourRules c) p _ _ _ (d .tables .proofs) (a .tables .proofs)) (depths-upto _ _ _ _ no-depths (a .depths)) in
     rw length-append (omega (arith, a .end, head-line-length c (d .cursor) few (omega (arith, a .end)), lines, proofs-few c few))

@@ -54,3 +54,7 @@ written-whole {s} {t} {n} {xs} w h =
     let e : n ≡ length xs = omega (arith, w .place) in
     let l : 0 + length xs ≤ length s = omega arith in
     rw (e, w .holds, sets-eq xs s 0 l) (take-append-seam xs _)
+
+-- the place after the last byte is within the list
+pub written-within : {s t : List ℕ} {n : ℕ} {xs : List ℕ} → Written s 0 xs t n → n ≤ length t
+written-within w = omega (arith, w .place, written-length w)

@@ -5,3 +5,4 @@ pub mod DownLaws
 pub mod AuthorisedLaws
 pub mod EntryLaws
 pub mod NumberedLaws
+pub mod AskLaws
