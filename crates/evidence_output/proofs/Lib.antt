@@ -3,7 +3,8 @@ pub mod DecimalLaws
 pub mod LineLaws
 pub mod NumberLaws
 pub mod Enough
+pub mod OffsetLaws
 pub mod OutputLength
 pub mod ListedLaws
-pub mod AcceptedLaws
 pub mod Printed
+pub mod EvidenceLaws

@@ -1,21 +1,20 @@
 -- The lines of proofs, one more at a time, and from the table that was read.
 use Prim.Native.Nat.{ℕ, zero, suc, _+_, _≤_, _<_, min}
-use mathlib.Core.Path.{_≡_, refl, ap, _∙_}
+use mathlib.Core.Path.{_≡_, refl, sym, ap, ap₂, _∙_}
 use mathlib.Core.List.{List, [], _∷_, _++_, append-nil, append-assoc}
 use native.Mathlib.Omega.{arith}
 use native.Mathlib.Numerals.{add-one}
 use lib.ListN.{length, getD, take, drop}
 use lib.Seq.{take-nil, take-suc, length-take-le}
-use Rattle.local_format.specs.Out.{ok}
-use Rattle.local_format.proofs.OutLaws.{bind-ok, ok-same}
-use Rattle.local_format.specs.Text.{bytesAt}
+use Rattle.local_format.specs.Out.{Out}
 use Rattle.derivation.specs.Rule.{Rule}
-use Rattle.evr0_section.specs.Rows.{Sized, Row, Entry}
+use Rattle.evr0_section.specs.Rows.{Sized, Entry}
 use Rattle.evr0_section.specs.Head.{Counts}
-use Rattle.evr0_section.specs.Proof.{ProofRecord, Settled, Unowned, proofOf, checkProof, proofRow}
+use Rattle.evr0_section.specs.Proof.{ProofRecord, Settled, Unowned, proofOf, proofRow}
+use Rattle.evr0_section.proofs.RowChecks.{proof-behind}
 use Rattle.evr0_section.proofs.RowsLaws.{Trace, none, more}
 use Rattle.evr0_section.proofs.Progress.{startsOf}
-use Rattle.evidence_output.specs.Output.{proofLines}
+use Rattle.evidence_output.specs.Output.{proofLine, proofLines}
 use Rattle.evidence_output.specs.Listed.{recordLine, linesAt}
 use Rattle.evidence_output.specs.Written.{Written}
 use Rattle.evidence_output.proofs.WrittenLaws.{written-none}
@@ -56,15 +55,6 @@ module _ (p : List ℕ) where
 
 -- ---- A table that was read
 
--- a proof's row holds the record at its front
-pub row-proof : (rules : List Rule) (counts : Counts) (u : Unowned) (s : List ℕ) {r : Row Settled Unowned} → proofRow rules counts u s ≡ ok r
-    → (q : Sized ProofRecord) × (proofOf s ≡ ok q) × (q .item ≡ r .item .proof)
-unfolding proofRow
-row-proof rules counts u s e =
-    let q = bind-ok (proofOf s) _ e in
-    let rule = bind-ok (checkProof rules counts u (bytesAt s (q .0 .item .rule .start) (q .0 .item .rule .len)) (q .0 .item)) _ (q .2) in
-    (q .0, q .1, ap (λ (x : Row Settled Unowned). x .item .proof) (ok-same (rule .2)))
-
 -- the records at the starts of a table's entries are its records
 pub lines-of-table : (rules : List Rule) (counts : Counts) (p : List ℕ) {n at end : ℕ} {u last : Unowned} {es : List (Entry Settled)} (ds : List ℕ)
     → Trace (proofRow rules counts) p n u at es last end → linesAt p (startsOf es) ds ≡ proofLines es ds
@@ -72,5 +62,5 @@ unfolding linesAt proofLines
 lines-of-table rules counts p ds none = refl
 lines-of-table rules counts p [] (more r e w) = refl
 lines-of-table rules counts p (d ∷ ds) (more {at = at} {state = u} r e w) =
-    let q = row-proof rules counts u (drop at p) e in
-    rw (q .1, q .2, lines-of-table rules counts p ds w)
+    let b = proof-behind rules counts u (drop at p) r e in
+    ap₂ _++_ (ap (λ (x : Out (Sized ProofRecord)). recordLine x d) (b .read) ∙ ap (λ (x : ProofRecord). proofLine x d) (sym (b .item))) (lines-of-table rules counts p ds w)

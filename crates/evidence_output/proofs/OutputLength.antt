@@ -1,13 +1,15 @@
 -- How long the output can be: the numbers of a section's proofs have 4 bytes, and the depths are at most 256.
 use Prim.Native.Nat.{ℕ, zero, suc, _+_, _-_, _*_, _^_, _≤_, _<_}
-use mathlib.Core.Path.{_≡_}
+use mathlib.Core.Path.{_≡_, refl}
+use mathlib.Core.Bool.{Bool, true, false, cond}
 use mathlib.Core.List.{List, [], _∷_, _++_}
 use native.Mathlib.Omega.{arith}
 use lib.ListN.{length, getD, take, drop, length-append, length-take, length-drop}
 use lib.Dec.{leb}
 use borrow.Author.Tests.{leb-true}
 use lib.Seq.{getD-drop}
-use Rattle.local_format.specs.Out.{ok, _>>=_}
+use Rattle.local_format.specs.Refusal.{Refusal}
+use Rattle.local_format.specs.Out.{Out, ok, refused, _>>=_}
 use Rattle.local_format.specs.Field.{Got}
 use Rattle.local_format.specs.Tag.{evr0}
 use Rattle.local_format.specs.Text.{sectionField, textAt}
@@ -20,12 +22,14 @@ use Rattle.evr0_section.specs.Rows.{Sized, Entry}
 use Rattle.evr0_section.specs.Head.{Counts, Head, Room, listed, countLimits, withinLimits, sizes, checkCounts}
 use Rattle.evr0_section.specs.Proof.{ProofRecord, Settled, Unowned, proofOf, zerosAt, proofRow}
 use Rattle.evr0_section.specs.Section.{Section, decodeSection}
+use Rattle.evr0_section.proofs.RowChecks.{proof-behind}
 use Rattle.evr0_section.proofs.RowsLaws.{Trace, trace}
 use Rattle.evr0_section.proofs.RowsLaws as rows-laws
 use Rattle.evidence_output.specs.Decimal.{decimal}
-use Rattle.evidence_output.specs.Output.{spaced, line, proofLine, proofLines, headLine, printed, enough}
-use Rattle.evidence_output.proofs.AcceptedLaws.{payloadTo, accepted}
-use Rattle.evidence_output.proofs.ListedLaws.{row-proof}
+use Rattle.evidence_output.specs.Output.{spaced, line, proofLine, proofLines, headLine, printed, refusedWord, tooLong, enough, outputOf}
+use Rattle.evr0_read.proofs.AcceptedLaws.{payloadTo, accepted}
+use Rattle.evidence_output.proofs.Enough.{refused-upto-29}
+use Rattle.evidence_output.proofs.OffsetLaws.{offset-within}
 use Rattle.evidence_output.proofs.DecimalLaws.{decimal-length}
 
 -- ---- A line
@@ -94,8 +98,8 @@ module _ (rules : List Rule) (counts : Counts) (p : List ℕ) (bytes : Bytes p) 
   lines-length rows-laws.none ds = omega arith
   lines-length (rows-laws.more r e w) no-depths = omega arith
   lines-length (rows-laws.more {at = at} {state = u} r e w) (depth-and {d} h ds) =
-      let q = row-proof rules counts u (drop at p) e in
-      let l = rw (q .2) at (proof-short (drop at p) (drop-bytes at p bytes) (q .0) (q .1) d h) in
+      let b = proof-behind rules counts u (drop at p) r e in
+      let l = rw (← b .item) at (proof-short (drop at p) (drop-bytes at p bytes) (b .proof) (b .read) d h) in
       rw length-append (omega (arith, l, lines-length w ds))
 
 -- ---- The depths
@@ -141,9 +145,18 @@ head-line-length c cursor h k =
     line-length evr0 (also {n = c .propositions} (omega arith) (also {n = c .proofs} (omega arith) (also {n = c .witnesses} (omega arith)
     (also {n = c .parents} (omega arith) (also {n = cursor} (omega arith) none)))))
 
-proofs-few : (c : Counts) → sizes c 15 35 84 4 ≤ 65536 → c .proofs ≤ 1872
+pub proofs-few : (c : Counts) → sizes c 15 35 84 4 ≤ 65536 → c .proofs ≤ 1872
 unfolding sizes
 proofs-few c h = omega arith
+
+-- no input of 65,536 bytes has more
+pub records-few : (s : List ℕ) (cursor : ℕ) {d : Section} → length s ≤ 65536 → decodeSection enough s cursor ≡ ok d → sizes (d .tables .head .counts) 15 35 84 4 ≤ 65536
+unfolding decodeSection
+records-few s cursor {d} l e =
+    let a = accepted fourRules enough s cursor e in
+    let p = payloadTo fourRules enough s cursor (d .cursor) in
+    let short : length p ≤ length s = simp (length-take, length-drop) (omega arith) in
+    omega (arith, counts-few enough p (d .tables .head) (a .tables .counts))
 
 -- a buffer for any accepted input: 60 bytes for the first line and 55 for each proof
 pub accepted-length : (s : List ℕ) (cursor : ℕ) (d : Section) → length s ≤ 65536 → Bytes s → decodeSection enough s cursor ≡ ok d → length (printed (ok d)) ≤ 103020
@@ -152,8 +165,26 @@ accepted-length s cursor d l bytes e =
     let a = accepted fourRules enough s cursor e in
     let c = d .tables .head .counts in
     let p = payloadTo fourRules enough s cursor (d .cursor) in
-    let short : length p ≤ length s = simp (length-take, length-drop) (omega arith) in
-    let few : sizes c 15 35 84 4 ≤ 65536 = omega (arith, counts-few enough p (d .tables .head) (a .tables .counts)) in
+    let few : sizes c 15 35 84 4 ≤ 65536 = records-few s cursor l e in
     let lines = lines-length fourRules c p (take-bytes (d .cursor - (cursor + 8)) (drop (cursor + 8) s) (drop-bytes (cursor + 8) s bytes))
     (trace (proofRow fourRules c) p _ _ _ (d .tables .proofs) (a .tables .proofs)) (depths-upto _ _ _ _ no-depths (a .depths)) in
     rw length-append (omega (arith, a .end, head-line-length c (d .cursor) few (omega (arith, a .end)), lines, proofs-few c few))
+
+-- ---- Any input
+
+refused-length : (r : Refusal) → r .number ≤ 29 → r .offset ≤ 65544 → length (printed (refused r)) ≤ 30
+unfolding printed
+refused-length r a b = line-length refusedWord (also {n = r .number} (omega arith) (also {n = r .offset} (omega arith) none))
+
+printed-length : (s : List ℕ) → length s ≤ 65536 → Bytes s → (x : Out Section) → decodeSection enough s 0 ≡ x → length (printed x) ≤ 103020
+printed-length s l bytes (ok d) e = accepted-length s 0 d l bytes e
+printed-length s l bytes (refused r) e = omega (arith, refused-length r (refused-upto-29 s 0 l e) (omega (arith, offset-within enough s 0 e)))
+
+-- so long a buffer serves for any input
+pub output-length : (s : List ℕ) → Bytes s → length (outputOf s) ≤ 103020
+unfolding outputOf line
+output-length s bytes = go (leb (length s) 65536) refl
+  where
+    go : (t : Bool) → leb (length s) 65536 ≡ t → length (cond t (printed (decodeSection enough s 0)) (line tooLong [])) ≤ 103020
+    go true e = printed-length s (leb-true (length s) 65536 e) bytes (decodeSection enough s 0) refl
+    go false e = omega (arith, line-length tooLong none)

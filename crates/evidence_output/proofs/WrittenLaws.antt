@@ -8,8 +8,8 @@ use native.Mathlib.Omega.{arith}
 use native.Mathlib.Nat.{add-zero, add-suc, suc-add}
 use lib.Dec.{ltb}
 use borrow.Author.Tests.{ltb-true, ltb-false}
-use lib.ListN.{length, length-append}
-use lib.Seq.{sets, length-sets, set-out}
+use lib.ListN.{length, take, length-append}
+use lib.Seq.{sets, length-sets, sets-eq, set-out, take-append-seam}
 use Rattle.evidence_output.specs.Written.{Written}
 
 sets-append : (s : List ℕ) (at : ℕ) (xs ys : List ℕ) → sets s at (xs ++ ys) ≡ sets (sets s at xs) (at + length xs) ys
@@ -47,3 +47,14 @@ written-append {s} {t} {u} {at} {n} {m} {xs} {ys} v w =
           ∙ ap (λ (x : List ℕ). sets x (at + length xs) ys) e ∙ sym (sets-append s at xs ys);
       place = rw length-append (omega (arith, v .place, w .place));
     }
+
+-- written whole where the list is long enough
+pub written-whole : {s t : List ℕ} {n : ℕ} {xs : List ℕ} → Written s 0 xs t n → length xs ≤ length s → take n t ≡ xs
+written-whole {s} {t} {n} {xs} w h =
+    let e : n ≡ length xs = omega (arith, w .place) in
+    let l : 0 + length xs ≤ length s = omega arith in
+    rw (e, w .holds, sets-eq xs s 0 l) (take-append-seam xs _)
+
+-- the place after the last byte is within the list
+pub written-within : {s t : List ℕ} {n : ℕ} {xs : List ℕ} → Written s 0 xs t n → n ≤ length t
+written-within w = omega (arith, w .place, written-length w)

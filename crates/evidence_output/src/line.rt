@@ -1,12 +1,13 @@
 // The lines that `evidence` prints.
 ghost use mathlib.Core.List.{[], _∷_};
-ghost use Rattle.local_format.specs.Tag.{evr0};
+ghost use Rattle.evr0_head.specs.Maps.{countsOut};
 ghost use Rattle.evidence_output.specs.Decimal.{decimal};
-ghost use Rattle.evidence_output.specs.Output.{spaced, line, tooLong, refusedWord};
+ghost use Rattle.evidence_output.specs.Output.{spaced, line, tooLong, refusedWord, headLine};
 ghost use Rattle.evidence_output.specs.Written.{Written};
 use crate::decimal::put_decimal;
 use crate::write::put;
 use crate::write::put_bytes;
+use evr0_head::counts::Counts;
 
 // A number after a space.
 fn put_number(out: &mut [u8], at: usize, n: usize) -> usize
@@ -42,19 +43,18 @@ pub fn put_refused(out: &mut [u8], number: usize, offset: usize) -> usize
     put(out, end, b'\n')
 }
 
-// The tag, the four counts and the cursor.
-pub fn put_head(
-    out: &mut [u8],
-    propositions: usize,
-    proofs: usize,
-    witnesses: usize,
-    parents: usize,
-    cursor: usize,
-) -> usize
-    ensures { λ r. ⌜ Written (now (out .entry)) 0 (line evr0 (propositions ∷ proofs ∷ witnesses ∷ parents ∷ cursor ∷ [])) (now (out .exit)) r ⌝ }
+pub fn put_head(out: &mut [u8], counts: Counts, cursor: usize) -> usize
+    ensures { λ r. ⌜ Written (now (out .entry)) 0 (headLine (countsOut counts) cursor) (now (out .exit)) r ⌝ }
 {
     let counts_at = put_bytes(out, 0, b"EVR0");
-    let cursor_at = put_four(out, counts_at, propositions, proofs, witnesses, parents);
+    let cursor_at = put_four(
+        out,
+        counts_at,
+        counts.propositions,
+        counts.proofs,
+        counts.witnesses,
+        counts.parents,
+    );
     let end = put_number(out, cursor_at, cursor);
     put(out, end, b'\n')
 }

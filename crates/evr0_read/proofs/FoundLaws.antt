@@ -9,7 +9,7 @@ use Rattle.local_format.proofs.OutLaws.{never, ok-same}
 use Rattle.local_format.specs.Number.{numbered}
 use Rattle.evr0_section.specs.Rows.{Row, Entry}
 use Rattle.evr0_section.proofs.RowsLaws.{Trace, none, more}
-use Rattle.evr0.specs.Answer.{startsOf}
+use Rattle.evr0.specs.Maps.{startsOf}
 
 pub not-found : {A : Type 0} (i : ℕ) (es : List (Entry A)) → length es ≤ i → numbered i es ≡ refuse 62 0
 unfolding numbered

@@ -8,7 +8,7 @@ use borrow.Author.Tests.{lt-ltb}
 use Rattle.local_format.specs.Refusal.{Refusal}
 use Rattle.local_format.specs.Out.{ok, refused}
 use Rattle.local_format.specs.Field.{le, fieldAt, whole}
-use Rattle.local_format.specs.Text.{bytesAt, sectionField}
+use Rattle.local_format.specs.Text.{sectionField}
 use Rattle.local_format.proofs.OutLaws.{never, ok-same, bind-ok}
 use Rattle.local_format.proofs.FieldLaws.{field-ok, is-whole, le-drop}
 use Rattle.derivation.specs.Rule.{Rule, fourRules}
@@ -19,12 +19,13 @@ use Rattle.derivation.proofs.Demand.{walks-lead}
 use Rattle.derivation.proofs.Owners.{sum-mono}
 use Rattle.derivation.proofs.Rules.{four-shaped}
 use Rattle.evr0_section.specs.Rows.{Sized, Row}
-use Rattle.evr0_section.specs.Proof.{ProofRecord, Settled, Unowned, proofOf, checkProof, proofRow}
+use Rattle.evr0_section.specs.Proof.{ProofRecord, Settled, proofRow}
 use Rattle.evr0_section.specs.Witness.{parentRow}
 use Rattle.evr0_section.specs.Section.{Section, proofItem, parentItem, sectionOf}
+use Rattle.evr0_section.proofs.RowChecks.{proof-behind}
 use Rattle.evr0_section.proofs.RowsLaws.{trace, trace-length}
 use Rattle.evr0_section.proofs.CheckedTables.{Steps, steps, tables-checked}
-use Rattle.evr0.specs.Answer.{startsOf}
+use Rattle.evr0.specs.Maps.{startsOf}
 use Rattle.evr0_read.specs.Held.{Held, proofIn}
 use Rattle.evr0_read.proofs.FoundLaws.{Found, trace-found, found-map, fixed-start}
 
@@ -33,7 +34,7 @@ abbrev pub proofOfRecord : ProofRecord → Rule → Proof
 proofOfRecord r rule = proofItem (record { start = 0; item = record { proof = r; rule = rule } })
 
 -- a parent cell has 4 bytes, which are its number
-parent-cell : (u : Unit {0}) (s : List ℕ) (r : Row ℕ (Unit {0})) → parentRow u s ≡ ok r → (r .size ≡ 4) × (r .item ≡ le 4 s 0) × (4 ≤ length s)
+pub parent-cell : (u : Unit {0}) (s : List ℕ) (r : Row ℕ (Unit {0})) → parentRow u s ≡ ok r → (r .size ≡ 4) × (r .item ≡ le 4 s 0) × (4 ≤ length s)
 unfolding parentRow
 parent-cell u s r e =
     let g = bind-ok (sectionField 4 s 0) _ e in
@@ -59,18 +60,17 @@ module _ (p starts : List ℕ) (d : Section) (held : Held p starts d) where
   -- the record with a number is that proof of the section
   held-proof : (k : ℕ) → k < length starts
       → (q : Sized ProofRecord) × (rule : Rule) × (proofIn p starts k ≡ ok q) × (proofAt (sectionOf (d .tables)) k ≡ proofOfRecord (q .item) rule)
-  unfolding proofIn proofAt sectionOf proofRow
+  unfolding proofIn proofAt sectionOf
   held-proof k h =
       let es = d .tables .proofs .entries in
       let f = proof-found k h in
       let s = drop (getD (startsOf es) k 0) p in
-      let q = bind-ok (proofOf s) _ (f .reads) in
-      let r = bind-ok (checkProof fourRules (d .tables .head .counts) (f .state) (bytesAt s (q .0 .item .rule .start) (q .0 .item .rule .len)) (q .0 .item)) _ (q .2) in
-      let same : q .0 .item ≡ f .entry .item .proof = ap (λ (x : Row Settled Unowned). x .item .proof) (ok-same (r .2)) ∙ ap (λ (x : Settled). x .proof) (f .item) in
+      let b = proof-behind fourRules (d .tables .head .counts) (f .state) s (f .read) (f .reads) in
+      let same : b .proof .item ≡ f .entry .item .proof = sym (b .item) ∙ ap (λ (x : Settled). x .proof) (f .item) in
       let start : getD starts k 0 ≡ getD (startsOf es) k 0 = ap (λ (x : List ℕ). getD x k 0) (held .at) in (
-        q .0,
+        b .proof,
         f .entry .item .rule,
-        rw (lt-ltb k (length starts) h, start) (q .1),
+        rw (lt-ltb k (length starts) h, start) (b .read),
         found-map proofItem noProof es k (f .found) ∙ ap (λ (x : ProofRecord). proofOfRecord x (f .entry .item .rule)) (sym same),
       )
 

@@ -1,5 +1,5 @@
 -- A record read at its start is the entry with its number, and 62 is answered exactly where there is none: one law for the four tables.
-use Prim.Native.Nat.{ℕ, _+_, _-_, _*_, _≤_, _<_}
+use Prim.Native.Nat.{ℕ, _+_, _-_, _*_, _<_}
 use mathlib.Core.Path.{_≡_, refl, sym, ap, ap₂, _∙_}
 use mathlib.Core.Bool.{Bool, true, false}
 use mathlib.Core.List.{List}
@@ -18,12 +18,13 @@ use Rattle.evr0_section.specs.Proof.{proofOf, proofRow}
 use Rattle.evr0_section.specs.Witness.{WitnessRecord, witnessOf, witnessRow, parentRow}
 use Rattle.evr0_section.specs.Section.{Tables, tablesOf}
 use Rattle.evr0_section.proofs.RowChecks.{proof-behind, witness-behind}
-use Rattle.evr0_section.proofs.RecordLaws.{witness-lies, parent-lies}
+use Rattle.evr0_section.proofs.RecordLaws.{witness-lies}
 use Rattle.evr0_section.proofs.CheckedTables.{Steps, steps}
 use Rattle.evr0_section.proofs.RowsLaws.{Trace, trace, trace-length}
-use Rattle.evr0.specs.Answer.{startsOf}
+use Rattle.evr0.specs.Maps.{startsOf}
 use Rattle.evr0_read.specs.Entry.{shown, shownProposition, shownProof, placedProposition, placedProof, placedWitness, placedParent, entryAt}
-use Rattle.evr0_read.proofs.FoundLaws.{Found, not-found, found-map, trace-found, fixed-size, fixed-start}
+use Rattle.evr0_read.proofs.FoundLaws.{not-found, found-map, trace-found, fixed-size, fixed-start}
+use Rattle.evr0_read.proofs.HeldLaws.{parent-cell}
 use Rattle.evr0_read.proofs.EntryLaws.{entry-none, entry-found}
 
 -- an entry as it is shown
@@ -68,7 +69,7 @@ witness-size counts w s r e =
     size ∙ witness-lies s 0 4 x read .size
 
 parent-size : (u : Unit {0}) (s : List ℕ) (r : Row ℕ (Unit {0})) → parentRow u s ≡ ok r → r .size ≡ 4
-parent-size u s r e = parent-lies s 0 u r e .1
+parent-size u s r e = parent-cell u s r e .0
 
 -- ---- The four tables
 module _ (rules : List Rule) (room : Room) (p : List ℕ) (t : Tables) (read : tablesOf rules room p ≡ ok t) where

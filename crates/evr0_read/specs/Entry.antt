@@ -8,7 +8,7 @@ use Rattle.local_format.specs.Out.{Out, ok, refuse, _>>=_}
 use Rattle.local_format.specs.Text.{Span}
 use Rattle.evr0_section.specs.Rows.{Sized, Row, Entry}
 use Rattle.evr0_section.specs.Proposition.{Proposition}
-use Rattle.evr0_section.specs.Proof.{ProofRecord}
+use Rattle.evr0_section.specs.Proof.{ProofRecord, Settled}
 use Rattle.evr0_section.specs.Witness.{WitnessRecord}
 
 -- a text of a record that starts at a place of the payload
@@ -38,6 +38,9 @@ shownProposition start r = withKind r (placed start (r .kind))
 
 abbrev pub shownProof : ℕ → ProofRecord → ProofRecord
 shownProof start r = withRule r (placed start (r .rule))
+
+abbrev pub shownSettled : ℕ → Settled → ProofRecord
+shownSettled start s = shownProof start (s .proof)
 
 abbrev pub shown : {A B : Type 0} → (ℕ → A → B) → Entry A → Entry B
 shown f e = record { start = e .start; item = f (e .start) (e .item) }

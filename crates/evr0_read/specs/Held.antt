@@ -13,7 +13,7 @@ use Rattle.evr0_section.specs.Rows.{Sized}
 use Rattle.evr0_section.specs.Head.{Room}
 use Rattle.evr0_section.specs.Proof.{ProofRecord, proofOf}
 use Rattle.evr0_section.specs.Section.{Section, sectionOf, tablesOf}
-use Rattle.evr0.specs.Answer.{startsOf}
+use Rattle.evr0.specs.Maps.{startsOf}
 
 -- the payload p holds the tables of the section d, whose proof records start at `starts`
 pub record Held (p starts : List ℕ) (d : Section) : Type 0 where

@@ -1,4 +1,5 @@
 pub mod Ask
+pub mod Asked
 pub mod Held
 pub mod Entry
 pub mod Maps

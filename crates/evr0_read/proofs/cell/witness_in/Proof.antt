@@ -1,10 +1,10 @@
 -- Meets its contract: the witness is read at its place before the end, if there is one with the number.
 use borrow.Author.Needs.{needs}
 use Prim.Native.Nat.{ℕ, _+_, _-_, _*_}
-use mathlib.Core.Path.{_≡_, refl, sym, ap, _∙_}
+use mathlib.Core.Path.{_≡_, refl, ap, _∙_}
 use mathlib.Core.List.{List}
 use lib.ListN.{length, drop}
-use Rattle.local_format.specs.Out.{Out, ok, refused}
+use Rattle.local_format.specs.Out.{Out, refused}
 use Rattle.local_format.proofs.OutLaws.{told}
 use Rattle.evr0_section.specs.Rows.{Sized, Entry}
 use Rattle.evr0_section.specs.Witness.{WitnessRecord, witnessOf}

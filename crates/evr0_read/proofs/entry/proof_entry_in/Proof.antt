@@ -2,9 +2,8 @@
 use borrow.Author.Needs.{needs}
 use Prim.Native.Nat.{ℕ}
 use mathlib.Core.Path.{_≡_, ap, _∙_}
-use mathlib.Core.List.{List}
 use lib.ListN.{length, getD, drop}
-use Rattle.local_format.specs.Out.{Out, ok, refused}
+use Rattle.local_format.specs.Out.{Out, refused}
 use Rattle.local_format.proofs.OutLaws.{told}
 use Rattle.evr0_section.specs.Rows.{Entry}
 use Rattle.evr0_section.specs.Proof.{ProofRecord, proofOf}

@@ -1,0 +1,18 @@
+// Prints what `evidence` prints for a section from standard input, for no bytes, and for one byte more than it takes.
+const INPUT: usize = 65537;
+
+const OUTPUT: usize = 103020;
+
+fn print(input: &[u8]) {
+    let mut output = [0u8; OUTPUT];
+    let written = evidence_output::evidence(input, &mut output);
+    io::write_all(libc::STDOUT_FILENO, &output[..written]);
+}
+
+fn main() {
+    let mut input = [0u8; INPUT];
+    let read = io::read_full(libc::STDIN_FILENO, &mut input);
+    print(&input[..read]);
+    print(&input[..0]);
+    print(&input);
+}
