@@ -21,9 +21,9 @@ pub fn rows() -> Vec<Row> {
     ];
     let mut rows = Vec::new();
     for (name, section) in shapes {
-        for (length, room) in [("fitted", 40_000), ("of 65,536", FULL)] {
+        for (length, rooms) in [("fitted", [1, 40_000, 40_000]), ("of 65,536", [FULL; 3])] {
             let name = format!("section, 40,000 proofs, {name}, tables {length}");
-            rows.push(row(name, &[section.bytes()], [room.min(FULL), room, room]));
+            rows.push(row(name, &[section.bytes()], rooms));
         }
     }
     let long = shapes::many_propositions(r, 65_536, 49).bytes();
