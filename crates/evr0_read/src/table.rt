@@ -32,12 +32,7 @@ pub fn front(table: &[u64], count: usize) -> &[u64]
 }
 
 // Zeros in the lent tables where the answer is a refusal.
-pub fn settle(
-    refused: bool,
-    propositions: &mut [u64],
-    proofs: &mut [u64],
-    depths: &mut [u64],
-)
+pub fn settle(refused: bool, propositions: &mut [u64], proofs: &mut [u64], depths: &mut [u64])
     ensures { λ r. ⌜ now (propositions .exit) ≡ settled refused (now (propositions .entry)) ⌝ }
     ensures { λ r. ⌜ now (proofs .exit) ≡ settled refused (now (proofs .entry)) ⌝ }
     ensures { λ r. ⌜ now (depths .exit) ≡ settled refused (now (depths .entry)) ⌝ }
