@@ -89,6 +89,7 @@ module _ (rules : List Rule) (room : Room) (s : List ℕ) (cursor : ℕ) where
   pub record Accepted (d : Section) : Type 0 where
     pub start : cursor + 8 ≤ d .cursor
     pub end : d .cursor ≤ length s
+    pub read : tablesOf rules room (payloadTo (d .cursor)) ≡ ok (d .tables)
     pub tables : Steps rules room (payloadTo (d .cursor)) (d .tables)
     pub counts : Counted room (d .tables .head .counts)
     pub proofs : length (d .tables .proofs .entries) ≡ d .tables .head .counts .proofs
@@ -113,12 +114,14 @@ module _ (rules : List Rule) (room : Room) (s : List ℕ) (cursor : ℕ) where
       let g = section-in p (f .0 .start + f .0 .len) (moved-ok (f .0 .start) (sectionIn rules room p (f .0 .start + f .0 .len)) (f .2)) in
       let len : d .cursor - (cursor + 8) ≡ f .0 .len = omega (arith, g .2, place .0) in
       let same : p ≡ payloadTo (d .cursor) = rw (len, ← place .0) in
-      let t : Steps rules room (payloadTo (d .cursor)) (d .tables) = steps rules room (payloadTo (d .cursor)) (d .tables) (rw same at (g .0)) in
+      let read : tablesOf rules room (payloadTo (d .cursor)) ≡ ok (d .tables) = rw same at (g .0) in
+      let t : Steps rules room (payloadTo (d .cursor)) (d .tables) = steps rules room (payloadTo (d .cursor)) (d .tables) read in
       let n : length (d .tables .proofs .entries) ≡ d .tables .head .counts .proofs =
       trace-length (proofRow rules (d .tables .head .counts)) (payloadTo (d .cursor)) (trace (proofRow rules (d .tables .head .counts)) (payloadTo (d .cursor)) _ _ _ (d .tables .proofs) (t .proofs)) in
       record {
         start = omega (arith, g .2, place .0);
         end = omega (arith, g .2, place .1);
+        read = read;
         tables = t;
         counts = counted room (payloadTo (d .cursor)) (d .tables .head) (t .counts);
         proofs = n;

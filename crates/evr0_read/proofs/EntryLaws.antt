@@ -86,3 +86,7 @@ pub refused-beside : {b : Beside (Sized WitnessRecord)} (x : Out (Sized WitnessR
 refused-beside (ok w) e h = absurd (never (sym h))
 refused-beside (refused q) {r} e h =
     ap₂ (refusedWith r) (ap (λ (c : Beside (Sized WitnessRecord)). c .first) e) (ap (λ (c : Beside (Sized WitnessRecord)). c .second) e)
+
+pub beside-is : (x : Out (Entry WitnessRecord)) → witnessBeside x .answer ≡ x
+beside-is (ok w) = refl
+beside-is (refused r) = refl

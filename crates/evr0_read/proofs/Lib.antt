@@ -6,3 +6,4 @@ pub mod AuthorisedLaws
 pub mod EntryLaws
 pub mod NumberedLaws
 pub mod AskLaws
+pub mod NumberLaws

@@ -15,6 +15,9 @@ use evr0_records::witness::Witness;
 use evr0_records::witness::WitnessAnswer;
 use local_format::refusal::Refusal;
 
+// The most witnesses, and the most parents, of an accepted section.
+const MAX_RECORDS: usize = 262144;
+
 pub enum WitnessFound {
     Found { start: usize, witness: Witness },
     Refused(Refusal),
@@ -50,9 +53,14 @@ pub fn no_witness(refusal: Refusal) -> WitnessEntry
 }
 
 pub fn witness_in(payload: &[u8], counts: Counts, number: WitnessNumber) -> WitnessEntry
-    requires { ⌜ (counts .witnesses ≤ 262144) × (counts .parents ≤ 262144) ⌝ }
-    ensures { λ r. ⌜ witnessEntryOut r ≡ witnessBeside (entryAt (witnessOf 4) placedWitness (now (payload .entry)) (counts .witnesses) (length (now (payload .entry)) - (84 * (counts .witnesses - number .0) + 4 * counts .parents)) (number .0)) ⌝ }
+    ensures { λ r. ⌜ (counts .witnesses ≤ 262144 → counts .parents ≤ 262144 → witnessEntryOut r ≡ witnessBeside (entryAt (witnessOf 4) placedWitness (now (payload .entry)) (counts .witnesses) (length (now (payload .entry)) - (84 * (counts .witnesses - number .0) + 4 * counts .parents)) (number .0))) ⌝ }
 {
+    if MAX_RECORDS < counts.witnesses {
+        return no_witness(local_format::refusal::refuse(62, 0));
+    }
+    if MAX_RECORDS < counts.parents {
+        return no_witness(local_format::refusal::refuse(62, 0));
+    }
     let i = number.place();
     if counts.witnesses <= i {
         return no_witness(local_format::refusal::refuse(62, 0));
@@ -80,9 +88,11 @@ pub fn witness_in(payload: &[u8], counts: Counts, number: WitnessNumber) -> Witn
 }
 
 pub fn parent_in(payload: &[u8], counts: Counts, number: u32) -> ParentEntry
-    requires { ⌜ counts .parents ≤ 262144 ⌝ }
-    ensures { λ r. ⌜ parentEntryOut r ≡ entryAt (parentRow tt) placedParent (now (payload .entry)) (counts .parents) (length (now (payload .entry)) - 4 * (counts .parents - number)) number ⌝ }
+    ensures { λ r. ⌜ (counts .parents ≤ 262144 → parentEntryOut r ≡ entryAt (parentRow tt) placedParent (now (payload .entry)) (counts .parents) (length (now (payload .entry)) - 4 * (counts .parents - number)) number) ⌝ }
 {
+    if MAX_RECORDS < counts.parents {
+        return ParentEntry::Refused(local_format::refusal::refuse(62, 0));
+    }
     let i = evr0_head::number::wide(number);
     if counts.parents <= i {
         return ParentEntry::Refused(local_format::refusal::refuse(62, 0));

@@ -1,0 +1,40 @@
+-- Meets its contract: the record with the number, and the lent tables after that answer.
+use borrow.Author.Needs.{needs}
+use mathlib.Core.Path.{refl, ap, _∙_}
+use Rattle.local_format.specs.Number.{numbered}
+use Rattle.evr0_read.specs.Ask.{proofNumber}
+use Rattle.evr0_read.specs.Asked.{decodeAnew, isRefused}
+use Rattle.evr0_read.specs.Entry.{shown, shownSettled}
+use Rattle.evr0_read.proofs.AskLaws.{lent-settled}
+use Rattle.evr0_read.proofs.ask.proof_number.Statement.{statement}
+use Rattle.evr0_read.proofs.ask.proof_number.Tie as tie
+
+returns : tie.Need-returns
+unfolding proofNumber
+returns c =
+    let w = c .before .before .before .before .before .before in
+    let no = w .before .before .before .before in
+    let of = no .before in
+    let dec = of .before .before .before .before .before .before .before .before in
+    let d = dec .decode-evr0-section in
+    let a = dec .before .before .before .before .before .before .before .before .args in
+    let x = decodeAnew (a .bytes .now) (a .cursor) (a .propositions .now) (a .proofs .now) (a .depths .now) in
+    let value = of .proof-of .ensures x _ (record { room = _; is = refl; answered = d .ensures .0 }) (d .ensures .1 .1 .0) in (
+      value,
+      lent-settled (shown shownSettled) (λ y. numbered (a .number .0) (y .tables .proofs .entries)) x _ _ _ (no .no-proof .ensures ∙ ap isRefused value)
+      (d .ensures .1 .0) (d .ensures .1 .1 .0) (d .ensures .1 .1 .1 .0) (d .kept .1 .1 .0) (d .kept .1 .1 .1 .0) (d .kept .1 .1 .1 .1 .0)
+      (w .settle .ensures .0) (w .settle .ensures .1 .0) (w .settle .ensures .1 .1),
+    )
+
+pub proof-number-spec : {M : Type 1} → statement M
+proof-number-spec =
+    tie.close
+    (tie.spec
+    (λ c κs. search needs)
+    (λ c κs. search needs)
+    (λ c κs. search needs)
+    (λ c κs. search needs)
+    (λ c. search needs)
+    (λ c. search needs)
+    (λ c. search needs)
+    returns)
