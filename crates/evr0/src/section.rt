@@ -173,7 +173,7 @@ fn decode_at(
         Outcome::Refused(refusal) => {
             lent_table::clear(propositions);
             lent_table::clear(proofs);
-            lent_table::clear(depths);
+            lent_table::clear(depths); // of a refused payload
             refused_section(crate::tables::moved(refusal, start), cursor)
         }
         Outcome::Accepted(given) => {

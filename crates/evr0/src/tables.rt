@@ -51,7 +51,7 @@ pub fn read_propositions(payload: &[u8], count: usize, at: usize, starts: &mut [
         let row = crate::rows::next_proposition(payload, place, prior);
         match row {
             PropositionRead::Read { proposition, size } => {
-                starts[i] = place as u64;
+                starts[i] = place as u64; // of a proposition
                 prior = Before::After {
                     start: place,
                     proposition,
