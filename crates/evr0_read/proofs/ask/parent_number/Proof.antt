@@ -21,8 +21,8 @@ returns c =
     let value = of .parent-of .ensures x (record { room = _; is = refl; answered = d .ensures .0 }) in (
       value,
       lent-settled (λ e. e) (λ y. numbered (a .number) (y .tables .parents .entries)) x _ _ _ (no .no-parent .ensures ∙ ap isRefused value)
-      (d .ensures .1 .0) (d .ensures .1 .1 .0) (d .ensures .1 .1 .1 .0) (d .kept .1 .1 .0) (d .kept .1 .1 .1 .0) (d .kept .1 .1 .1 .1 .0)
-      (w .settle .ensures .0) (w .settle .ensures .1 .0) (w .settle .ensures .1 .1),
+          (d .ensures .1 .0) (d .ensures .1 .1 .0) (d .ensures .1 .1 .1 .0) (d .kept .1 .1 .0) (d .kept .1 .1 .1 .0) (d .kept .1 .1 .1 .1 .0)
+          (w .settle .ensures .0) (w .settle .ensures .1 .0) (w .settle .ensures .1 .1),
     )
 
 pub parent-number-spec : {M : Type 1} → statement M

@@ -22,8 +22,8 @@ returns c =
     let value = of .proof-of .ensures x _ (record { room = _; is = refl; answered = d .ensures .0 }) (d .ensures .1 .1 .0) in (
       value,
       lent-settled (shown shownSettled) (λ y. numbered (a .number .0) (y .tables .proofs .entries)) x _ _ _ (no .no-proof .ensures ∙ ap isRefused value)
-      (d .ensures .1 .0) (d .ensures .1 .1 .0) (d .ensures .1 .1 .1 .0) (d .kept .1 .1 .0) (d .kept .1 .1 .1 .0) (d .kept .1 .1 .1 .1 .0)
-      (w .settle .ensures .0) (w .settle .ensures .1 .0) (w .settle .ensures .1 .1),
+          (d .ensures .1 .0) (d .ensures .1 .1 .0) (d .ensures .1 .1 .1 .0) (d .kept .1 .1 .0) (d .kept .1 .1 .1 .0) (d .kept .1 .1 .1 .1 .0)
+          (w .settle .ensures .0) (w .settle .ensures .1 .0) (w .settle .ensures .1 .1),
     )
 
 pub proof-number-spec : {M : Type 1} → statement M

@@ -25,8 +25,8 @@ returns c =
     let value = of .witness-of .ensures x (record { room = _; is = refl; answered = d .ensures .0 }) in (
       value,
       lent-settled (λ e. e) (λ y. numbered (a .number .0) (y .tables .witnesses .entries)) x _ _ _ (no .is-no-witness .ensures ∙ ap (λ (b : Beside (Entry WitnessRecord)). isRefused (b .answer)) value ∙ ap isRefused (beside-is (valueIn (λ e. e) (witnessNumber (a .number .0) x))))
-      (d .ensures .1 .0) (d .ensures .1 .1 .0) (d .ensures .1 .1 .1 .0) (d .kept .1 .1 .0) (d .kept .1 .1 .1 .0) (d .kept .1 .1 .1 .1 .0)
-      (w .settle .ensures .0) (w .settle .ensures .1 .0) (w .settle .ensures .1 .1),
+          (d .ensures .1 .0) (d .ensures .1 .1 .0) (d .ensures .1 .1 .1 .0) (d .kept .1 .1 .0) (d .kept .1 .1 .1 .0) (d .kept .1 .1 .1 .1 .0)
+          (w .settle .ensures .0) (w .settle .ensures .1 .0) (w .settle .ensures .1 .1),
     )
 
 pub witness-number-spec : {M : Type 1} → statement M
