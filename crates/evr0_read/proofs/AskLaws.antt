@@ -92,8 +92,11 @@ module _ {A B : Type 0} (f : A → B) (pick : Section → Out A) (x : Out Sectio
   shown-chosen d (ok a) e = rw e
   shown-chosen d (refused r) e = rw e
 
+  pub picked : {d : Section} (y : Out A) → x ≡ ok d → pick d ≡ y → shownBy y ≡ valueIn f (choose pick x)
+  picked {d} y e h = shown-chosen d y h ∙ sym (ap (λ (z : Out Section). valueIn f (choose pick z)) e)
+
   pub decoded : {d : Section} → x ≡ ok d → shownBy (pick d) ≡ valueIn f (choose pick x)
-  decoded {d} e = shown-chosen d (pick d) refl ∙ sym (ap (λ (y : Out Section). valueIn f (choose pick y)) e)
+  decoded {d} e = picked (pick d) e refl
 
 -- ---- The lent tables
 pub settled-true : {b : Bool} (t : List ℕ) {t′ : List ℕ} → b ≡ true → t′ ≡ lent (length t) [] → t′ ≡ settled b t

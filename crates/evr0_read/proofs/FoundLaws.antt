@@ -17,6 +17,12 @@ not-found i [] h = refl
 not-found zero (e ∷ es) h = absurd (omega arith)
 not-found (suc i) (e ∷ es) h = not-found i es (omega arith)
 
+pub is-found : {A : Type 0} (i : ℕ) (es : List (Entry A)) → i < length es → (e : Entry A) × (numbered i es ≡ ok e)
+unfolding numbered
+is-found i [] h = absurd (omega arith)
+is-found zero (e ∷ es) h = (e, refl)
+is-found (suc i) (e ∷ es) h = is-found i es (omega arith)
+
 pub found-map : {A B : Type 0} (f : Entry A → B) (d : B) (es : List (Entry A)) (i : ℕ) {e : Entry A} → numbered i es ≡ ok e → getD (map f es) i d ≡ f e
 unfolding numbered
 found-map f d [] i e = absurd (never e)

@@ -7,3 +7,4 @@ pub mod EntryLaws
 pub mod NumberedLaws
 pub mod AskLaws
 pub mod NumberLaws
+pub mod AnswerLaws

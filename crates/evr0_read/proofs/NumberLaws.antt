@@ -1,6 +1,6 @@
 -- A record by its number of a section decoded anew: the record read at its start, for each of the four tables.
 use Prim.Native.Nat.{ℕ, _+_, _-_, _*_, _≤_}
-use mathlib.Core.Path.{_≡_, refl, sym, ap, _∙_}
+use mathlib.Core.Path.{_≡_, refl, ap, _∙_}
 use mathlib.Core.List.{List}
 use native.Mathlib.Omega.{arith}
 use lib.ListN.{length, getD, take}
@@ -21,7 +21,7 @@ use Rattle.evr0_read.specs.Ask.{propositionNumber, proofNumber, witnessN
 use Rattle.evr0_read.specs.Asked.{Decoded, valueIn}
 use Rattle.evr0_read.specs.Entry.{entryAt, shown, shownProposition, shownSettled, placedProposition, placedProof, placedWitness, placedParent}
 use Rattle.evr0_read.proofs.NumberedLaws.{shownIn, proposition-numbered, proof-numbered, witness-numbered, parent-numbered}
-use Rattle.evr0_read.proofs.AskLaws.{Told, told-of, facts, payload, payload-read, entry-front, decoded}
+use Rattle.evr0_read.proofs.AskLaws.{told-of, facts, payload, payload-read, entry-front, decoded}
 
 module _ (s : List ℕ) (cursor : ℕ) {d : answer.Answer} {x : Out Section} (decoding : Decoded s cursor d x) {a : answer.Accepted} (is : d .outcome ≡ ok a) where
   abbrev section : Section

@@ -96,7 +96,7 @@ module _ (rules : List Rule) (room : Room) (p : List ℕ) (t : Tables) (read : t
   parents-trace = trace parentRow p _ _ _ (t .parents) (tables .parents)
 
   -- the parents take the last bytes of the payload
-  parents-at : t .witnesses .next + 4 * counts .parents ≡ length p
+  pub parents-at : t .witnesses .next + 4 * counts .parents ≡ length p
   parents-at = sym (fixed-size parentRow p 4 parent-size parents-trace) ∙ tables .whole
 
   pub parent-numbered : (k : ℕ) → entryAt (parentRow tt) placedParent p (counts .parents) (length p - 4 * (counts .parents - k)) k

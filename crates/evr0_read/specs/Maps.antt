@@ -1,5 +1,6 @@
 -- From the code's structs and enums to the definitions' types.
 use Prim.Native.Nat.{ℕ}
+use mathlib.Core.Bool.{Bool}
 use mathlib.Core.List.{List}
 use Rattle.local_format.specs.Out.{Out, ok, refused}
 use Rattle.local_format.specs.Maps.{refusalOut}
@@ -21,10 +22,22 @@ use Rattle.evr0_read.specs.declared.cell.WitnessFound.the-variants as wi
 use Rattle.evr0_read.specs.declared.cell.WitnessEntry.{WitnessEntry}
 use Rattle.evr0_read.specs.declared.cell.ParentEntry as parent
 use Rattle.evr0_read.specs.declared.cell.ParentEntry.the-variants as parents
+use Rattle.evr0_read.specs.declared.down.WayDown as way
+use Rattle.evr0_read.specs.declared.down.WayDown.the-variants as ways
+use Rattle.evr0_read.specs.declared.authorised.AuthorisedAnswer as authority
+use Rattle.evr0_read.specs.declared.authorised.AuthorisedAnswer.the-variants as authorities
 
 abbrev pub downOut : down.Down → of.Down
 downOut (variant.Witness w moves) = of.witness (w .0) moves
 downOut (variant.Spent k) = of.spent (k .0)
+
+abbrev pub wayDownOut : way.WayDown → Out of.Down
+wayDownOut (ways.Answer d) = ok (downOut d)
+wayDownOut (ways.Refused r) = refused (refusalOut r)
+
+abbrev pub authorisedOut : authority.AuthorisedAnswer → Out Bool
+authorisedOut (authorities.Answer b) = ok b
+authorisedOut (authorities.Refused r) = refused (refusalOut r)
 
 abbrev pub propositionEntryOut : proposition.PropositionEntry → Out (Entry Proposition)
 propositionEntryOut (propositions.Found start r) = ok (record { start = start; item = propositionRecord r })

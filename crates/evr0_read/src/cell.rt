@@ -42,6 +42,16 @@ fn before_end(len: usize, bytes: usize) -> usize
     if bytes <= len { len - bytes } else { 0 }
 }
 
+// Where the parent cells start.
+pub fn parents_at(payload: &[u8], counts: Counts) -> usize
+    ensures { λ r. ⌜ (counts .parents ≤ 262144 → r ≡ length (now (payload .entry)) - 4 * counts .parents) ⌝ }
+{
+    if MAX_RECORDS < counts.parents {
+        return 0;
+    }
+    before_end(payload.len(), 4 * counts.parents)
+}
+
 pub fn no_witness(refusal: Refusal) -> WitnessEntry
     ensures { λ r. ⌜ witnessEntryOut r ≡ witnessBeside (refused (refusalOut refusal)) ⌝ }
 {

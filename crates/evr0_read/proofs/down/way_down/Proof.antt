@@ -1,0 +1,39 @@
+-- Meets its contract: what is asked of the section, and the lent tables after that answer.
+use borrow.Author.Needs.{needs}
+use mathlib.Core.Path.{refl, ap, _∙_}
+use Rattle.evr0_read.specs.Ask.{wayDownFrom}
+use Rattle.evr0_read.specs.Asked.{decodeAnew, isRefused}
+use Rattle.evr0_read.proofs.AskLaws.{lent-settled}
+use Rattle.evr0_read.proofs.AnswerLaws.{wayFrom}
+use Rattle.evr0_read.proofs.down.way_down.Statement.{statement}
+use Rattle.evr0_read.proofs.down.way_down.Tie as tie
+
+returns : tie.Need-returns
+unfolding wayDownFrom
+returns c =
+    let w = c .before .before .before .before .before .before in
+    let no = w .before .before .before .before in
+    let of = no .before in
+    let dec = of .before .before .before .before .before .before .before .before in
+    let d = dec .decode-evr0-section in
+    let a = dec .before .before .before .before .before .before .before .before .args in
+    let x = decodeAnew (a .bytes .now) (a .cursor) (a .propositions .now) (a .proofs .now) (a .depths .now) in
+    let value = of .way-down-of .ensures x _ (record { room = _; is = refl; answered = d .ensures .0 }) (d .ensures .1 .1 .0) in (
+      value,
+      lent-settled (λ v. v) (wayFrom (a .limit) (a .from .0)) x _ _ _ (no .no-way-down .ensures ∙ ap isRefused value)
+          (d .ensures .1 .0) (d .ensures .1 .1 .0) (d .ensures .1 .1 .1 .0) (d .kept .1 .1 .0) (d .kept .1 .1 .1 .0) (d .kept .1 .1 .1 .1 .0)
+          (w .settle .ensures .0) (w .settle .ensures .1 .0) (w .settle .ensures .1 .1),
+    )
+
+pub way-down-spec : {M : Type 1} → statement M
+way-down-spec =
+    tie.close
+    (tie.spec
+    (λ c κs. search needs)
+    (λ c κs. search needs)
+    (λ c κs. search needs)
+    (λ c κs. search needs)
+    (λ c. search needs)
+    (λ c. search needs)
+    (λ c. search needs)
+    returns)
