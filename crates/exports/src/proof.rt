@@ -1,8 +1,9 @@
 // A proof of a section by number, for which the section is decoded anew, and at a place of its payload.
 ghost use mathlib.Core.Path.{_≡_};
+ghost use Rattle.evr0_section.specs.Proof.{proofOf};
 ghost use Rattle.evr0_read.specs.Ask.{proofNumber};
 ghost use Rattle.evr0_read.specs.Asked.{decodeAnew, valueIn, Lent};
-ghost use Rattle.evr0_read.specs.Entry.{shown, shownSettled};
+ghost use Rattle.evr0_read.specs.Entry.{shown, shownSettled, placedProof, recordAt};
 ghost use Rattle.evr0_read.specs.Maps.{proofEntryOut};
 ghost use Rattle.exports.specs.EntryMaps.{proofFrom};
 use crate::refusal::Refusal;
@@ -13,6 +14,7 @@ use crate::span::flat_span;
 use evr0_head::number::ProofNumber;
 use evr0_read::ask::proof_number;
 use evr0_read::entry::ProofEntry;
+use evr0_read::entry::proof_at;
 
 // Where the record starts in the payload, and its fields; or a refusal, with zeros beside it.
 #[repr(C)]
@@ -95,4 +97,11 @@ pub extern "C" fn falgnust_proof_number(
         depths,
     );
     flat_proof(entry)
+}
+
+#[no_mangle]
+pub extern "C" fn falgnust_read_proof(payload: &[u8], at: usize) -> Proof
+    ensures { λ r. ⌜ proofFrom r ≡ recordAt proofOf placedProof (now (payload .entry)) at ⌝ }
+{
+    flat_proof(proof_at(payload, at))
 }

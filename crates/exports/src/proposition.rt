@@ -1,8 +1,9 @@
 // A proposition of a section by number, for which the section is decoded anew, and at a place of its payload.
 ghost use mathlib.Core.Path.{_≡_};
+ghost use Rattle.evr0_section.specs.Proposition.{propositionOf};
 ghost use Rattle.evr0_read.specs.Ask.{propositionNumber};
 ghost use Rattle.evr0_read.specs.Asked.{decodeAnew, valueIn, Lent};
-ghost use Rattle.evr0_read.specs.Entry.{shown, shownProposition};
+ghost use Rattle.evr0_read.specs.Entry.{shown, shownProposition, placedProposition, recordAt};
 ghost use Rattle.evr0_read.specs.Maps.{propositionEntryOut};
 ghost use Rattle.exports.specs.EntryMaps.{propositionFrom};
 use crate::refusal::Refusal;
@@ -13,6 +14,7 @@ use crate::span::flat_span;
 use evr0_head::number::PropositionIndex;
 use evr0_read::ask::proposition_number;
 use evr0_read::entry::PropositionEntry;
+use evr0_read::entry::proposition_at;
 
 // Where the record starts in the payload, and its fields; or a refusal, with zeros beside it.
 #[repr(C)]
@@ -80,4 +82,11 @@ pub extern "C" fn falgnust_proposition_number(
         depths,
     );
     flat_proposition(entry)
+}
+
+#[no_mangle]
+pub extern "C" fn falgnust_read_proposition(payload: &[u8], at: usize) -> Proposition
+    ensures { λ r. ⌜ propositionFrom r ≡ recordAt propositionOf placedProposition (now (payload .entry)) at ⌝ }
+{
+    flat_proposition(proposition_at(payload, at))
 }

@@ -1,16 +1,22 @@
 // A witness of a section by number, for which the section is decoded anew, and at a place of its payload.
 ghost use mathlib.Core.Path.{_≡_};
+ghost use Rattle.evr0_section.specs.Witness.{witnessOf};
 ghost use Rattle.evr0_read.specs.Ask.{witnessNumber};
 ghost use Rattle.evr0_read.specs.Asked.{decodeAnew, valueIn, Lent};
+ghost use Rattle.evr0_read.specs.Entry.{placedWitness, recordAt};
+ghost use Rattle.evr0_read.specs.Place.{witnessPlace};
 ghost use Rattle.evr0_read.specs.Maps.{witnessEntryOut, witnessBeside};
 ghost use Rattle.exports.specs.EntryMaps.{witnessFrom};
 use crate::refusal::Refusal;
 use crate::refusal::flat_refusal;
 use crate::refusal::no_refusal;
+use evr0_head::counts::Counts;
 use evr0_head::number::WitnessNumber;
 use evr0_read::ask::witness_number;
 use evr0_read::cell::WitnessEntry;
 use evr0_read::cell::WitnessFound;
+use evr0_read::cell::witness_at;
+use evr0_read::cell::witness_place;
 
 // Where the record starts in the payload, and its fields; or a refusal, with zeros beside it.
 #[repr(C)]
@@ -82,4 +88,30 @@ pub extern "C" fn falgnust_witness_number(
         depths,
     );
     flat_witness(entry)
+}
+
+#[no_mangle]
+pub extern "C" fn falgnust_read_witness(payload: &[u8], at: usize) -> Witness
+    ensures { λ r. ⌜ witnessFrom r ≡ witnessBeside (recordAt (witnessOf 4) placedWitness (now (payload .entry)) at) ⌝ }
+{
+    flat_witness(witness_at(payload, at))
+}
+
+// Where the witness with a number starts in the payload, of `len` bytes, of an accepted section with these counts.
+#[no_mangle]
+pub extern "C" fn falgnust_witness_place(
+    len: usize,
+    witnesses: usize,
+    parents: usize,
+    number: u32,
+) -> usize
+    ensures { λ r. ⌜ r ≡ witnessPlace len witnesses parents number ⌝ }
+{
+    let counts = Counts {
+        propositions: 0,
+        proofs: 0,
+        witnesses,
+        parents,
+    };
+    witness_place(len, counts, WitnessNumber(number))
 }
