@@ -10,7 +10,7 @@ use crate::refusal::Refusal;
 use crate::refusal::flat_refusal;
 use crate::refusal::no_refusal;
 use semcode_decode::decode::Parse;
-use semcode_decode::decode::parse_string_table_debug_and_ownership;
+use semcode_decode::decode::parse_block;
 
 // Counts, whether each tag was found, and places in the block; or a refusal, with zeros beside it.
 #[repr(C)]
@@ -80,13 +80,6 @@ pub extern "C" fn falgnust_parse_string_table_debug_and_ownership(
         lent (length (now (paths .entry)))
         (pathStarts (decodeBlock «base_offset» «header_rev» (roomsOf (now (strings .entry)) symbols (now (paths .entry))) (now (code .entry)))) ⌝ }
 {
-    let parse = parse_string_table_debug_and_ownership(
-        base_offset,
-        code,
-        header_rev,
-        symbols,
-        strings,
-        paths,
-    );
+    let parse = parse_block(base_offset, code, header_rev, symbols, strings, paths);
     flat_block(parse)
 }

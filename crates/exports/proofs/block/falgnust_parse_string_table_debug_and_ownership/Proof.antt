@@ -6,7 +6,7 @@ use Rattle.exports.proofs.block.falgnust_parse_string_table_debug_and_o
 
 returns : tie.Need-returns
 returns c =
-    let parsed = c .before .before .before .before .before .parse-string-table-debug-and-ownership .ensures in
+    let parsed = c .before .before .before .before .before .parse-block .ensures in
     (c .flat-block .ensures ∙ parsed .0, parsed .1)
 
 pub falgnust-parse-string-table-debug-and-ownership-spec : {M : Type 1} → statement M
