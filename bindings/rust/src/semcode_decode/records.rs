@@ -1,0 +1,138 @@
+//! The records of a block, each as the proved reader gives it.
+
+use super::tables::Tables;
+use super::{
+    Block, DecodedAccessPath, DecodedAccessPathComponent, DecodedBorrowActivation,
+    DecodedDebugSymbol, DecodedEvent, DecodedWriteExecution, StringTableDebugOwnershipParse,
+};
+use crate::calls;
+use crate::raw::{self, Refusal};
+
+/// A record, or why there is none.
+pub type Read<T> = Result<T, Refusal>;
+
+fn there<T>(read: Read<T>) -> T {
+    read.expect("each record of an accepted block")
+}
+
+fn accepted(accepted: bool, refusal: Refusal) -> Read<()> {
+    if accepted { Ok(()) } else { Err(refusal) }
+}
+
+impl Block<'_> {
+    /// An accepted block: every record is read at its place.
+    pub fn records(&self, block: &raw::Block, tables: &Tables) -> StringTableDebugOwnershipParse {
+        let code = self.code;
+        let mut borrowed_paths = Vec::new();
+        let mut write_paths = Vec::new();
+        for at in &tables.paths[..block.path_count] {
+            let read = calls::read_path(code, *at as usize, self.header_rev);
+            match there(self.path(read)) {
+                DecodedEvent::Borrow(path) => borrowed_paths.push(path),
+                DecodedEvent::Write(path) => write_paths.push(path),
+            }
+        }
+        StringTableDebugOwnershipParse {
+            strings: tables.strings[..block.string_count]
+                .iter()
+                .map(|at| there(self.string(calls::read_string(code, *at as usize))))
+                .collect(),
+            debug_symbols: self.symbols(block),
+            borrowed_paths,
+            write_paths,
+            has_ownership_section: block.has_ownership_section,
+            has_debug_section: block.has_debug_section,
+            string_table_end_offset: block.string_table_end_offset,
+            instr_start_offset: block.instr_start_offset,
+        }
+    }
+
+    fn symbols(&self, block: &raw::Block) -> Vec<DecodedDebugSymbol> {
+        let mut at = block.debug_symbols_start;
+        (0..block.debug_symbol_count)
+            .map(|_| {
+                let read = calls::read_debug_symbol(self.code, at);
+                at = read.next;
+                there(symbol(read))
+            })
+            .collect()
+    }
+
+    pub fn string(&self, read: raw::Text) -> Read<String> {
+        accepted(read.accepted, read.refusal)?;
+        let text = std::str::from_utf8(&self.code[read.start..read.start + read.len]);
+        Ok(text.expect("UTF-8 in an accepted string").to_owned())
+    }
+
+    /// A path with its components, which are read one after the other.
+    pub fn path(&self, read: raw::Path) -> Read<DecodedEvent> {
+        accepted(read.accepted, read.refusal)?;
+        let (kind, activation, write_execution) = event(read.event);
+        let mut at = read.components_start;
+        let components = (0..read.component_count)
+            .map(|_| {
+                let read = calls::read_component(self.code, at, self.header_rev, kind);
+                at = read.next;
+                there(component(read))
+            })
+            .collect();
+        let path = DecodedAccessPath {
+            root_symbol_id: read.root_symbol_id,
+            components,
+            activation,
+            write_execution,
+        };
+        Ok(match kind {
+            0 => DecodedEvent::Borrow(path),
+            _ => DecodedEvent::Write(path),
+        })
+    }
+}
+
+/// The kind byte, 0 for a borrow and 1 for a write, and what the event carries.
+fn event(
+    event: raw::Event,
+) -> (
+    u8,
+    Option<DecodedBorrowActivation>,
+    Option<DecodedWriteExecution>,
+) {
+    let raw::Event { event, site } = event;
+    match event {
+        0 => (0, None, None),
+        1 => (0, Some(DecodedBorrowActivation::FrameEntry), None),
+        2 => (0, Some(DecodedBorrowActivation::StoreVarSite(site)), None),
+        3 => (1, None, None),
+        4 => (1, None, Some(DecodedWriteExecution::StoreVarSite(site))),
+        5 => (1, None, Some(DecodedWriteExecution::MakeRecordSite(site))),
+        other => panic!("no event is {other}"),
+    }
+}
+
+pub fn symbol(read: raw::Symbol) -> Read<DecodedDebugSymbol> {
+    accepted(read.accepted, read.refusal)?;
+    Ok(DecodedDebugSymbol {
+        pc: read.pc,
+        line: read.line,
+        col: read.col,
+    })
+}
+
+pub fn component(read: raw::Component) -> Read<DecodedAccessPathComponent> {
+    accepted(read.accepted, read.refusal)?;
+    let raw::Parts {
+        kind,
+        first,
+        second,
+    } = read.component;
+    Ok(match kind {
+        0 => DecodedAccessPathComponent::TupleIndex(first as u16),
+        1 => DecodedAccessPathComponent::FieldSymbol(first),
+        2 => DecodedAccessPathComponent::AdtPayload {
+            variant: first,
+            index: second,
+        },
+        3 => DecodedAccessPathComponent::SequenceIndexStatic(first),
+        other => panic!("no component is {other}"),
+    })
+}
