@@ -44,8 +44,13 @@ pub extern "C" fn falgnust_authorised(
     proofs: &mut [u64],
     depths: &mut [u64],
 ) -> Authorised
-    ensures { λ r. ⌜ authorisedFrom r ≡ valueIn (λ v. v) (authorisedNumber proposition (decodeAnew (now (bytes .entry)) cursor (now (propositions .entry)) (now (proofs .entry)) (now (depths .entry)))) ⌝ }
-    ensures { λ r. ⌜ Lent (authorisedNumber proposition (decodeAnew (now (bytes .entry)) cursor (now (propositions .entry)) (now (proofs .entry)) (now (depths .entry)))) (now (propositions .entry)) (now (proofs .entry)) (now (depths .entry)) (now (propositions .exit)) (now (proofs .exit)) (now (depths .exit)) ⌝ }
+    ensures { λ r.
+        ⌜ authorisedFrom r ≡
+        valueIn (λ v. v) (authorisedNumber proposition (decodeAnew (now (bytes .entry)) cursor (now (propositions .entry)) (now (proofs .entry)) (now (depths .entry)))) ⌝ }
+    ensures { λ r.
+        ⌜ Lent (authorisedNumber proposition (decodeAnew (now (bytes .entry)) cursor (now (propositions .entry)) (now (proofs .entry)) (now (depths .entry))))
+        (now (propositions .entry)) (now (proofs .entry)) (now (depths .entry))
+        (now (propositions .exit)) (now (proofs .exit)) (now (depths .exit)) ⌝ }
 {
     let answer = authorised(
         bytes,

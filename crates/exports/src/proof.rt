@@ -85,8 +85,13 @@ pub extern "C" fn falgnust_proof_number(
     proofs: &mut [u64],
     depths: &mut [u64],
 ) -> Proof
-    ensures { λ r. ⌜ proofFrom r ≡ valueIn (shown shownSettled) (proofNumber number (decodeAnew (now (bytes .entry)) cursor (now (propositions .entry)) (now (proofs .entry)) (now (depths .entry)))) ⌝ }
-    ensures { λ r. ⌜ Lent (proofNumber number (decodeAnew (now (bytes .entry)) cursor (now (propositions .entry)) (now (proofs .entry)) (now (depths .entry)))) (now (propositions .entry)) (now (proofs .entry)) (now (depths .entry)) (now (propositions .exit)) (now (proofs .exit)) (now (depths .exit)) ⌝ }
+    ensures { λ r.
+        ⌜ proofFrom r ≡
+        valueIn (shown shownSettled) (proofNumber number (decodeAnew (now (bytes .entry)) cursor (now (propositions .entry)) (now (proofs .entry)) (now (depths .entry)))) ⌝ }
+    ensures { λ r.
+        ⌜ Lent (proofNumber number (decodeAnew (now (bytes .entry)) cursor (now (propositions .entry)) (now (proofs .entry)) (now (depths .entry))))
+        (now (propositions .entry)) (now (proofs .entry)) (now (depths .entry))
+        (now (propositions .exit)) (now (proofs .exit)) (now (depths .exit)) ⌝ }
 {
     let entry = proof_number(
         bytes,

@@ -70,8 +70,13 @@ pub extern "C" fn falgnust_proposition_number(
     proofs: &mut [u64],
     depths: &mut [u64],
 ) -> Proposition
-    ensures { λ r. ⌜ propositionFrom r ≡ valueIn (shown shownProposition) (propositionNumber number (decodeAnew (now (bytes .entry)) cursor (now (propositions .entry)) (now (proofs .entry)) (now (depths .entry)))) ⌝ }
-    ensures { λ r. ⌜ Lent (propositionNumber number (decodeAnew (now (bytes .entry)) cursor (now (propositions .entry)) (now (proofs .entry)) (now (depths .entry)))) (now (propositions .entry)) (now (proofs .entry)) (now (depths .entry)) (now (propositions .exit)) (now (proofs .exit)) (now (depths .exit)) ⌝ }
+    ensures { λ r.
+        ⌜ propositionFrom r ≡
+        valueIn (shown shownProposition) (propositionNumber number (decodeAnew (now (bytes .entry)) cursor (now (propositions .entry)) (now (proofs .entry)) (now (depths .entry)))) ⌝ }
+    ensures { λ r.
+        ⌜ Lent (propositionNumber number (decodeAnew (now (bytes .entry)) cursor (now (propositions .entry)) (now (proofs .entry)) (now (depths .entry))))
+        (now (propositions .entry)) (now (proofs .entry)) (now (depths .entry))
+        (now (propositions .exit)) (now (proofs .exit)) (now (depths .exit)) ⌝ }
 {
     let entry = proposition_number(
         bytes,

@@ -65,8 +65,13 @@ pub extern "C" fn falgnust_way_down(
     proofs: &mut [u64],
     depths: &mut [u64],
 ) -> WayDown
-    ensures { λ r. ⌜ downFrom r ≡ valueIn (λ v. v) (wayDownFrom limit from (decodeAnew (now (bytes .entry)) cursor (now (propositions .entry)) (now (proofs .entry)) (now (depths .entry)))) ⌝ }
-    ensures { λ r. ⌜ Lent (wayDownFrom limit from (decodeAnew (now (bytes .entry)) cursor (now (propositions .entry)) (now (proofs .entry)) (now (depths .entry)))) (now (propositions .entry)) (now (proofs .entry)) (now (depths .entry)) (now (propositions .exit)) (now (proofs .exit)) (now (depths .exit)) ⌝ }
+    ensures { λ r.
+        ⌜ downFrom r ≡
+        valueIn (λ v. v) (wayDownFrom limit from (decodeAnew (now (bytes .entry)) cursor (now (propositions .entry)) (now (proofs .entry)) (now (depths .entry)))) ⌝ }
+    ensures { λ r.
+        ⌜ Lent (wayDownFrom limit from (decodeAnew (now (bytes .entry)) cursor (now (propositions .entry)) (now (proofs .entry)) (now (depths .entry))))
+        (now (propositions .entry)) (now (proofs .entry)) (now (depths .entry))
+        (now (propositions .exit)) (now (proofs .exit)) (now (depths .exit)) ⌝ }
 {
     let way = way_down(
         bytes,
