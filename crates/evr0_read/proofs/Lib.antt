@@ -9,3 +9,5 @@ pub mod NumberedLaws
 pub mod AskLaws
 pub mod NumberLaws
 pub mod AnswerLaws
+pub mod Listing
+pub mod Stated

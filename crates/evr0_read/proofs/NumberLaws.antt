@@ -1,13 +1,12 @@
 -- A record by its number of a section decoded anew: the record read at its start, for each of the four tables.
 use Prim.Native.Nat.{ℕ}
-use mathlib.Core.Path.{_≡_, refl, ap, _∙_}
+use mathlib.Core.Path.{_≡_, ap, _∙_}
 use mathlib.Core.List.{List}
 use lib.ListN.{length, getD, take}
-use Rattle.local_format.specs.Out.{Out, ok, refused, _>>=_}
+use Rattle.local_format.specs.Out.{Out, ok}
 use Rattle.local_format.specs.Number.{numbered}
 use Rattle.lent_table.specs.Lent.{lent}
 use Rattle.derivation.specs.Rule.{fourRules}
-use Rattle.evr0_section.specs.Rows.{Entry}
 use Rattle.evr0_section.specs.Head.{Counts}
 use Rattle.evr0_section.specs.Proposition.{propositionOf, propositionRow}
 use Rattle.evr0_section.specs.Proof.{proofOf}
@@ -20,7 +19,7 @@ use Rattle.evr0_read.specs.Ask.{propositionNumber, proofNumber, witnessN
 use Rattle.evr0_read.specs.Asked.{Decoded, valueIn}
 use Rattle.evr0_read.specs.Entry.{entryAt, shown, shownProposition, shownSettled, placedProposition, placedProof, placedWitness, placedParent}
 use Rattle.evr0_read.specs.Place.{witnessPlace, parentPlace}
-use Rattle.evr0_read.proofs.NumberedLaws.{shownIn, proposition-numbered, proof-numbered, witness-numbered, parent-numbered}
+use Rattle.evr0_read.proofs.NumberedLaws.{as-is, proposition-numbered, proof-numbered, witness-numbered, parent-numbered}
 use Rattle.evr0_read.proofs.AskLaws.{told-of, facts, payload, payload-read, entry-front, decoded}
 
 module _ (s : List ℕ) (cursor : ℕ) {d : answer.Answer} {x : Out Section} (decoding : Decoded s cursor d x) {a : answer.Accepted} (is : d .outcome ≡ ok a) where
@@ -54,11 +53,6 @@ module _ (s : List ℕ) (cursor : ℕ) {d : answer.Answer} {x : Out Section} (de
       (ap (λ (c : Counts). c .proofs) (told .counted))
       ∙ proof-numbered fourRules (decoding .room) p (section .tables) (payload-read s cursor decoding is) k
       ∙ decoded (shown shownSettled) (λ y. numbered k (y .tables .proofs .entries)) x (told .is)
-
-  -- an entry is shown as it is
-  as-is : {A : Type 0} (y : Out (Entry A)) → shownIn (λ start w. w) y ≡ (y >>= λ e. ok e)
-  as-is (ok e) = refl
-  as-is (refused r) = refl
 
   pub witness-asked : (k : ℕ) → entryAt (witnessOf 4) placedWitness p (a .counts .witnesses) (witnessPlace (length p) (a .counts .witnesses) (a .counts .parents) k) k
       ≡ valueIn (λ e. e) (witnessNumber k x)

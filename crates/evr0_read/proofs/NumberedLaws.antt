@@ -1,5 +1,5 @@
 -- A record read at its start is the entry with its number, and 62 is answered exactly where there is none: one law for the four tables.
-use Prim.Native.Nat.{ℕ, _+_, _-_, _*_, _<_}
+use Prim.Native.Nat.{ℕ, _+_, _*_, _<_}
 use mathlib.Core.Path.{_≡_, refl, sym, ap, ap₂, _∙_}
 use mathlib.Core.Bool.{Bool, true, false}
 use mathlib.Core.List.{List}
@@ -7,7 +7,7 @@ use native.Mathlib.Omega.{arith}
 use lib.Dec.{ltb}
 use lib.ListN.{length, getD, drop}
 use borrow.Author.Tests.{ltb-true, ltb-false}
-use Rattle.local_format.specs.Out.{Out, ok, _>>=_}
+use Rattle.local_format.specs.Out.{Out, ok, refused, _>>=_}
 use Rattle.local_format.specs.Number.{numbered}
 use Rattle.local_format.proofs.OutLaws.{bind-ok, checked-ok, ok-same}
 use Rattle.derivation.specs.Rule.{Rule}
@@ -34,6 +34,11 @@ abbrev pub shownIn : {A B : Type 0} → (ℕ → A → B) → Out (Entry A) → 
 shownIn f x = do
   e ← x
   ok (shown f e)
+
+-- one that is shown as it is
+pub as-is : {A : Type 0} (y : Out (Entry A)) → shownIn (λ start w. w) y ≡ (y >>= λ e. ok e)
+as-is (ok e) = refl
+as-is (refused r) = refl
 
 module _ {A S X B : Type 0} (row : S → List ℕ → Out (Row A S)) (read : List ℕ → Out X) (place : ℕ → X → B) (f : ℕ → A → B)
     (behind : (u : S) (s : List ℕ) (r : Row A S) → row u s ≡ ok r → (x : X) × (read s ≡ ok x) × ((start : ℕ) → place start x ≡ f start (r .item)))

@@ -31,13 +31,7 @@ pub enum Down {
 }
 
 // From a proof of an accepted section, whose parent cells start at `cells`.
-pub fn down_from(
-    payload: &[u8],
-    starts: &[u64],
-    cells: usize,
-    from: ProofNumber,
-    limit: u64,
-) -> Down
+fn down_from(payload: &[u8], starts: &[u64], cells: usize, from: ProofNumber, limit: u64) -> Down
     ensures { λ r. ⌜ ((d : Section) → Held (now (payload .entry)) (now (starts .entry)) d → cells ≡ d .tables .witnesses .next → from .0 < length (now (starts .entry)) → downOut r ≡ wayDown (sectionOf (d .tables)) limit (from .0)) ⌝ }
 {
     let table = local_format::part::tail(payload, cells);

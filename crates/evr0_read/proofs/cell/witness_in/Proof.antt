@@ -1,6 +1,5 @@
 -- Meets its contract: the witness is read at its place, if there is one with the number.
 use borrow.Author.Needs.{needs}
-use Prim.Native.Nat.{ℕ}
 use mathlib.Core.Path.{ap, _∙_}
 use native.Mathlib.Omega.{arith}
 use Rattle.local_format.specs.Out.{refused}
