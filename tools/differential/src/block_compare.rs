@@ -1,5 +1,6 @@
 //! One block on both sides: the result, every entry of both lent tables, and every record.
 
+use crate::block_binding;
 use crate::block_numbers;
 use crate::tally::{Tally, hex};
 use answers::Answer;
@@ -26,6 +27,7 @@ pub fn compare(tally: &mut Tally, case: &BlockCase) {
     });
     let rooms = rooms(case);
     with_rooms(tally, case, rooms, &rust);
+    block_binding::compare(tally, case);
     if tally.inputs().is_multiple_of(8) {
         block_numbers::compare(tally, case, &rust, rooms);
     }

@@ -1,10 +1,15 @@
 //! Compares the port with the Rust on seeded inputs: kind, number and offset of each refusal, and each result and table entry.
 
+mod block_binding;
+mod block_binding_numbers;
 mod block_compare;
 mod block_numbers;
 mod blocks;
 mod fields;
+mod section_binding;
 mod section_compare;
+mod section_expected;
+mod section_numbers;
 mod sections;
 mod tally;
 mod texts;

@@ -4,7 +4,7 @@ use super::{Refusal, Text};
 
 /// A function's block.
 #[repr(C)]
-#[derive(Debug, Clone, Copy, PartialEq, Eq)]
+#[derive(Debug, Default, Clone, Copy, PartialEq, Eq)]
 pub struct Block {
     /// Whether there is a block.
     pub accepted: bool,
@@ -30,7 +30,7 @@ pub struct Block {
 
 /// A debug symbol with its own answer.
 #[repr(C)]
-#[derive(Debug, Clone, Copy, PartialEq, Eq)]
+#[derive(Debug, Default, Clone, Copy, PartialEq, Eq)]
 pub struct Symbol {
     /// Whether there is one.
     pub accepted: bool,
@@ -49,7 +49,7 @@ pub struct Symbol {
 /// What a path is about: 0 a borrow without activation, 1 on frame entry, 2 at a store site; 3 a write without execution, 4 at a store
 /// site, 5 at a record site.
 #[repr(C)]
-#[derive(Debug, Clone, Copy, PartialEq, Eq)]
+#[derive(Debug, Default, Clone, Copy, PartialEq, Eq)]
 pub struct Event {
     /// 0 to 5.
     pub event: u8,
@@ -59,7 +59,7 @@ pub struct Event {
 
 /// A path without its components.
 #[repr(C)]
-#[derive(Debug, Clone, Copy, PartialEq, Eq)]
+#[derive(Debug, Default, Clone, Copy, PartialEq, Eq)]
 pub struct Path {
     /// Whether there is one.
     pub accepted: bool,
@@ -79,7 +79,7 @@ pub struct Path {
 
 /// What a component holds: 0 a tuple index, 1 a field symbol, 2 a variant and its index, 3 a sequence index.
 #[repr(C)]
-#[derive(Debug, Clone, Copy, PartialEq, Eq)]
+#[derive(Debug, Default, Clone, Copy, PartialEq, Eq)]
 pub struct Parts {
     /// 0 to 3.
     pub kind: u8,
@@ -91,7 +91,7 @@ pub struct Parts {
 
 /// A component of a path.
 #[repr(C)]
-#[derive(Debug, Clone, Copy, PartialEq, Eq)]
+#[derive(Debug, Default, Clone, Copy, PartialEq, Eq)]
 pub struct Component {
     /// Whether there is one.
     pub accepted: bool,
