@@ -5,7 +5,7 @@ ghost use Rattle.lent_table.specs.Lent.{lent};
 ghost use Rattle.evr0.specs.Answer.{answerOf, propositionStarts, proofStarts, proofDepths};
 ghost use Rattle.evr0.specs.AnswerMaps.{answerOut};
 ghost use Rattle.evr0_read.specs.Asked.{decodeAnew};
-ghost use Rattle.exports.specs.SectionMaps.{sectionFrom};
+ghost use Rattle.exports.specs.SectionMaps.{flatSection};
 use crate::refusal::Refusal;
 use crate::refusal::flat_refusal;
 use crate::refusal::no_refusal;
@@ -32,9 +32,7 @@ pub struct Section {
 }
 
 fn flat_section(decoded: DecodedEvr0) -> Section
-    ensures { λ r.
-        ⌜ sectionFrom r ≡
-        answerOut decoded ⌝ }
+    ensures { λ r. ⌜ r ≡ flatSection (answerOut decoded) ⌝ }
 {
     let source_set = decoded.source_set;
     let compiler_contract = decoded.compiler_contract;
@@ -81,8 +79,8 @@ pub extern "C" fn falgnust_decode_evr0_section(
     depths: &mut [u64],
 ) -> Section
     ensures { λ r.
-        ⌜ sectionFrom r ≡
-        answerOf cursor (decodeAnew (now (bytes .entry)) cursor (now (propositions .entry)) (now (proofs .entry)) (now (depths .entry))) ⌝ }
+        ⌜ r ≡
+        flatSection (answerOf cursor (decodeAnew (now (bytes .entry)) cursor (now (propositions .entry)) (now (proofs .entry)) (now (depths .entry)))) ⌝ }
     ensures { λ r.
         ⌜ now (propositions .exit) ≡
         lent (length (now (propositions .entry)))
