@@ -39,7 +39,7 @@ pub fn compare(tally: &mut Tally, case: &BlockCase) {
 
 /// Room enough, and for paths not much more than that: a path takes 7 bytes at least, so a larger count is refused after all, unless its
 /// table is too short for the count.
-fn rooms(case: &BlockCase) -> [usize; 3] {
+pub fn rooms(case: &BlockCase) -> [usize; 3] {
     let room = case.code.len() / 7 + 3;
     let small = call(case, [MOST[0], MOST[1], room]).0;
     match small {
