@@ -14,10 +14,9 @@ use local_format::refusal::refuse;
 ghost use mathlib.Core.Path.{_≡_};
 ghost use lib.ListN.{length};
 ghost use Rattle.local_format.specs.Maps.{refusalOf, refusalOut};
-ghost use Rattle.lent_table.specs.Lent.{lent};
+ghost use Rattle.lent_table.specs.Lent.{lent, Front};
 ghost use Rattle.semcode_decode.specs.Block.{blockOf, decodeBlock};
 ghost use Rattle.semcode_decode.specs.Layout.{layout, stringStarts, pathStarts, roomsOf};
-ghost use Rattle.semcode_decode.specs.Front.{Front};
 ghost use Rattle.semcode_decode.specs.Maps.{parseOut};
 
 // Counts, tags found and places in the block.

@@ -13,7 +13,8 @@ use Rattle.semcode_decode.specs.Block.{Block, blockOf}
 use Rattle.semcode_decode.specs.Layout.{stringStarts, pathStarts, roomsOf}
 use Rattle.semcode_decode.specs.Maps.{parseOut}
 use Rattle.semcode_decode.proofs.BlockLaws.{layout-refused}
-use Rattle.semcode_decode.proofs.LentLaws.{front-lent, accepted}
+use Rattle.lent_table.proofs.Laws.{front-lent}
+use Rattle.semcode_decode.proofs.LentLaws.{accepted}
 use borrow.Author.Needs.{needs}
 use Rattle.semcode_decode.proofs.decode.parse_block.Statement.{
   statement,
