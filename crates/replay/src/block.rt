@@ -105,13 +105,6 @@ pub fn block(
 ) -> Held {
     crate::section::old(strings);
     crate::section::old(paths);
-    let parsed = semcode_decode::decode::parse_block(
-        base,
-        input,
-        revision,
-        room,
-        strings,
-        paths,
-    );
+    let parsed = semcode_decode::decode::parse_block(base, input, revision, room, strings, paths);
     answer(list, at, input, parsed, strings, paths)
 }
