@@ -1,6 +1,6 @@
 -- Whoever lists all records of an accepted section may decode it once and read each record at its place: reading at entry k of a lent
--- table, or where witness k or parent cell k stands, gives the record with the number k. The starts past which a table was read are in the
--- lent table's front; witnesses and parents, each of one size, are the payload's last bytes.
+-- table, or where witness k or parent cell k stands, gives the record with the number k. The front of a lent table is the starts of its
+-- records; witnesses and parents, each of one size, are the payload's last bytes.
 use Prim.Native.Nat.{ℕ, _+_, _-_, _<_}
 use mathlib.Core.Path.{_≡_, refl, sym, ap, _∙_}
 use mathlib.Core.List.{List}
