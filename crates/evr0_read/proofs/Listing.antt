@@ -1,6 +1,6 @@
 -- Whoever lists all records of an accepted section may decode it once and read each record at its place: reading at entry k of a lent
--- table, or where witness k or parent cell k stands, gives the record with the number k. The starts past which a table was read are in the
--- lent table's front; witnesses and parents, each of one size, are the payload's last bytes.
+-- table, or where witness k or parent cell k stands, gives the record with the number k. The front of a lent table is the starts of its
+-- records; witnesses and parents, each of one size, are the payload's last bytes.
 use Prim.Native.Nat.{ℕ, _+_, _-_, _<_}
 use mathlib.Core.Path.{_≡_, refl, sym, ap, _∙_}
 use mathlib.Core.List.{List}
@@ -12,11 +12,10 @@ use Rattle.lent_table.specs.Lent.{lent}
 use Rattle.derivation.specs.Rule.{fourRules}
 use Rattle.evr0_section.specs.Rows.{Entry}
 use Rattle.evr0_section.specs.Head.{Counts, Room}
-use Rattle.evr0_section.specs.Proposition.{propositionOf, propositionRow}
+use Rattle.evr0_section.specs.Proposition.{propositionOf}
 use Rattle.evr0_section.specs.Proof.{proofOf}
 use Rattle.evr0_section.specs.Witness.{witnessOf, parentRow}
 use Rattle.evr0_section.specs.Section.{Section, decodeSection}
-use Rattle.evr0_section.proofs.RowsLaws.{trace, trace-length}
 use Rattle.evr0.specs.Maps.{startsOf}
 use Rattle.evr0_read.specs.Ask.{propositionNumber, proofNumber, witnessNumber, parentNumber}
 use Rattle.evr0_read.specs.Entry.{recordAt, shown, shownProposition, shownSettled, placedProposition, placedProof, placedWitness, placedParent}
@@ -45,16 +44,13 @@ module _ (room : Room) (bytes : List ℕ) (cursor : ℕ) (d : Section) (decodes 
   size : length p ≡ d .cursor - (cursor + 8)
   size = simp (length-take, length-drop) (omega (arith, facts .start, facts .end))
 
-  propositions : length (d .tables .propositions .entries) ≡ counts .propositions
-  propositions = trace-length propositionRow p (trace propositionRow p _ _ _ (d .tables .propositions) (facts .tables .propositions))
-
   pub all-listed : Listed room bytes cursor d
   unfolding propositionNumber proofNumber witnessNumber parentNumber
   all-listed =
       record {
         size = size;
         proposition = λ k h.
-            ap (recordAt propositionOf placedProposition p) (lent-start (room .propositions) k (d .tables .propositions .entries) propositions h)
+            ap (recordAt propositionOf placedProposition p) (lent-start (room .propositions) k (d .tables .propositions .entries) (facts .propositions) h)
             ∙ entry-there propositionOf placedProposition p _ (counts .propositions) k h
             ∙ proposition-numbered fourRules room p (d .tables) (facts .read) k
             ∙ decoded (shown shownProposition) (λ y. numbered k (y .tables .propositions .entries)) (ok d) refl;

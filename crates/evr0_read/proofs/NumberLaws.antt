@@ -8,11 +8,10 @@ use Rattle.local_format.specs.Number.{numbered}
 use Rattle.lent_table.specs.Lent.{lent}
 use Rattle.derivation.specs.Rule.{fourRules}
 use Rattle.evr0_section.specs.Head.{Counts}
-use Rattle.evr0_section.specs.Proposition.{propositionOf, propositionRow}
+use Rattle.evr0_section.specs.Proposition.{propositionOf}
 use Rattle.evr0_section.specs.Proof.{proofOf}
 use Rattle.evr0_section.specs.Witness.{witnessOf, parentRow}
 use Rattle.evr0_section.specs.Section.{Section}
-use Rattle.evr0_section.proofs.RowsLaws.{trace, trace-length}
 use Rattle.evr0.specs.Answer as answer
 use Rattle.evr0.specs.Answer.{propositionStarts, proofStarts}
 use Rattle.evr0_read.specs.Ask.{propositionNumber, proofNumber, witnessNumber, parentNumber}
@@ -37,7 +36,7 @@ module _ (s : List ℕ) (cursor : ℕ) {d : answer.Answer} {x : Out Section} (de
       let told = told-of s cursor decoding is in
       let es = section .tables .propositions .entries in
       entry-front propositionOf placedProposition p es n _ (section .tables .head .counts .propositions) k (e ∙ ap (λ (y : Out Section). lent n (propositionStarts y)) (told .is))
-      (trace-length propositionRow _ (trace propositionRow _ _ _ _ (section .tables .propositions) (facts s cursor decoding is .tables .propositions)))
+      (facts s cursor decoding is .propositions)
       (ap (λ (c : Counts). c .propositions) (told .counted))
       ∙ proposition-numbered fourRules (decoding .room) p (section .tables) (payload-read s cursor decoding is) k
       ∙ decoded (shown shownProposition) (λ y. numbered k (y .tables .propositions .entries)) x (told .is)

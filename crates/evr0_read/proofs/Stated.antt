@@ -8,7 +8,7 @@ use native.Mathlib.Omega.{arith}
 use native.Mathlib.Nat.{sub-zero, zero-add}
 use lib.ListN.{length, length-map}
 use Rattle.local_format.specs.Out.{ok, refuse}
-use Rattle.local_format.proofs.OutLaws.{never, ok-same, on-ok, on-refused}
+use Rattle.local_format.proofs.OutLaws.{never, ok-same}
 use Rattle.derivation.specs.Rule.{fourRules}
 use Rattle.derivation.specs.Section as derivation
 use Rattle.derivation.specs.Section.{Checked, proofAt, parentAt, proofTotal}
@@ -19,16 +19,11 @@ use Rattle.derivation.proofs.Rules.{four-shaped}
 use Rattle.derivation.proofs.Laws.{down-end, down-spent, down-turn}
 use Rattle.derivation.proofs.Authorised.{authorised-exactly}
 use Rattle.evr0_section.specs.Head.{Room}
-use Rattle.evr0_section.specs.Proposition.{propositionRow}
 use Rattle.evr0_section.specs.Section.{Section, sectionOf, proofItem, decodeSection}
 use Rattle.evr0_section.proofs.Demand.{demand-3, checked}
-use Rattle.evr0_section.proofs.RowsLaws.{trace, trace-length}
-use Rattle.evr0_read.specs.Ask.{wayDownFrom, authorisedNumber}
 use Rattle.evr0_read.specs.Stated.{downAnswer, DownStated, authorisedAnswer, AuthorisedStated}
 use Rattle.evr0_read.proofs.AcceptedLaws.{Accepted, accepted}
-use Rattle.evr0_read.proofs.FoundLaws.{is-found, not-found}
-use Rattle.evr0_read.proofs.AskLaws.{picked}
-use Rattle.evr0_read.proofs.AnswerLaws.{wayFrom, isAuthorised}
+use Rattle.evr0_read.proofs.AnswerLaws.{way-there, way-gone, authorised-there, authorised-gone}
 
 -- ---- Along the walk by first parents
 walk-start : {s : derivation.Section} {i k : ℕ} {cs : List ℕ} → Walk s i cs k → i < proofTotal s
@@ -102,12 +97,10 @@ module _ (room : Room) (bytes : List ℕ) (cursor : ℕ) (d : Section) (decodes 
 
   module _ (limit n : ℕ) where
     there : n < proofTotal s → downAnswer limit n d ≡ ok (wayDown s limit n)
-    unfolding wayDownFrom
-    there h = sym (picked (λ v. v) (wayFrom limit n) (ok d) (ok _) refl (on-ok _ (is-found n (d .tables .proofs .entries) (omega (arith, total)) .1)))
+    there h = sym (way-there refl n limit (omega (arith, total)))
 
     gone : proofTotal s ≤ n → downAnswer limit n d ≡ refuse 62 0
-    unfolding wayDownFrom
-    gone h = sym (picked (λ v. v) (wayFrom limit n) (ok d) (refuse 62 0) refl (on-refused _ (not-found n (d .tables .proofs .entries) (omega (arith, total)))))
+    gone h = sym (way-gone refl n limit (omega (arith, total)))
 
     answered : {a : Down} → downAnswer limit n d ≡ ok a → (n < proofTotal s) × (wayDown s limit n ≡ a)
     answered e =
@@ -130,17 +123,12 @@ module _ (room : Room) (bytes : List ℕ) (cursor : ℕ) (d : Section) (decodes 
           );
         }
 
-  propositions : length (d .tables .propositions .entries) ≡ d .tables .head .counts .propositions
-  propositions = trace-length propositionRow _ (trace propositionRow _ _ _ _ (d .tables .propositions) (facts .tables .propositions))
-
   module _ (n : ℕ) where
     proposed : n < d .tables .head .counts .propositions → authorisedAnswer n d ≡ ok (authorised s n)
-    unfolding authorisedNumber
-    proposed h = sym (picked (λ v. v) (isAuthorised n) (ok d) (ok _) refl (on-ok _ (is-found n (d .tables .propositions .entries) (omega (arith, propositions)) .1)))
+    proposed h = sym (authorised-there refl n (omega (arith, facts .propositions)))
 
     unproposed : d .tables .head .counts .propositions ≤ n → authorisedAnswer n d ≡ refuse 62 0
-    unfolding authorisedNumber
-    unproposed h = sym (picked (λ v. v) (isAuthorised n) (ok d) (refuse 62 0) refl (on-refused _ (not-found n (d .tables .propositions .entries) (omega (arith, propositions)))))
+    unproposed h = sym (authorised-gone refl n (omega (arith, facts .propositions)))
 
     pub authorised-stated : AuthorisedStated d n
     unfolding sectionOf

@@ -1,6 +1,6 @@
 // The way down: from a proof, always the first parent.
 ghost use mathlib.Core.Path.{_≡_};
-ghost use Prim.Native.Nat.{ℕ, _<_};
+ghost use Prim.Native.Nat.{ℕ, _*_, _<_};
 ghost use Rattle.local_format.specs.Out.{Out};
 ghost use Rattle.lent_table.specs.Lent.{lent};
 ghost use Rattle.evr0.specs.Answer.{proofStarts};
@@ -21,6 +21,7 @@ use evr0::section::decode_evr0_section;
 use evr0_head::number::ProofNumber;
 use evr0_head::number::WitnessNumber;
 use evr0_head::number::wide;
+use evr0_records::proof::Proof;
 use evr0_records::proof::ProofRead;
 use local_format::field::U32;
 use local_format::refusal::Refusal;
@@ -28,6 +29,13 @@ use local_format::refusal::Refusal;
 pub enum Down {
     Witness { witness: WitnessNumber, moves: u64 },
     Spent(ProofNumber),
+}
+
+// Where a proof's first parent cell starts, in the table of parent cells.
+fn first_cell(proof: Proof) -> usize
+    ensures { λ r. ⌜ r ≡ 4 * proof .«parent_first» ⌝ }
+{
+    4 * wide(proof.parent_first)
 }
 
 // From a proof of an accepted section, whose parent cells start at `cells`.
@@ -49,7 +57,7 @@ fn down_from(payload: &[u8], starts: &[u64], cells: usize, from: ProofNumber, li
         if moves == limit {
             return Down::Spent(ProofNumber(number));
         }
-        let cell = local_format::field::read_u32_le(table, 4 * wide(proof.parent_first));
+        let cell = local_format::field::read_u32_le(table, first_cell(proof));
         let U32::Value { value, next: _ } = cell else {
             return Down::Spent(from);
         };
