@@ -1,9 +1,11 @@
-//! Blocks. The Rust copies strings, symbols and paths into vectors; the port writes starts to lent tables, whose lengths a row states.
+//! Blocks. The Rust copies strings, symbols and paths into vectors; the port writes symbols and starts to lent tables,
+//! whose lengths a row states.
 
 use crate::rows::{Row, calls};
 use inputs::block::{Block, each_form, large, small};
 use inputs::random::Random;
 use oracle::semcode_decode::DecodeError;
+use port::block::DebugSymbol;
 use std::cell::RefCell;
 use std::hint::black_box;
 
@@ -81,12 +83,16 @@ fn row(name: &str, blocks: &[Block], rooms: Rooms) -> Row {
             port(
                 code,
                 &mut vec![0; rooms[0]],
-                rooms[1],
+                &mut vec![DebugSymbol::default(); rooms[1]],
                 &mut vec![0; rooms[2]]
             )
         );
     }
-    let tables = RefCell::new((vec![0; rooms[0]], vec![0; rooms[2]]));
+    let tables = RefCell::new((
+        vec![0; rooms[0]],
+        vec![DebugSymbol::default(); rooms[1]],
+        vec![0; rooms[2]],
+    ));
     Row {
         name: name.to_string(),
         bytes: codes.iter().map(Vec::len).sum(),
@@ -96,14 +102,9 @@ fn row(name: &str, blocks: &[Block], rooms: Rooms) -> Row {
             })
         }),
         port: calls(move || {
-            let (strings, paths) = &mut *tables.borrow_mut();
+            let (strings, symbols, paths) = &mut *tables.borrow_mut();
             codes.iter().fold(0, |sum: u64, code| {
-                sum.wrapping_add(port_summary(port(
-                    black_box(code),
-                    strings,
-                    rooms[1],
-                    paths,
-                )))
+                sum.wrapping_add(port_summary(port(black_box(code), strings, symbols, paths)))
             })
         }),
     }
@@ -112,7 +113,7 @@ fn row(name: &str, blocks: &[Block], rooms: Rooms) -> Row {
 fn port(
     code: &[u8],
     strings: &mut [u64],
-    symbols: usize,
+    symbols: &mut [DebugSymbol],
     paths: &mut [u64],
 ) -> answers::Answer<answers::block::Layout> {
     port::block::parse_string_table_debug_and_ownership(
