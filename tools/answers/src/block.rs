@@ -25,7 +25,9 @@ pub struct Block {
     pub paths: Vec<Path>,
 }
 
-#[derive(Debug, Clone, Copy, PartialEq, Eq)]
+/// In C's layout: the port fills a lent list of these.
+#[repr(C)]
+#[derive(Debug, Clone, Copy, Default, PartialEq, Eq)]
 pub struct Symbol {
     pub pc: usize,
     pub line: u32,

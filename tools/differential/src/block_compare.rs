@@ -1,4 +1,4 @@
-//! One block on both sides: the result, every entry of both lent tables, and every record.
+//! One block on both sides: the result, every entry of the lent list and of both lent tables, and every record.
 
 use crate::block_numbers;
 use crate::tally::{Tally, hex};
@@ -14,6 +14,12 @@ use port::text::read_string;
 
 /// What a lent table holds before a call.
 pub const OLD: u64 = 0xA5A5_A5A5_A5A5_A5A5;
+
+const OLD_SYMBOL: Symbol = Symbol {
+    pc: 0xA5A5_A5A5,
+    line: 0xA5A5_A5A5,
+    column: 0xA5A5,
+};
 
 /// The most strings, symbols and paths that a block may have.
 const MOST: [usize; 3] = [256, 8192, 65_535];
@@ -35,45 +41,63 @@ pub fn compare(tally: &mut Tally, case: &BlockCase) {
     }
 }
 
-/// Room enough, and for paths not much more than that: a path takes 7 bytes at least, so a larger count is refused after all, unless its
-/// table is too short for the count.
+/// Room enough, and for symbols and paths not much more than that: a symbol takes 10 bytes and a path 7 at least, so a larger count is
+/// refused after all, unless its table is too short for the count.
 fn rooms(case: &BlockCase) -> [usize; 3] {
-    let room = case.code.len() / 7 + 3;
-    let small = call(case, [MOST[0], MOST[1], room]).0;
-    match small {
+    let len = case.code.len();
+    let rooms = [MOST[0] + len % 3, len / 10 + 3, len / 7 + 3];
+    match call(case, rooms).0 {
         Err(Refusal { number: 61, .. }) => MOST,
-        _ => [MOST[0] + room % 3, MOST[1] + room % 3, room],
+        _ => rooms,
     }
 }
 
-/// The port's answer with so much room for strings, symbols and paths, and the tables after it.
-fn call(case: &BlockCase, rooms: [usize; 3]) -> (Answer<Layout>, Vec<u64>, Vec<u64>) {
+/// The port's answer, and the strings', the symbols' and the paths' table after it.
+type Called = (Answer<Layout>, Vec<u64>, Vec<Symbol>, Vec<u64>);
+
+/// With so much room for strings, symbols and paths.
+fn call(case: &BlockCase, rooms: [usize; 3]) -> Called {
     let (mut strings, mut paths) = (vec![OLD; rooms[0]], vec![OLD; rooms[2]]);
+    let mut symbols = vec![OLD_SYMBOL; rooms[1]];
     let answer = parse_string_table_debug_and_ownership(
         case.base,
         &case.code,
         case.revision,
-        rooms[1],
+        &mut symbols,
         &mut strings,
         &mut paths,
     );
-    (answer, strings, paths)
+    (answer, strings, symbols, paths)
 }
 
 fn with_rooms(tally: &mut Tally, case: &BlockCase, rooms: [usize; 3], rust: &Answer<Block>) {
-    let (layout, strings, paths) = match rust {
-        Ok(b) => (Ok(b.layout), &b.string_starts[..], &b.path_starts[..]),
-        Err(refusal) => (Err(*refusal), &[][..], &[][..]),
+    let expected = match rust {
+        Ok(b) => (
+            Ok(b.layout),
+            lent(&b.string_starts, rooms[0]),
+            lent(&b.symbols, rooms[1]),
+            lent(&b.path_starts, rooms[2]),
+        ),
+        Err(refusal) => zeros(*refusal, rooms),
     };
-    let expected = (layout, lent(strings, rooms[0]), lent(paths, rooms[2]));
     tally.same(&expected, &call(case, rooms), || what(case));
 }
 
 /// Entries, and zeros past them.
-pub fn lent(entries: &[u64], room: usize) -> Vec<u64> {
+pub fn lent<T: Clone + Default>(entries: &[T], room: usize) -> Vec<T> {
     let mut table = entries.to_vec();
-    table.resize(room, 0);
+    table.resize(room, T::default());
     table
+}
+
+/// A refusal, with zeros in all that was lent.
+fn zeros(refusal: Refusal, rooms: [usize; 3]) -> Called {
+    (
+        Err(refusal),
+        lent(&[], rooms[0]),
+        lent(&[], rooms[1]),
+        lent(&[], rooms[2]),
+    )
 }
 
 pub fn what(case: &BlockCase) -> String {
@@ -153,7 +177,7 @@ fn short_tables(tally: &mut Tally, case: &BlockCase, layout: &Layout) {
             number: 61,
             offset: case.base.saturating_add(places[table]),
         };
-        let expected = (Err(refusal), lent(&[], rooms[0]), lent(&[], rooms[2]));
+        let expected = zeros(refusal, rooms);
         tally.input((61, SHORT[table]));
         tally.same(&expected, &call(case, rooms), || {
             format!("room {rooms:?}, {}", what(case))

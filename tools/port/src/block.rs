@@ -66,7 +66,8 @@ unsafe extern "C" {
         code: *const u8,
         code_len: usize,
         header_rev: u16,
-        symbols: usize,
+        symbols: *mut Symbol,
+        symbols_len: usize,
         strings: *mut u64,
         strings_len: usize,
         paths: *mut u64,
@@ -83,12 +84,12 @@ unsafe extern "C" {
     ) -> FlatComponent;
 }
 
-/// `symbols` is the room for symbols; the starts go to the lent tables.
+/// The symbols go to the lent list, the starts to the lent tables.
 pub fn parse_string_table_debug_and_ownership(
     base_offset: usize,
     code: &[u8],
     header_rev: u16,
-    symbols: usize,
+    symbols: &mut [Symbol],
     strings: &mut [u64],
     paths: &mut [u64],
 ) -> Answer<Layout> {
@@ -98,7 +99,8 @@ pub fn parse_string_table_debug_and_ownership(
             code.as_ptr(),
             code.len(),
             header_rev,
-            symbols,
+            symbols.as_mut_ptr(),
+            symbols.len(),
             strings.as_mut_ptr(),
             strings.len(),
             paths.as_mut_ptr(),
