@@ -52,10 +52,13 @@ fn symbol_at(code: &[u8], at: usize, count: usize, i: usize) -> DebugSymbol
 {
     if i < count {
         let p = at + 10 * i;
+        let pc = le32(code[p], code[p + 1], code[p + 2], code[p + 3]);
+        let line = le32(code[p + 4], code[p + 5], code[p + 6], code[p + 7]);
+        let col = le16(code[p + 8], code[p + 9]);
         DebugSymbol {
-            pc: le32(code[p], code[p + 1], code[p + 2], code[p + 3]) as usize,
-            line: le32(code[p + 4], code[p + 5], code[p + 6], code[p + 7]),
-            col: le16(code[p + 8], code[p + 9]),
+            pc: pc as usize,
+            line,
+            col,
         }
     } else {
         DebugSymbol {

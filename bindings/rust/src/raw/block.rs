@@ -4,7 +4,7 @@ use super::{Refusal, Text};
 
 /// A function's block.
 #[repr(C)]
-#[derive(Debug, Clone, Copy, PartialEq, Eq)]
+#[derive(Debug, Default, Clone, Copy, PartialEq, Eq)]
 pub struct Block {
     /// Whether there is a block.
     pub accepted: bool,
@@ -28,9 +28,21 @@ pub struct Block {
     pub instr_start_offset: usize,
 }
 
+/// A debug symbol in a list that is lent.
+#[repr(C)]
+#[derive(Debug, Default, Clone, Copy, PartialEq, Eq)]
+pub struct DebugSymbol {
+    /// Its place in the instructions.
+    pub pc: usize,
+    /// Its line.
+    pub line: u32,
+    /// Its column.
+    pub col: u16,
+}
+
 /// A debug symbol with its own answer.
 #[repr(C)]
-#[derive(Debug, Clone, Copy, PartialEq, Eq)]
+#[derive(Debug, Default, Clone, Copy, PartialEq, Eq)]
 pub struct Symbol {
     /// Whether there is one.
     pub accepted: bool,
@@ -49,7 +61,7 @@ pub struct Symbol {
 /// What a path is about: 0 a borrow without activation, 1 on frame entry, 2 at a store site; 3 a write without execution, 4 at a store
 /// site, 5 at a record site.
 #[repr(C)]
-#[derive(Debug, Clone, Copy, PartialEq, Eq)]
+#[derive(Debug, Default, Clone, Copy, PartialEq, Eq)]
 pub struct Event {
     /// 0 to 5.
     pub event: u8,
@@ -59,7 +71,7 @@ pub struct Event {
 
 /// A path without its components.
 #[repr(C)]
-#[derive(Debug, Clone, Copy, PartialEq, Eq)]
+#[derive(Debug, Default, Clone, Copy, PartialEq, Eq)]
 pub struct Path {
     /// Whether there is one.
     pub accepted: bool,
@@ -79,7 +91,7 @@ pub struct Path {
 
 /// What a component holds: 0 a tuple index, 1 a field symbol, 2 a variant and its index, 3 a sequence index.
 #[repr(C)]
-#[derive(Debug, Clone, Copy, PartialEq, Eq)]
+#[derive(Debug, Default, Clone, Copy, PartialEq, Eq)]
 pub struct Parts {
     /// 0 to 3.
     pub kind: u8,
@@ -91,7 +103,7 @@ pub struct Parts {
 
 /// A component of a path.
 #[repr(C)]
-#[derive(Debug, Clone, Copy, PartialEq, Eq)]
+#[derive(Debug, Default, Clone, Copy, PartialEq, Eq)]
 pub struct Component {
     /// Whether there is one.
     pub accepted: bool,
@@ -118,14 +130,15 @@ pub type OfBlock<T> = unsafe extern "C" fn(
 ) -> T;
 
 unsafe extern "C" {
-    /// A block: counts, tags found and places. The start of each string and of each path goes to the two tables; `symbols` is the number
-    /// of symbols that the caller has room for.
+    /// A block: counts, tags found and places. Each debug symbol goes to the list, the start of each string and of each path to the two
+    /// tables.
     pub fn falgnust_parse_string_table_debug_and_ownership(
         base_offset: usize,
         code: *const u8,
         code_len: usize,
         header_rev: u16,
-        symbols: usize,
+        symbols: *mut DebugSymbol,
+        symbols_len: usize,
         strings: *mut u64,
         strings_len: usize,
         paths: *mut u64,

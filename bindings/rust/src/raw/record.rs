@@ -4,7 +4,7 @@ use super::Refusal;
 
 /// A text in a record, as places in the payload.
 #[repr(C)]
-#[derive(Debug, Clone, Copy, PartialEq, Eq)]
+#[derive(Debug, Default, Clone, Copy, PartialEq, Eq)]
 pub struct Span {
     /// Where its bytes start.
     pub start: usize,
@@ -18,7 +18,7 @@ pub struct Span {
 
 /// A proposition of a section.
 #[repr(C)]
-#[derive(Debug, Clone, Copy, PartialEq, Eq)]
+#[derive(Debug, Default, Clone, Copy, PartialEq, Eq)]
 pub struct Proposition {
     /// Whether there is one.
     pub accepted: bool,
@@ -38,7 +38,7 @@ pub struct Proposition {
 
 /// A proof of a section.
 #[repr(C)]
-#[derive(Debug, Clone, Copy, PartialEq, Eq)]
+#[derive(Debug, Default, Clone, Copy, PartialEq, Eq)]
 pub struct Proof {
     /// Whether there is one.
     pub accepted: bool,
@@ -68,7 +68,7 @@ pub struct Proof {
 
 /// A witness of a section.
 #[repr(C)]
-#[derive(Debug, Clone, Copy, PartialEq, Eq)]
+#[derive(Debug, Default, Clone, Copy, PartialEq, Eq)]
 pub struct Witness {
     /// Whether there is one.
     pub accepted: bool,
@@ -94,7 +94,7 @@ pub struct Witness {
 
 /// A parent cell of a section.
 #[repr(C)]
-#[derive(Debug, Clone, Copy, PartialEq, Eq)]
+#[derive(Debug, Default, Clone, Copy, PartialEq, Eq)]
 pub struct Parent {
     /// Whether there is one.
     pub accepted: bool,

@@ -4,7 +4,7 @@ use super::{Parent, Proof, Proposition, Refusal, Witness};
 
 /// An evidence section. Its records stand in the payload, which is `bytes[cursor + 8..section.cursor]`.
 #[repr(C)]
-#[derive(Debug, Clone, Copy, PartialEq, Eq)]
+#[derive(Debug, Default, Clone, Copy, PartialEq, Eq)]
 pub struct Section {
     /// Whether there is a section.
     pub accepted: bool,
@@ -34,7 +34,7 @@ pub struct Section {
 
 /// The way down from a proof: a witness with the moves made, or spent with the proof reached. What does not apply is 0.
 #[repr(C)]
-#[derive(Debug, Clone, Copy, PartialEq, Eq)]
+#[derive(Debug, Default, Clone, Copy, PartialEq, Eq)]
 pub struct WayDown {
     /// Whether there is a way.
     pub accepted: bool,
@@ -52,7 +52,7 @@ pub struct WayDown {
 
 /// Whether a proposition is authorised.
 #[repr(C)]
-#[derive(Debug, Clone, Copy, PartialEq, Eq)]
+#[derive(Debug, Default, Clone, Copy, PartialEq, Eq)]
 pub struct Authorised {
     /// Whether there is an answer.
     pub accepted: bool,

@@ -3,7 +3,7 @@
 /// A refusal: its kind in document 01's order (0 Invalid, 1 Limit, 2 Strings, 3 Debug, 4 Ownership, 5 Added), its number there (0 where
 /// nothing is refused) and its offset.
 #[repr(C)]
-#[derive(Debug, Clone, Copy, PartialEq, Eq)]
+#[derive(Debug, Default, Clone, Copy, PartialEq, Eq)]
 pub struct Refusal {
     /// 0 to 5.
     pub kind: u8,
@@ -15,7 +15,7 @@ pub struct Refusal {
 
 /// A field; all zeros where it is cut.
 #[repr(C)]
-#[derive(Debug, Clone, Copy, PartialEq, Eq)]
+#[derive(Debug, Default, Clone, Copy, PartialEq, Eq)]
 pub struct Field {
     /// Whether the field is there.
     pub whole: bool,
@@ -27,7 +27,7 @@ pub struct Field {
 
 /// What some bytes are.
 #[repr(C)]
-#[derive(Debug, Clone, Copy, PartialEq, Eq)]
+#[derive(Debug, Default, Clone, Copy, PartialEq, Eq)]
 pub struct Scanned {
     /// 0 not UTF-8, 1 text, 2 text with a control character.
     pub answer: u8,
@@ -37,7 +37,7 @@ pub struct Scanned {
 
 /// What the bytes at a place are; all zeros where they pass the end.
 #[repr(C)]
-#[derive(Debug, Clone, Copy, PartialEq, Eq)]
+#[derive(Debug, Default, Clone, Copy, PartialEq, Eq)]
 pub struct Utf8 {
     /// Whether the bytes are there.
     pub whole: bool,
@@ -53,7 +53,7 @@ pub struct Utf8 {
 
 /// A text with its own answer.
 #[repr(C)]
-#[derive(Debug, Clone, Copy, PartialEq, Eq)]
+#[derive(Debug, Default, Clone, Copy, PartialEq, Eq)]
 pub struct Text {
     /// Whether there is a text.
     pub accepted: bool,

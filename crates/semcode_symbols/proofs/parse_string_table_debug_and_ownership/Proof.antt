@@ -37,7 +37,7 @@ use denote.Triple.Statement.{Contract, Triple}
 use denote.Triple.Call.{calls-at}
 use denote.Triple.Clauses.{ensured, lasts, Lasts}
 use denote.Triple.Table.{entered, cited}
-use denote.Triple.Walked.{says, Stays, onExit, stay-none, gave-slice, stay-none-slice, walkOf, goes-none, goes-gave-slice, goes-none-slice, Walks, ends-at, walked, walk-meets}
+use denote.Triple.Walked.{says, Stays, onExit, Ending, stay-none, gave-slice, stay-none-slice, walkOf, goes-none, goes-gave-slice, goes-none-slice, Walks, ends-at, walked, walk-meets}
 use denote.Exit.{yes}
 use Rattle.lent_table.specs.Lent.{lent}
 use Rattle.semcode_records.specs.Records.{records}
@@ -161,14 +161,20 @@ module _ {M : Type 1} (𝓤 : URA M) (H : Heap 𝓤) (A : Atoms 𝓤) (W : Given
       → ent 𝓤 (⋆ 𝓤 H A ((‵ (flft κ₁ q₁) ⊛ ‵ (flft κ₀ q₀) ⊛ ‵ ftrue) ∷ ‵ (finally R (x₁ .name) zs₁) ∷ ‵ O₀ ∷ (‵ (flft κ₂ q₂) ⊛ ‵ (flft κ₃ q₃) ⊛ ‵ ftrue) ∷ ‵ (finally u64 (x₃ .name) zs₃) ∷ ‵ (finally u64 (x₂ .name) zs₂) ∷ [])) (Post w)
   exits r w is zs₁ zs₂ zs₃ l₁ l₂ l₃ e₀ e₂ e₃ e₁ =
       qed W ((‵ (flft κ₁ q₁) ⊛ ‵ (flft κ₀ q₀) ⊛ ‵ ftrue) ∷ ‵ (finally R (x₁ .name) zs₁) ∷ ‵ O₀ ∷ (‵ (flft κ₂ q₂) ⊛ ‵ (flft κ₃ q₃) ⊛ ‵ ftrue) ∷ ‵ (finally u64 (x₃ .name) zs₃) ∷ ‵ (finally u64 (x₂ .name) zs₂) ∷ []) ∵
-      suffices ! _ (ends-at 𝓤 H A f.ended stayed (f.clauses 𝓤 H A mem run) W bound w r (tt, (tt, (tt, (zs₁, (zs₂, (zs₃, tt)))))) (tt, (tt, (tt, (l₁, (l₂, (l₃, tt))))))) $ suffices ! Left (four 𝓤 Left e₀ e₂ e₃ e₁) $
+      suffices ! _ (ends-at 𝓤 H A f.ended stayed (f.clauses 𝓤 H A mem run) W bound w r ends (tt, (tt, (tt, (l₁, (l₂, (l₃, tt))))))) $ suffices ! Left all $
       split ! $ move ! (1 ∷ []) $ split ! $ move ! (1 ∷ []) $ drop ! $ move ! (4 ∷ []) $ move ! (2 ∷ 0 ∷ []) $ join ! $ move ! (1 ∷ 0 ∷ []) $ join ! $ frame ! $
       nothing ! $ move ! (3 ∷ 0 ∷ []) $ fjoin ! $ move ! (3 ∷ 0 ∷ []) $ fjoin ! $ move ! (1 ∷ 0 ∷ []) $ fjoin ! $
       owned ! u16 (Is u16) (uint-makes 𝓤 H A W w16) rev _ (refl, rev-fits) $ fjoin ! $ move ! (1 ∷ 0 ∷ []) $ fjoin ! $ owned ! usize (Is usize) (uint-makes 𝓤 H A W w64) base _ (refl, base-fits) $ fjoin ! $ frame ! $
       owned ! D.the-row (Is D.the-row) (EL.makes D.the-type D′.the-plain 𝓤 H A) r _ is $ done !
     where
+      ends : Lasts f.ended (κ₀, (κ₁, (κ₂, (κ₃, tt)))) a
+      ends = (tt, (tt, (tt, (zs₁, (zs₂, (zs₃, tt))))))
+
       Left : SProp 𝓤
-      Left = onExit 𝓤 H A f.ended stayed (κ₀, (κ₁, (κ₂, (κ₃, tt)))) (q₀, (q₁, (q₂, (q₃, tt)))) vals w r a (tt, (tt, (tt, (zs₁, (zs₂, (zs₃, tt))))))
+      Left = onExit 𝓤 H A f.ended stayed (κ₀, (κ₁, (κ₂, (κ₃, tt)))) (q₀, (q₁, (q₂, (q₃, tt)))) vals w r a ends
+
+      all : ent 𝓤 Left (Ending 𝓤 H A f.ended stayed (f.clauses 𝓤 H A mem run) bound w r ends)
+      all = four 𝓤 Left e₀ e₂ e₃ e₁
 
   -- the core: what its triple binds outside, and what it is handed
   abbrev Sent : Type 0
