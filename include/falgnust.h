@@ -8,9 +8,9 @@
  *   - a pointer is not null and is valid for the length after it, also where that is 0;
  *   - a lent table overlaps neither another lent table nor the bytes.
  *
- * What a caller gets: each answer is accepted, with a refusal of number 0; or refused, with the kind, number and offset of document 01
- * (the format's description). Do not read the other fields of a refused answer. After a call that is refused, each table that it was lent
- * is zeros, whole; after one that is accepted, the entries past a count are zeros. */
+ * What a caller gets: an answer that is accepted, with zeros in its refusal; or refused, with the kind, number and offset of document 01
+ * (docs/01-scope.md) and zeros in the other fields, but for a section's cursor. After a refusal each table that was lent is zeros, whole;
+ * else the entries past a count are zeros. */
 #ifndef FALGNUST_H
 #define FALGNUST_H
 
@@ -212,9 +212,16 @@ FalgnustAuthorised falgnust_authorised(
 
 /* ---- Function blocks ----
  *
- * The lent tables take the place in the block of each string's length and of each path's event kind. 256 strings, 8192 symbols and 65535
- * paths are never too few. Offsets are base_offset plus the place in the block, held at the largest 64-bit number; the fields of an
- * accepted answer are places in the block. */
+ * A lent list takes the debug symbols, and two lent tables take the place in the block of each string's length and of each path's event
+ * kind. One that is shorter than its count is refused with 61; 8192 symbols, 256 strings and 65535 paths are never too few. Offsets are
+ * base_offset plus the place in the block, held at the largest 64-bit number; the fields of an accepted answer are places in the block. */
+
+typedef struct FalgnustDebugSymbol {
+    size_t pc;
+    uint32_t line;
+    uint16_t col;
+} FalgnustDebugSymbol;
+FALGNUST_SIZE(FalgnustDebugSymbol, 16);
 
 typedef struct FalgnustBlock {
     bool accepted;
@@ -230,10 +237,10 @@ typedef struct FalgnustBlock {
 } FalgnustBlock;
 FALGNUST_SIZE(FalgnustBlock, 80);
 
-/* Decodes a block's strings, DBG0 and OWN0 tables. symbols is the number of debug symbols that the caller has room for. */
+/* Decodes a block's strings, DBG0 and OWN0 tables. */
 FalgnustBlock falgnust_parse_string_table_debug_and_ownership(
     size_t base_offset, const uint8_t *code, size_t code_len, uint16_t header_rev,
-    size_t symbols,
+    FalgnustDebugSymbol *symbols, size_t symbols_len,
     uint64_t *strings, size_t strings_len,
     uint64_t *paths, size_t paths_len);
 
@@ -344,7 +351,7 @@ FalgnustText falgnust_read_text(const uint8_t *bytes, size_t bytes_len, size_t a
 
 /* The rest is there to compare the readers with the Rust's one by one; a caller needs none of it. */
 
-/* A field of 1, 2 or 4 bytes, little-endian, and the place after it; not whole, with zeros, where it passes the end. */
+/* A field of 1, 2 or 4 bytes, little-endian, and the place after it; where it passes the end, zeros. */
 typedef struct FalgnustField {
     bool whole;
     uint32_t value;

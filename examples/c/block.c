@@ -8,7 +8,7 @@
 #include <stdlib.h>
 
 /* As many as there can be, so that no lent table is too short. */
-enum { MOST_STRINGS = 256, MOST_SYMBOLS = 8192, MOST_PATHS = 65535 };
+enum { MOST_SYMBOLS = 8192, MOST_STRINGS = 256, MOST_PATHS = 65535 };
 
 static void print_string(const Input *block, size_t number, size_t at) {
     FalgnustText text = falgnust_read_string(block->bytes, block->len, at);
@@ -17,8 +17,7 @@ static void print_string(const Input *block, size_t number, size_t at) {
     printf("\", characters %zu\n", text.chars);
 }
 
-static void print_symbol(const Input *block, size_t number, size_t at) {
-    FalgnustSymbol s = falgnust_read_debug_symbol(block->bytes, block->len, at);
+static void print_symbol(size_t number, FalgnustDebugSymbol s) {
     printf("symbol %zu: pc %zu, line %" PRIu32 ", column %" PRIu16 "\n", number, s.pc, s.line, s.col);
 }
 
@@ -45,15 +44,15 @@ static void print_path(const Input *block, uint16_t revision, size_t number, siz
     }
 }
 
-static int list(const Input *block, uint16_t revision, uint64_t *strings, uint64_t *paths) {
+static int list(const Input *block, uint16_t revision, FalgnustDebugSymbol *symbols, uint64_t *strings, uint64_t *paths) {
     FalgnustBlock b = falgnust_parse_string_table_debug_and_ownership(
-        0, block->bytes, block->len, revision, MOST_SYMBOLS, strings, MOST_STRINGS, paths, MOST_PATHS);
+        0, block->bytes, block->len, revision, symbols, MOST_SYMBOLS, strings, MOST_STRINGS, paths, MOST_PATHS);
     if (!b.accepted)
         return refused(b.refusal);
     for (size_t i = 0; i < b.string_count; i++)
         print_string(block, i, strings[i]);
     for (size_t i = 0; i < b.debug_symbol_count; i++)
-        print_symbol(block, i, b.debug_symbols_start + 10 * i);
+        print_symbol(i, symbols[i]);
     for (size_t i = 0; i < b.path_count; i++)
         print_path(block, revision, i, paths[i]);
     printf("instructions at %zu\n", b.instr_start_offset);
@@ -66,10 +65,12 @@ int main(int count, char **words) {
         return 2;
     }
     Input block = read_input(words[1]);
+    FalgnustDebugSymbol *symbols = room_for(MOST_SYMBOLS, sizeof(FalgnustDebugSymbol));
     uint64_t *strings = room_for(MOST_STRINGS, sizeof(uint64_t));
     uint64_t *paths = room_for(MOST_PATHS, sizeof(uint64_t));
-    int status = list(&block, (uint16_t)number_in(words[2], UINT16_MAX), strings, paths);
+    int status = list(&block, (uint16_t)number_in(words[2], UINT16_MAX), symbols, strings, paths);
     free(block.bytes);
+    free(symbols);
     free(strings);
     free(paths);
     return status;

@@ -195,12 +195,12 @@ pub fn parent_place(len: usize, parents: usize, number: u32) -> usize {
     unsafe { falgnust_parent_place(len, parents, number) }
 }
 
-/// A block, with room for so many symbols.
+/// A block. Its debug symbols go to a list that is lent, too.
 pub fn parse_string_table_debug_and_ownership(
     base_offset: usize,
     code: &[u8],
     header_rev: u16,
-    symbols: usize,
+    symbols: &mut [DebugSymbol],
     lent: BlockTables,
 ) -> Block {
     unsafe {
@@ -209,7 +209,8 @@ pub fn parse_string_table_debug_and_ownership(
             code.as_ptr(),
             code.len(),
             header_rev,
-            symbols,
+            symbols.as_mut_ptr(),
+            symbols.len(),
             lent.strings.as_mut_ptr(),
             lent.strings.len(),
             lent.paths.as_mut_ptr(),

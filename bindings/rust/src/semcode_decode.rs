@@ -14,7 +14,7 @@ mod tables;
 
 pub use error::DecodeError;
 pub use number::*;
-use tables::{Tables, lend};
+use tables::{Starts, lend};
 
 /// The most bytes of a string.
 pub const MAX_STRING_LEN: usize = 1024;
@@ -124,11 +124,11 @@ pub fn parse_string_table_debug_and_ownership(
     header_rev: u16,
 ) -> Result<StringTableDebugOwnershipParse, DecodeError> {
     let block = Block::new(base_offset, code, header_rev);
-    let (decoded, tables) = block.decode();
-    if !decoded.accepted {
-        return Err(block.error(decoded.refusal));
+    let decoded = block.decode();
+    if !decoded.answer.accepted {
+        return Err(block.error(decoded.answer.refusal));
     }
-    Ok(block.records(&decoded, &tables))
+    Ok(block.records(&decoded))
 }
 
 /// What is decoded.
@@ -147,16 +147,30 @@ impl<'a> Block<'a> {
         }
     }
 
-    fn decode(&self) -> (raw::Block, Tables) {
-        lend(self.code, |tables| {
-            let block = calls::parse_string_table_debug_and_ownership(
+    fn decode(&self) -> Decoded {
+        lend(self.code, |rooms| {
+            let mut symbols = rooms.symbols();
+            let mut starts = rooms.starts();
+            let answer = calls::parse_string_table_debug_and_ownership(
                 self.base_offset,
                 self.code,
                 self.header_rev,
-                MAX_DEBUG_SYMBOLS_PER_FUNCTION,
-                tables.lent(),
+                &mut symbols,
+                starts.lent(),
             );
-            (block, block.refusal)
+            let decoded = Decoded {
+                answer,
+                symbols,
+                starts,
+            };
+            (decoded, answer.refusal)
         })
     }
+}
+
+/// The decoder's answer, and the tables after it.
+struct Decoded {
+    answer: raw::Block,
+    symbols: Vec<raw::DebugSymbol>,
+    starts: Starts,
 }

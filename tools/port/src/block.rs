@@ -6,12 +6,14 @@ use answers::block::{Activation, Component, Event, Execution, Layout, Symbol};
 use falgnust::calls::{self, BlockTables};
 use falgnust::raw;
 
-/// `symbols` is the room for symbols; the starts go to the lent tables.
+pub use falgnust::raw::DebugSymbol;
+
+/// The symbols go to the lent list, the starts to the lent tables.
 pub fn parse_string_table_debug_and_ownership(
     base_offset: usize,
     code: &[u8],
     header_rev: u16,
-    symbols: usize,
+    symbols: &mut [DebugSymbol],
     strings: &mut [u64],
     paths: &mut [u64],
 ) -> Answer<Layout> {

@@ -28,6 +28,18 @@ pub struct Block {
     pub instr_start_offset: usize,
 }
 
+/// A debug symbol in a list that is lent.
+#[repr(C)]
+#[derive(Debug, Default, Clone, Copy, PartialEq, Eq)]
+pub struct DebugSymbol {
+    /// Its place in the instructions.
+    pub pc: usize,
+    /// Its line.
+    pub line: u32,
+    /// Its column.
+    pub col: u16,
+}
+
 /// A debug symbol with its own answer.
 #[repr(C)]
 #[derive(Debug, Default, Clone, Copy, PartialEq, Eq)]
@@ -118,14 +130,15 @@ pub type OfBlock<T> = unsafe extern "C" fn(
 ) -> T;
 
 unsafe extern "C" {
-    /// A block: counts, tags found and places. The start of each string and of each path goes to the two tables; `symbols` is the number
-    /// of symbols that the caller has room for.
+    /// A block: counts, tags found and places. Each debug symbol goes to the list, the start of each string and of each path to the two
+    /// tables.
     pub fn falgnust_parse_string_table_debug_and_ownership(
         base_offset: usize,
         code: *const u8,
         code_len: usize,
         header_rev: u16,
-        symbols: usize,
+        symbols: *mut DebugSymbol,
+        symbols_len: usize,
         strings: *mut u64,
         strings_len: usize,
         paths: *mut u64,

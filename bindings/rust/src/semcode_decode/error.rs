@@ -90,7 +90,7 @@ impl Block<'_> {
             base_offset: 0,
             ..*self
         };
-        let end = here.decode().0.refusal.offset;
+        let end = here.decode().answer.refusal.offset;
         let count = calls::read_u16_le(self.code, end - 2).value;
         DecodeError::ResourceLimit {
             offset,

@@ -25,8 +25,9 @@ pub fn string_number(
     number: usize,
 ) -> Result<Option<String>, DecodeError> {
     let block = Block::new(base_offset, code, header_rev);
-    let (read, _) = lend(code, |tables| {
-        let read = calls::string_number(base_offset, code, header_rev, number, tables.lent());
+    let read = lend(code, |rooms| {
+        let read =
+            calls::string_number(base_offset, code, header_rev, number, rooms.starts().lent());
         (read, read.refusal)
     });
     block.answer(block.string(read))
@@ -40,8 +41,9 @@ pub fn symbol_number(
     number: usize,
 ) -> Result<Option<DecodedDebugSymbol>, DecodeError> {
     let block = Block::new(base_offset, code, header_rev);
-    let (read, _) = lend(code, |tables| {
-        let read = calls::symbol_number(base_offset, code, header_rev, number, tables.lent());
+    let read = lend(code, |rooms| {
+        let read =
+            calls::symbol_number(base_offset, code, header_rev, number, rooms.starts().lent());
         (read, read.refusal)
     });
     block.answer(records::symbol(read))
@@ -66,8 +68,8 @@ pub fn path_number(
     number: usize,
 ) -> Result<Option<DecodedEvent>, DecodeError> {
     let block = Block::new(base_offset, code, header_rev);
-    let (read, _) = lend(code, |tables| {
-        let read = calls::path_number(base_offset, code, header_rev, number, tables.lent());
+    let read = lend(code, |rooms| {
+        let read = calls::path_number(base_offset, code, header_rev, number, rooms.starts().lent());
         (read, read.refusal)
     });
     block.answer(block.path(read))
@@ -82,8 +84,9 @@ pub fn component_number(
     component: usize,
 ) -> Result<Option<DecodedAccessPathComponent>, DecodeError> {
     let block = Block::new(base_offset, code, header_rev);
-    let (read, _) = lend(code, |tables| {
-        let lent = tables.lent();
+    let read = lend(code, |rooms| {
+        let mut starts = rooms.starts();
+        let lent = starts.lent();
         let read = calls::component_number(base_offset, code, header_rev, path, component, lent);
         (read, read.refusal)
     });

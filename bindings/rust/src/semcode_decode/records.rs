@@ -1,8 +1,7 @@
 //! The records of a block, each as the proved reader gives it.
 
-use super::tables::Tables;
 use super::{
-    Block, DecodedAccessPath, DecodedAccessPathComponent, DecodedBorrowActivation,
+    Block, Decoded, DecodedAccessPath, DecodedAccessPathComponent, DecodedBorrowActivation,
     DecodedDebugSymbol, DecodedEvent, DecodedWriteExecution, StringTableDebugOwnershipParse,
 };
 use crate::calls;
@@ -21,11 +20,16 @@ fn accepted(accepted: bool, refusal: Refusal) -> Read<()> {
 
 impl Block<'_> {
     /// An accepted block: every record is read at its place.
-    pub fn records(&self, block: &raw::Block, tables: &Tables) -> StringTableDebugOwnershipParse {
+    pub fn records(&self, decoded: &Decoded) -> StringTableDebugOwnershipParse {
+        let Decoded {
+            answer,
+            symbols,
+            starts,
+        } = decoded;
         let code = self.code;
         let mut borrowed_paths = Vec::new();
         let mut write_paths = Vec::new();
-        for at in &tables.paths[..block.path_count] {
+        for at in &starts.paths[..answer.path_count] {
             let read = calls::read_path(code, *at as usize, self.header_rev);
             match there(self.path(read)) {
                 DecodedEvent::Borrow(path) => borrowed_paths.push(path),
@@ -33,29 +37,25 @@ impl Block<'_> {
             }
         }
         StringTableDebugOwnershipParse {
-            strings: tables.strings[..block.string_count]
+            strings: starts.strings[..answer.string_count]
                 .iter()
                 .map(|at| there(self.string(calls::read_string(code, *at as usize))))
                 .collect(),
-            debug_symbols: self.symbols(block),
+            debug_symbols: symbols[..answer.debug_symbol_count]
+                .iter()
+                .map(|s| DecodedDebugSymbol {
+                    pc: s.pc,
+                    line: s.line,
+                    col: s.col,
+                })
+                .collect(),
             borrowed_paths,
             write_paths,
-            has_ownership_section: block.has_ownership_section,
-            has_debug_section: block.has_debug_section,
-            string_table_end_offset: block.string_table_end_offset,
-            instr_start_offset: block.instr_start_offset,
+            has_ownership_section: answer.has_ownership_section,
+            has_debug_section: answer.has_debug_section,
+            string_table_end_offset: answer.string_table_end_offset,
+            instr_start_offset: answer.instr_start_offset,
         }
-    }
-
-    fn symbols(&self, block: &raw::Block) -> Vec<DecodedDebugSymbol> {
-        let mut at = block.debug_symbols_start;
-        (0..block.debug_symbol_count)
-            .map(|_| {
-                let read = calls::read_debug_symbol(self.code, at);
-                at = read.next;
-                there(symbol(read))
-            })
-            .collect()
     }
 
     pub fn string(&self, read: raw::Text) -> Read<String> {

@@ -1,25 +1,53 @@
 //! The tables that are lent.
 
-use super::MAX_STRINGS_PER_FUNCTION;
+use super::{MAX_DEBUG_SYMBOLS_PER_FUNCTION, MAX_STRINGS_PER_FUNCTION};
 use crate::calls::BlockTables;
-use crate::raw::Refusal;
+use crate::raw::{DebugSymbol, Refusal};
 
-pub struct Tables {
+/// How many strings, symbols and paths there is room for.
+#[derive(Clone, Copy)]
+pub struct Rooms {
+    strings: usize,
+    symbols: usize,
+    paths: usize,
+}
+
+/// The largest counts: 31 and 36 refuse larger ones, and the count of paths has 2 bytes.
+const LARGEST: Rooms = Rooms {
+    strings: MAX_STRINGS_PER_FUNCTION,
+    symbols: MAX_DEBUG_SYMBOLS_PER_FUNCTION,
+    paths: u16::MAX as usize,
+};
+
+impl Rooms {
+    /// What an accepted block of this length has room for: a string takes 2 bytes at least, a symbol 10, a path 7.
+    fn fitted(length: usize) -> Self {
+        Rooms {
+            strings: LARGEST.strings.min(length / 2),
+            symbols: LARGEST.symbols.min(length / 10),
+            paths: LARGEST.paths.min(length / 7),
+        }
+    }
+
+    pub fn starts(self) -> Starts {
+        Starts {
+            strings: vec![0; self.strings],
+            paths: vec![0; self.paths],
+        }
+    }
+
+    pub fn symbols(self) -> Vec<DebugSymbol> {
+        vec![DebugSymbol::default(); self.symbols]
+    }
+}
+
+/// The starts of strings and paths.
+pub struct Starts {
     pub strings: Vec<u64>,
     pub paths: Vec<u64>,
 }
 
-/// The most paths that a count of 2 bytes allows.
-const MAX_PATHS: usize = u16::MAX as usize;
-
-impl Tables {
-    fn new(strings: usize, paths: usize) -> Self {
-        Tables {
-            strings: vec![0; MAX_STRINGS_PER_FUNCTION.min(strings)],
-            paths: vec![0; MAX_PATHS.min(paths)],
-        }
-    }
-
+impl Starts {
     pub fn lent(&mut self) -> BlockTables<'_> {
         BlockTables {
             strings: &mut self.strings,
@@ -28,15 +56,12 @@ impl Tables {
     }
 }
 
-/// The answer of a call that is lent tables, and the tables after it. No answer is 61. A string takes 2 bytes at least and a path 7, so
-/// that tables fitted to the block hold what an accepted one has; where a count is more than that, and the call refuses with 61, it is
-/// made again with tables for the largest counts.
-pub fn lend<T>(code: &[u8], call: impl Fn(&mut Tables) -> (T, Refusal)) -> (T, Tables) {
-    let mut fitted = Tables::new(code.len() / 2, code.len() / 7);
-    let (answer, refusal) = call(&mut fitted);
-    if refusal.number != 61 {
-        return (answer, fitted);
+/// The answer of a call that lends tables with such room. No answer is 61: where a count is more than an accepted block of this length
+/// can have, and the call refuses with 61, it is made again with room for the largest counts.
+pub fn lend<T>(code: &[u8], call: impl Fn(Rooms) -> (T, Refusal)) -> T {
+    let (answer, refusal) = call(Rooms::fitted(code.len()));
+    match refusal.number {
+        61 => call(LARGEST).0,
+        _ => answer,
     }
-    let mut longest = Tables::new(MAX_STRINGS_PER_FUNCTION, MAX_PATHS);
-    (call(&mut longest).0, longest)
 }
