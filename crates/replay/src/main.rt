@@ -44,7 +44,7 @@ fn section_answer(bytes: &[u8], cursor: usize) -> Answer {
 fn block_answer(bytes: &[u8], base: usize, revision: u16) -> Answer {
     let mut strings = [0u64; 256];
     let mut paths = [0u64; 65535];
-    let parsed = semcode_decode::decode::parse_string_table_debug_and_ownership(
+    let parsed = semcode_decode::decode::parse_block(
         base,
         bytes,
         revision,

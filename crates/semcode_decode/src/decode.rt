@@ -106,7 +106,7 @@ fn parse_tables(
 }
 
 // A block at a base, with a lent list of so many symbols: string starts and path starts go to two lent tables.
-pub fn parse_string_table_debug_and_ownership(
+pub fn parse_block(
     base_offset: usize,
     code: &[u8],
     header_rev: u16,

@@ -15,10 +15,10 @@ use Rattle.semcode_decode.specs.Maps.{parseOut}
 use Rattle.semcode_decode.proofs.BlockLaws.{layout-refused}
 use Rattle.semcode_decode.proofs.LentLaws.{front-lent, accepted}
 use borrow.Author.Needs.{needs}
-use Rattle.semcode_decode.proofs.decode.parse_string_table_debug_and_ownership.Statement.{
+use Rattle.semcode_decode.proofs.decode.parse_block.Statement.{
   statement,
 }
-use Rattle.semcode_decode.proofs.decode.parse_string_table_debug_and_ownership.Tie as tie
+use Rattle.semcode_decode.proofs.decode.parse_block.Tie as tie
 
 -- the block with places in it
 abbrev block : tie.After-parse-tables → Out Block
@@ -61,8 +61,8 @@ returns-2 c =
       ),
     )
 
-pub parse-string-table-debug-and-ownership-spec : {M : Type 1} → statement M
-parse-string-table-debug-and-ownership-spec =
+pub parse-block-spec : {M : Type 1} → statement M
+parse-block-spec =
     tie.close
     (tie.spec
     (λ c κs. search needs)
