@@ -4,6 +4,7 @@ pub mod HeldLaws
 pub mod DownLaws
 pub mod AuthorisedLaws
 pub mod EntryLaws
+pub mod PlaceLaws
 pub mod NumberedLaws
 pub mod AskLaws
 pub mod NumberLaws

@@ -1,8 +1,7 @@
 -- A record by its number of a section decoded anew: the record read at its start, for each of the four tables.
-use Prim.Native.Nat.{ℕ, _+_, _-_, _*_, _≤_}
+use Prim.Native.Nat.{ℕ}
 use mathlib.Core.Path.{_≡_, refl, ap, _∙_}
 use mathlib.Core.List.{List}
-use native.Mathlib.Omega.{arith}
 use lib.ListN.{length, getD, take}
 use Rattle.local_format.specs.Out.{Out, ok, refused, _>>=_}
 use Rattle.local_format.specs.Number.{numbered}
@@ -20,6 +19,7 @@ use Rattle.evr0.specs.Answer.{propositionStarts, proofStarts}
 use Rattle.evr0_read.specs.Ask.{propositionNumber, proofNumber, witnessNumber, parentNumber}
 use Rattle.evr0_read.specs.Asked.{Decoded, valueIn}
 use Rattle.evr0_read.specs.Entry.{entryAt, shown, shownProposition, shownSettled, placedProposition, placedProof, placedWitness, placedParent}
+use Rattle.evr0_read.specs.Place.{witnessPlace, parentPlace}
 use Rattle.evr0_read.proofs.NumberedLaws.{shownIn, proposition-numbered, proof-numbered, witness-numbered, parent-numbered}
 use Rattle.evr0_read.proofs.AskLaws.{told-of, facts, payload, payload-read, entry-front, decoded}
 
@@ -60,28 +60,21 @@ module _ (s : List ℕ) (cursor : ℕ) {d : answer.Answer} {x : Out Section} (de
   as-is (ok e) = refl
   as-is (refused r) = refl
 
-  pub witness-asked : (k : ℕ) → entryAt (witnessOf 4) placedWitness p (a .counts .witnesses) (length p - (84 * (a .counts .witnesses - k) + 4 * a .counts .parents)) k
+  pub witness-asked : (k : ℕ) → entryAt (witnessOf 4) placedWitness p (a .counts .witnesses) (witnessPlace (length p) (a .counts .witnesses) (a .counts .parents) k) k
       ≡ valueIn (λ e. e) (witnessNumber k x)
   unfolding witnessNumber
   witness-asked k =
       let told = told-of s cursor decoding is in
-      ap (λ (c : Counts). entryAt (witnessOf 4) placedWitness p (c .witnesses) (length p - (84 * (c .witnesses - k) + 4 * c .parents)) k) (told .counted)
+      ap (λ (c : Counts). entryAt (witnessOf 4) placedWitness p (c .witnesses) (witnessPlace (length p) (c .witnesses) (c .parents) k) k) (told .counted)
       ∙ witness-numbered fourRules (decoding .room) p (section .tables) (payload-read s cursor decoding is) k
       ∙ as-is (numbered k (section .tables .witnesses .entries))
       ∙ decoded (λ e. e) (λ y. numbered k (y .tables .witnesses .entries)) x (told .is)
 
-  pub parent-asked : (k : ℕ) → entryAt (parentRow tt) placedParent p (a .counts .parents) (length p - 4 * (a .counts .parents - k)) k ≡ valueIn (λ e. e) (parentNumber k x)
+  pub parent-asked : (k : ℕ) → entryAt (parentRow tt) placedParent p (a .counts .parents) (parentPlace (length p) (a .counts .parents) k) k ≡ valueIn (λ e. e) (parentNumber k x)
   unfolding parentNumber
   parent-asked k =
       let told = told-of s cursor decoding is in
-      ap (λ (c : Counts). entryAt (parentRow tt) placedParent p (c .parents) (length p - 4 * (c .parents - k)) k) (told .counted)
+      ap (λ (c : Counts). entryAt (parentRow tt) placedParent p (c .parents) (parentPlace (length p) (c .parents) k) k) (told .counted)
       ∙ parent-numbered fourRules (decoding .room) p (section .tables) (payload-read s cursor decoding is) k
       ∙ as-is (numbered k (section .tables .parents .entries))
       ∙ decoded (λ e. e) (λ y. numbered k (y .tables .parents .entries)) x (told .is)
-
-  -- the counts are within their limits
-  pub few-witnesses : a .counts .witnesses ≤ 262144
-  few-witnesses = let told = told-of s cursor decoding is in omega (arith, ap (λ (c : Counts). c .witnesses) (told .counted), facts s cursor decoding is .counts .witnesses)
-
-  pub few-parents : a .counts .parents ≤ 262144
-  few-parents = let told = told-of s cursor decoding is in omega (arith, ap (λ (c : Counts). c .parents) (told .counted), facts s cursor decoding is .counts .parents)

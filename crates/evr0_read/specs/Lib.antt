@@ -2,4 +2,5 @@ pub mod Ask
 pub mod Asked
 pub mod Held
 pub mod Entry
+pub mod Place
 pub mod Maps

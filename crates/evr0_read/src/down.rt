@@ -90,7 +90,7 @@ fn way_down_of(
             if table.len() <= from.place() {
                 return WayDown::Refused(local_format::refusal::refuse(62, 0));
             }
-            let cells = crate::cell::parents_at(payload, counts);
+            let cells = crate::cell::before_parents(payload.len(), counts.parents);
             WayDown::Answer(down_from(payload, table, cells, from, limit))
         }
     }
