@@ -195,18 +195,12 @@ module _ {M : Type 1} (𝓤 : URA M) (H : Heap 𝓤) (A : Atoms 𝓤) (W : Given
       owned ! u16 (Is u16) (uint-makes 𝓤 H A W w16) rev _ (refl, rev-fits) $ fjoin ! $ move ! (2 ∷ 0 ∷ []) $ fjoin ! $ owned ! usize (Is usize) (uint-makes 𝓤 H A W w64) base _ (refl, base-fits) $ fjoin ! $
       move ! (1 ∷ 0 ∷ []) $ join ! $ frame ! $ done !) $ frame ! $ done !
 
-  -- the two that take the core's answer apart
-  abbrev to-start : Parse → Val → StartC 𝓤 H A mem run .Ghost
-  to-start r w = ((tt, tt, tt, (r, tt), (w ∷ [], tt)), tt)
+  -- the two that take the core's answer apart: both are handed the answer alone
+  abbrev to-parted : Parse → Val → StartC 𝓤 H A mem run .Ghost
+  to-parted r w = ((tt, tt, tt, (r, tt), (w ∷ [], tt)), tt)
 
-  goes-start : (r : Parse) (w : Val) → ent 𝓤 (sem 𝓤 H A (D.the-row .own r (w ∷ []))) (StartC 𝓤 H A mem run .pre (to-start r w))
-  goes-start r w = qed W (‵ (D.the-row .own r (w ∷ [])) ∷ []) ∵ nothing ! $ move ! (1 ∷ 0 ∷ []) $ join ! $ nothing ! $ join ! $ frame ! $ done !
-
-  abbrev to-count : Parse → Val → CountC 𝓤 H A mem run .Ghost
-  to-count r w = ((tt, tt, tt, (r, tt), (w ∷ [], tt)), tt)
-
-  goes-count : (r : Parse) (w : Val) → ent 𝓤 (sem 𝓤 H A (D.the-row .own r (w ∷ []))) (CountC 𝓤 H A mem run .pre (to-count r w))
-  goes-count r w = qed W (‵ (D.the-row .own r (w ∷ [])) ∷ []) ∵ nothing ! $ move ! (1 ∷ 0 ∷ []) $ join ! $ nothing ! $ join ! $ frame ! $ done !
+  goes-parted : (r : Parse) (w : Val) → ent 𝓤 (sem 𝓤 H A (D.the-row .own r (w ∷ []))) (StartC 𝓤 H A mem run .pre (to-parted r w))
+  goes-parted r w = qed W (‵ (D.the-row .own r (w ∷ [])) ∷ []) ∵ nothing ! $ move ! (1 ∷ 0 ∷ []) $ join ! $ nothing ! $ join ! $ frame ! $ done !
 
   -- `fill_symbols`
   abbrev to-fill : ℕ → ℕ → FillC 𝓤 H A mem run .Ghost
@@ -252,14 +246,14 @@ module _ {M : Type 1} (𝓤 : URA M) (H : Heap 𝓤) (A : Atoms 𝓤) (W : Given
         -- [the tokens 0, 2, 3; the last values of paths and strings; code; the token 1; symbols; the locals, _17 at 6]
         land ! (from ! (stop !)) (init ! 26 refl (EL.lawful D.the-type D′.the-laws 𝓤 H A W tt .typed r _ is .0)) $
         -- where the symbols start
-        owned ! D.the-row (Is D.the-row) (EL.makes D.the-type D′.the-plain 𝓤 H A) r (w ∷ []) is $ use1 W (raw (StartC 𝓤 H A mem run .pre (to-start r w))) (goes-start r w) $
-        calls-at ! fm (StartC 𝓤 H A mem run) known-start (to-start r w) (and-then ! (load ! (from ! (stop !)) (look ! 27 refl)) (no-more !)) (λ w₁.
+        owned ! D.the-row (Is D.the-row) (EL.makes D.the-type D′.the-plain 𝓤 H A) r (w ∷ []) is $ use1 W (raw (StartC 𝓤 H A mem run .pre (to-parted r w))) (goes-parted r w) $
+        calls-at ! fm (StartC 𝓤 H A mem run) known-start (to-parted r w) (and-then ! (load ! (from ! (stop !)) (look ! 27 refl)) (no-more !)) (λ w₁.
         use1 W (later (some (λ (m : ℕ). (‵ ftrue ⊛ ‵ (usize .own m (w₁ ∷ []))) ⊛ raw (ensured 𝓤 H A start.ended (start.clauses 𝓤 H A mem run) tt (r, tt) tt m)))) (id⊢ 𝓤 _) $ await ! tt $ pick ! (λ m₁.
         split ! $ move ! (1 ∷ []) $ use1 W (raw (fact 𝓤 (m₁ ≡ symbolsStart (parseOut r)))) (says-start 𝓤 H A mem run r m₁) $ heard ! (m₁ ≡ symbolsStart (parseOut r)) (λ e₄. split ! $ drop ! $ facts ! usize (Is usize) (shows 𝓤 H A usize) m₁ (w₁ ∷ []) (λ is₁.
         land ! (from ! (stop !)) (init ! 24 refl (uint-lawful 𝓤 H A W w64 .typed m₁ _ is₁ .0)) $ rewrite ! 24 (λ (u : Val). ‵ (fat fullShare (tyInt w64) l₈ 0 u)) (ap only (is₁ .0)) refl $
         -- how many there are
-        owned ! D.the-row (Is D.the-row) (EL.makes D.the-type D′.the-plain 𝓤 H A) r (w ∷ []) is $ use1 W (raw (CountC 𝓤 H A mem run .pre (to-count r w))) (goes-count r w) $
-        calls-at ! fm (CountC 𝓤 H A mem run) known-count (to-count r w) (and-then ! (load ! (from ! (stop !)) (look ! 27 refl)) (no-more !)) (λ w₂.
+        owned ! D.the-row (Is D.the-row) (EL.makes D.the-type D′.the-plain 𝓤 H A) r (w ∷ []) is $ use1 W (raw (CountC 𝓤 H A mem run .pre (to-parted r w))) (goes-parted r w) $
+        calls-at ! fm (CountC 𝓤 H A mem run) known-count (to-parted r w) (and-then ! (load ! (from ! (stop !)) (look ! 27 refl)) (no-more !)) (λ w₂.
         use1 W (later (some (λ (m : ℕ). (‵ ftrue ⊛ ‵ (usize .own m (w₂ ∷ []))) ⊛ raw (ensured 𝓤 H A count.ended (count.clauses 𝓤 H A mem run) tt (r, tt) tt m)))) (id⊢ 𝓤 _) $ await ! tt $ pick ! (λ m₂.
         split ! $ move ! (1 ∷ []) $ use1 W (raw (fact 𝓤 (m₂ ≡ symbolCount (parseOut r)))) (says-count 𝓤 H A mem run r m₂) $ heard ! (m₂ ≡ symbolCount (parseOut r)) (λ e₅. split ! $ drop ! $ facts ! usize (Is usize) (shows 𝓤 H A usize) m₂ (w₂ ∷ []) (λ is₂.
         land ! (from ! (stop !)) (init ! 22 refl (uint-lawful 𝓤 H A W w64 .typed m₂ _ is₂ .0)) $ rewrite ! 22 (λ (u : Val). ‵ (fat fullShare (tyInt w64) l₉ 0 u)) (ap only (is₂ .0)) refl $
