@@ -1,6 +1,6 @@
 -- Laws of the scan: what one character, or a run of printable ASCII, adds to the count and the mark.
 use mathlib.Core.Path.{_≡_, refl, ap, ap₂, sym, _∙_}
-use Prim.Native.Nat.{ℕ, zero, suc, _+_, _-_, _*_, _%_, _≤_, _<_, min, max}
+use Prim.Native.Nat.{ℕ, zero, suc, _+_, _-_, _*_, _%_, _≤_, _<_, max}
 use native.Mathlib.Omega.{arith}
 use native.Mathlib.Nat.{zero-add, add-zero, add-assoc}
 use native.Mathlib.Numerals.{add-one, one-add}
@@ -114,14 +114,15 @@ no-controls (b ∷ s) e =
 pub all-printable : (s : List ℕ) → allPrintable s ≡ true → text (length s) false ≡ scanOf (decode s)
 all-printable s e = sym (ap scanOf (printable-points s e) ∙ ap (text (length s)) (no-controls s e))
 
--- ---- The least and the greatest byte
-leb-min : (k a b : ℕ) → leb k (min a b) ≡ (leb k a && leb k b)
-leb-min k a b = go (leb k a) refl (leb k b) refl
+-- ---- Bytes above the space, modulo 256
+pub above-space : (b : ℕ) → b < 256 → leb ((b + 0xE0) % 256) 0x5E ≡ printable b
+unfolding printable
+above-space b h = go (leb 0x20 b) refl (leb b 0x7E) refl
   where
-    go : (p : Bool) → leb k a ≡ p → (q : Bool) → leb k b ≡ q → leb k (min a b) ≡ (p && q)
-    go true x true y = le-leb k (min a b) (omega (arith, leb-true k a x, leb-true k b y))
-    go true x false y = lt-leb k (min a b) (omega (arith, leb-false k b y))
-    go false x q y = lt-leb k (min a b) (omega (arith, leb-false k a x))
+    go : (p : Bool) → leb 0x20 b ≡ p → (q : Bool) → leb b 0x7E ≡ q → leb ((b + 0xE0) % 256) 0x5E ≡ (p && q)
+    go true x true y = le-leb ((b + 0xE0) % 256) 0x5E (omega (arith, leb-true 0x20 b x, leb-true b 0x7E y))
+    go true x false y = lt-leb ((b + 0xE0) % 256) 0x5E (omega (arith, leb-true 0x20 b x, leb-false b 0x7E y))
+    go false x q y = lt-leb ((b + 0xE0) % 256) 0x5E (omega (arith, leb-false 0x20 b x))
 
 leb-max : (k a b : ℕ) → leb (max a b) k ≡ (leb a k && leb b k)
 leb-max k a b = go (leb a k) refl (leb b k) refl
@@ -131,33 +132,23 @@ leb-max k a b = go (leb a k) refl (leb b k) refl
     go true x false y = lt-leb (max a b) k (omega (arith, leb-false b k y))
     go false x q y = lt-leb (max a b) k (omega (arith, leb-false a k x))
 
--- the bytes passed, whose least and greatest are these, are printable, and so are those from a place on
-abbrev pub printableFrom : ℕ → ℕ → List ℕ → ℕ → Bool
-printableFrom low high s i = (leb 0x20 low && leb high 0x7E) && allPrintable (drop i s)
+-- the bytes passed, of which none is further above the space, are printable, and so are those from a place on
+abbrev pub printableFrom : ℕ → List ℕ → ℕ → Bool
+printableFrom high s i = leb high 0x5E && allPrintable (drop i s)
 
-pub printable-turn : (s : List ℕ) (i low high : ℕ) → i < length s
-    → printableFrom (min low (getD s i 0)) (max high (getD s i 0)) s (i + 1) ≡ printableFrom low high s i
-unfolding allPrintable printable
-printable-turn s i low high h =
-    let b = getD s i 0 in
-    rw (add-one, drop-cons s i 0 h, leb-min 0x20 low (getD s i 0), leb-max 0x7E high (getD s i 0))
-    (sym (swap (leb 0x20 low) (leb high 0x7E) (leb 0x20 (getD s i 0)) (leb (getD s i 0) 0x7E) (allPrintable (drop (suc i) s))))
+pub printable-turn : (s : List ℕ) (i high x : ℕ) → i < length s → leb x 0x5E ≡ printable (getD s i 0)
+    → printableFrom (max high x) s (i + 1) ≡ printableFrom high s i
+unfolding allPrintable
+printable-turn s i high x h e =
+    rw (add-one, drop-cons s i 0 h, leb-max 0x5E high x, e) (and-assoc (leb high 0x5E) (printable (getD s i 0)) (allPrintable (drop (suc i) s)))
   where
-    swap : (p q x y r : Bool) → ((p && q) && ((x && y) && r)) ≡ (((p && x) && (q && y)) && r)
-    swap false q x y r = refl
-    swap true false true y r = refl
-    swap true false false y r = refl
-    swap true true false y r = refl
-    swap true true true false r = refl
-    swap true true true true r = refl
+    and-assoc : (p q r : Bool) → ((p && q) && r) ≡ (p && (q && r))
+    and-assoc true q r = refl
+    and-assoc false q r = refl
 
-module _ (s : List ℕ) (i low high : ℕ) (h : length s ≤ i) where
-  pub printable-none : low < 0x20 → false ≡ printableFrom low high s i
-  printable-none l = simp (lt-leb 0x20 low l)
-
-  pub printable-end : 0x20 ≤ low → leb high 0x7E ≡ printableFrom low high s i
-  unfolding allPrintable
-  printable-end l = rw (drop-of-length-le s {i = i} h, le-leb 0x20 low l) (sym (and-true (leb high 0x7E)))
+pub printable-end : (s : List ℕ) (i high : ℕ) → length s ≤ i → leb high 0x5E ≡ printableFrom high s i
+unfolding allPrintable
+printable-end s i high h = rw (drop-of-length-le s {i = i} h) (sym (and-true (leb high 0x5E)))
 
 -- ---- A turn of the scan
 pub scan-turn : (s : List ℕ) (i k n : ℕ) (c d e : Bool) → joined 1 d (scanOf (decode (drop k s))) ≡ scanOf (decode (drop i s)) → e ≡ (c || d)

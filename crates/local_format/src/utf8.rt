@@ -1,9 +1,9 @@
 // UTF-8: whether bytes are well-formed, their number of characters, and whether one is a control character.
 ghost use mathlib.Core.Path.{_≡_};
 ghost use mathlib.Core.Bool.{cond, _||_};
-ghost use Prim.Native.Nat.{_<_, min, max};
+ghost use Prim.Native.Nat.{_<_, max};
 ghost use lib.ListN.{length, drop};
-ghost use lib.Dec.{eqb};
+ghost use lib.Dec.{eqb, leb};
 ghost use Rattle.local_format.specs.Utf8.{decode, isControl};
 ghost use Rattle.local_format.specs.Scan.{scanOf, printable, allPrintable, laterAt, utf8At};
 ghost use Rattle.local_format.specs.Maps.{charThen, Within, scannedOut, utf8Out};
@@ -162,46 +162,53 @@ fn scan_chars(bytes: &[u8]) -> Scanned
     Scanned::Text { chars, control }
 }
 
-fn least(a: u8, b: u8) -> u8
-    ensures { λ r. ⌜ r ≡ min a b ⌝ }
-{
-    if b < a { b } else { a }
-}
-
 fn greatest(a: u8, b: u8) -> u8
     ensures { λ r. ⌜ r ≡ max a b ⌝ }
 {
     if a < b { b } else { a }
 }
 
+// How far a byte is above the space, modulo 256: at most 0x5e for the printable characters of ASCII alone.
+fn above_space(b: u8) -> u8
+    ensures { λ r. ⌜ leb r 0x5E ≡ printable b ⌝ }
+{
+    (((b as u16) + 0xe0) % 0x100) as u8
+}
+
 // Whether all bytes are printable characters of ASCII. No test in the loop, so that it runs over many bytes at a time.
 fn all_printable(bytes: &[u8]) -> bool
     ensures { λ r. ⌜ r ≡ allPrintable (now (bytes .entry)) ⌝ }
 {
-    let mut low: u8 = 0x7e;
-    let mut high: u8 = 0x20;
+    let mut high: u8 = 0;
     let mut i: usize = 0;
     while i < bytes.len() {
-        let b = bytes[i];
-        low = least(low, b);
-        high = greatest(high, b);
+        high = greatest(high, above_space(bytes[i]));
         i += 1;
     }
-    if low < 0x20 {
-        return false;
+    high <= 0x5e
+}
+
+// Whether the last byte, if there is one, is ASCII: text of another script most often ends in a character of its own. It only chooses the
+// way, so that nothing has to be known of the answer.
+fn ends_in_ascii(bytes: &[u8]) -> bool {
+    let n = bytes.len();
+    if n < 1 {
+        return true;
     }
-    high <= 0x7e
+    bytes[n - 1] <= 0x7f
 }
 
 // The bytes as text. Printable ASCII, as most are, is its own code points.
 pub fn scan(bytes: &[u8]) -> Scanned
     ensures { λ r. ⌜ scannedOut r ≡ scanOf (decode (now (bytes .entry))) ⌝ }
 {
-    if all_printable(bytes) {
-        return Scanned::Text {
-            chars: bytes.len(),
-            control: false,
-        };
+    if ends_in_ascii(bytes) {
+        if all_printable(bytes) {
+            return Scanned::Text {
+                chars: bytes.len(),
+                control: false,
+            };
+        }
     }
     scan_chars(bytes)
 }

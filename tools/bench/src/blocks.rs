@@ -1,7 +1,7 @@
 //! Blocks. The Rust copies strings, symbols and paths into vectors; the port writes starts to lent tables and symbols to a lent list, whose
 //! lengths a row states.
 
-use crate::rows::{Row, calls};
+use crate::rows::{Plan, Row, calls, plan};
 use answers::Answer;
 use answers::block::Layout;
 use inputs::block::{Block, each_form, large, small};
@@ -19,48 +19,48 @@ type Rooms = [usize; 3];
 
 const FULL: Rooms = [256, 8192, 65_535];
 
-pub fn rows() -> Vec<Row> {
-    let r = &mut Random::new(1);
-    let mut late = large(r, REVISION, [256, 8192, 1000], 3);
-    late.cut = 1;
+pub fn rows() -> Vec<Plan> {
     vec![
-        row(
-            "block, 256 strings",
-            &[large(r, REVISION, [256, 0, 0], 0)],
-            [256, 0, 0],
+        of("block, 256 strings", [256, 0, 0], || {
+            vec![large(&mut Random::new(1), REVISION, [256, 0, 0], 0)]
+        }),
+        of("block, 8,192 symbols", [0, 8192, 0], || {
+            vec![large(&mut Random::new(1), REVISION, [0, 8192, 0], 0)]
+        }),
+        of("block, 65,535 paths of 1 component", [0, 0, 65_535], || {
+            vec![large(&mut Random::new(1), REVISION, [0, 0, 65_535], 1)]
+        }),
+        of("block, 2 paths of 65,535 components", [0, 0, 2], || {
+            vec![large(&mut Random::new(1), REVISION, [0, 0, 2], 65_535)]
+        }),
+        of("block, each form, tables fitted", [2, 2, 4], || {
+            vec![each_form(&mut Random::new(1), REVISION)]
+        }),
+        of("block, each form, tables full", FULL, || {
+            vec![each_form(&mut Random::new(1), REVISION)]
+        }),
+        of("blocks, 100 small ones, tables of 8", [8, 8, 8], || {
+            smalls(&mut Random::new(1))
+        }),
+        of(
+            "block, refused at its first count, tables of 4",
+            [4, 4, 4],
+            || {
+                let mut early = each_form(&mut Random::new(1), REVISION);
+                early.count = Some(257);
+                vec![early]
+            },
         ),
-        row(
-            "block, 8,192 symbols",
-            &[large(r, REVISION, [0, 8192, 0], 0)],
-            [0, 8192, 0],
-        ),
-        row(
-            "block, 65,535 paths of 1 component",
-            &[large(r, REVISION, [0, 0, 65_535], 1)],
-            [0, 0, 65_535],
-        ),
-        row(
-            "block, 2 paths of 65,535 components",
-            &[large(r, REVISION, [0, 0, 2], 65_535)],
-            [0, 0, 2],
-        ),
-        row(
-            "block, each form, tables fitted",
-            &[each_form(r, REVISION)],
-            [2, 2, 4],
-        ),
-        row(
-            "block, each form, tables full",
-            &[each_form(r, REVISION)],
-            FULL,
-        ),
-        row("blocks, 100 small ones, tables of 8", &smalls(r), [8, 8, 8]),
-        row(
-            "block, refused at its last byte",
-            &[late],
-            [256, 8192, 1000],
-        ),
+        of("block, refused at its last byte", [256, 8192, 1000], || {
+            let mut late = large(&mut Random::new(1), REVISION, [256, 8192, 1000], 3);
+            late.cut = 1;
+            vec![late]
+        }),
     ]
+}
+
+fn of(name: &str, rooms: Rooms, blocks: fn() -> Vec<Block>) -> Plan {
+    plan(name, move |name| row(&name, &blocks(), rooms))
 }
 
 /// Small valid blocks, all of one revision.

@@ -19,7 +19,9 @@ fn main() {
     let args: Vec<&str> = args.iter().map(String::as_str).collect();
     match args[..] {
         [] => table(""),
-        ["--list"] => rows::all().iter().for_each(|row| println!("{}", row.name)),
+        ["--list"] => rows::all()
+            .iter()
+            .for_each(|plan| println!("{}", plan.name)),
         ["--once", row, side, count] => once(row, side, count),
         [row] if !row.starts_with('-') => table(row),
         _ => {
@@ -32,19 +34,23 @@ fn main() {
 fn table(prefix: &str) {
     println!("| input | bytes | Rust ns | port ns | port / Rust | Rust MB/s | port MB/s |");
     println!("|---|---|---|---|---|---|---|");
-    let mut worst: Option<(f64, String)> = None;
-    for row in rows::all() {
-        if !row.name.starts_with(prefix) {
-            continue;
-        }
-        let m = measure(&row);
-        print_row(&row, &m);
-        if worst.as_ref().is_none_or(|(ratio, _)| *ratio < m.ratio()) {
-            worst = Some((m.ratio(), row.name));
+    let mut ratios: Vec<(f64, String)> = Vec::new();
+    for plan in rows::all() {
+        if plan.name.starts_with(prefix) {
+            let row = (plan.make)();
+            let m = measure(&row);
+            print_row(&row, &m);
+            ratios.push((m.ratio(), row.name));
         }
     }
-    if let Some((ratio, name)) = worst {
-        println!("\nworst: {name}, {ratio:.2}");
+    ratios.sort_by(|a, b| b.0.total_cmp(&a.0));
+    println!();
+    for (place, (ratio, name)) in ratios.iter().enumerate() {
+        if place == 0 {
+            println!("worst: {name}, {ratio:.2}");
+        } else if *ratio > 1.0 {
+            println!("slower than the Rust: {name}, {ratio:.2}");
+        }
     }
 }
 
@@ -69,9 +75,7 @@ fn once(name: &str, side: &str, count: &str) {
         _ => panic!("a side is rust or port"),
     };
     let count: u64 = count.parse().expect("a number");
-    let row = rows::all()
-        .into_iter()
-        .find(|row| row.name == name)
-        .expect("a row's name");
+    let plan = rows::all().into_iter().find(|plan| plan.name == name);
+    let row = (plan.expect("a row's name").make)();
     println!("{}", row.sum(side, count));
 }

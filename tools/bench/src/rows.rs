@@ -32,7 +32,21 @@ pub fn calls(call: impl Fn() -> u64 + 'static) -> Calls {
     Box::new(move |count| (0..count).fold(0u64, |sum, _| sum.wrapping_add(black_box(call()))))
 }
 
-pub fn all() -> Vec<Row> {
+/// A row's name, and how it is made.
+pub struct Plan {
+    pub name: String,
+    pub make: Box<dyn FnOnce() -> Row>,
+}
+
+pub fn plan(name: &str, make: impl FnOnce(String) -> Row + 'static) -> Plan {
+    let name = name.to_string();
+    Plan {
+        name: name.clone(),
+        make: Box::new(move || make(name)),
+    }
+}
+
+pub fn all() -> Vec<Plan> {
     let mut rows = crate::texts::rows();
     rows.extend(crate::blocks::rows());
     rows.extend(crate::sections::rows());

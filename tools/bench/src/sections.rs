@@ -1,6 +1,6 @@
 //! Sections. The Rust copies the records into vectors; the port writes starts and depths to lent tables, whose lengths a row states.
 
-use crate::rows::{Row, calls};
+use crate::rows::{Plan, Row, calls, plan};
 use answers::Answer;
 use answers::section::Head;
 use inputs::random::Random;
@@ -12,74 +12,108 @@ use std::hint::black_box;
 
 const FULL: usize = 65_536;
 
-pub fn rows() -> Vec<Row> {
-    let r = &mut Random::new(1);
-    let shapes = [
-        ("joins in 250 layers", shapes::layers(r, 250, 160)),
-        ("witnesses and OPs", shapes::witnesses_and_ops(r, 40_000)),
-        ("OPs on one witness", shapes::ops_on_one(r, 40_000)),
-    ];
+/// Proofs of a large section.
+const MANY: u32 = 40_000;
+
+type Make = fn(&mut Random) -> Section;
+
+const SHAPES: [(&str, Make); 3] = [
+    ("joins in 250 layers", |r| shapes::layers(r, 250, 160)),
+    ("witnesses and OPs", |r| shapes::witnesses_and_ops(r, MANY)),
+    ("OPs on one witness", |r| shapes::ops_on_one(r, MANY)),
+];
+
+pub fn rows() -> Vec<Plan> {
+    let fitted = [1, MANY as usize, MANY as usize];
     let mut rows = Vec::new();
-    for (name, section) in shapes {
-        for (length, rooms) in [("fitted", [1, 40_000, 40_000]), ("of 65,536", [FULL; 3])] {
+    for (name, make) in SHAPES {
+        for (length, rooms) in [("fitted", fitted), ("of 65,536", [FULL; 3])] {
             let name = format!("section, 40,000 proofs, {name}, tables {length}");
-            rows.push(row(name, &[section.bytes()], rooms));
+            rows.push(one(&name, rooms, make));
         }
     }
-    let long = shapes::many_propositions(r, 65_536, 49).bytes();
-    rows.push(row(
-        "section, 65,536 propositions".into(),
-        &[long],
-        [FULL, 0, 0],
-    ));
-    let four = shapes::two_proofs(r).bytes();
-    rows.push(row(
-        "section, specimen 4, tables fitted".into(),
-        std::slice::from_ref(&four),
-        [1, 2, 2],
-    ));
-    rows.push(row(
-        "section, specimen 4, tables of 65,536".into(),
-        &[four],
-        [FULL; 3],
-    ));
-    let small: Vec<Vec<u8>> = (0..100).map(|_| shapes::small(r).bytes()).collect();
-    rows.push(row(
-        "sections, 100 small ones, tables of 16".into(),
-        &small,
-        [16; 3],
-    ));
-    rows.extend(refusals(r));
+    rows.extend([
+        one(
+            "section, 65,536 propositions, tables fitted",
+            [FULL, 0, 0],
+            |r| shapes::many_propositions(r, 65_536, 49),
+        ),
+        one(
+            "section, specimen 4, tables fitted",
+            [1, 2, 2],
+            shapes::two_proofs,
+        ),
+        one(
+            "section, specimen 4, tables of 65,536",
+            [FULL; 3],
+            shapes::two_proofs,
+        ),
+        plan("sections, 100 small ones, tables of 16", |name| {
+            let r = &mut Random::new(1);
+            let small: Vec<Vec<u8>> = (0..100).map(|_| shapes::small(r).bytes()).collect();
+            row(name, &small, [16; 3])
+        }),
+        one(
+            "section, specimen 4, refused early, tables fitted",
+            [1, 2, 2],
+            |r| early(shapes::two_proofs(r)),
+        ),
+        one(
+            "section, specimen 4, refused late, tables fitted",
+            [1, 2, 2],
+            |r| late(shapes::two_proofs(r)),
+        ),
+        one(
+            "section, 40,000 proofs, refused early, tables fitted",
+            fitted,
+            |r| early(shapes::witnesses_and_ops(r, MANY)),
+        ),
+        one(
+            "section, 40,000 proofs, refused late, tables fitted",
+            fitted,
+            |r| late(shapes::witnesses_and_ops(r, MANY)),
+        ),
+    ]);
     rows
 }
 
-/// A section that is refused at its first field, and one at its last parent.
-fn refusals(r: &mut Random) -> [Row; 2] {
-    let mut early: Section = shapes::witnesses_and_ops(r, 40_000);
-    early.schema = 2;
-    let mut late: Section = shapes::witnesses_and_ops(r, 40_000);
-    if let Some(parent) = late.parents.last_mut() {
+fn one(name: &str, rooms: [usize; 3], make: Make) -> Plan {
+    plan(name, move |name| {
+        row(name, &[make(&mut Random::new(1)).bytes()], rooms)
+    })
+}
+
+/// Refused at its first field.
+fn early(mut section: Section) -> Section {
+    section.schema = 2;
+    section
+}
+
+/// Refused at its last parent.
+fn late(mut section: Section) -> Section {
+    if let Some(parent) = section.parents.last_mut() {
         *parent = u32::MAX;
     }
-    [
-        row(
-            "section, 40,000 proofs, refused early, tables fitted".into(),
-            &[early.bytes()],
-            [1, 40_000, 40_000],
-        ),
-        row(
-            "section, 40,000 proofs, refused late, tables fitted".into(),
-            &[late.bytes()],
-            [1, 40_000, 40_000],
-        ),
-    ]
+    section
 }
 
 fn row(name: String, files: &[Vec<u8>], rooms: [usize; 3]) -> Row {
     let tables = RefCell::new(rooms.map(|room| vec![0; room]));
     for file in files {
-        let rust = oracle::section::section(file, 0).map(|(section, _)| section.head);
-        assert_eq!(rust, port(file, &mut tables.borrow_mut()).0, "{name}");
+        let rust = oracle::section::section(file, 0).map(|(section, _)| section);
+        let answer = port(file, &mut tables.borrow_mut()).0;
+        assert_eq!(
+            rust.as_ref().map(|s| s.head),
+            answer.as_ref().copied(),
+            "{name}"
+        );
+        if let Ok(s) = rust {
+            let starts = [s.tables.propositions, s.tables.proofs, s.tables.depths];
+            for (mut wanted, table) in starts.into_iter().zip(&*tables.borrow()) {
+                wanted.resize(table.len(), 0);
+                assert_eq!(&wanted, table, "{name}");
+            }
+        }
     }
     let (files, same) = (files.to_vec(), files.to_vec());
     Row {

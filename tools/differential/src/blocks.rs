@@ -1,14 +1,19 @@
-//! Blocks: every cut and byte change of small ones at each revision, faults one and two at once, limits, and large ones.
+//! Blocks: all short ones, every cut and byte change of small ones at each revision, faults one and two at once, limits, and large ones.
 
 use crate::block_compare;
-use crate::tally::Tally;
+use crate::tally::{Outcome, Tally};
 use inputs::block::{self, Block, REVISIONS};
+use inputs::block_conditions::{REACHABLE, condition};
 use inputs::cases::{self, BASES, BlockCase};
 use inputs::random::Random;
 use inputs::text::Text;
 
+/// How many more inputs are looked at for conditions that were met too seldom, for each one of the count.
+const TRIES: usize = 20;
+
 pub fn run(r: &mut Random, count: usize) -> Tally {
-    let mut tally = Tally::new("blocks");
+    let mut tally = Tally::of("blocks", &REACHABLE);
+    exhaustive(&mut tally);
     for revision in REVISIONS {
         let small = block::each_form(r, revision);
         cuts(&mut tally, &small);
@@ -19,7 +24,51 @@ pub fn run(r: &mut Random, count: usize) -> Tally {
         let case = cases::block(r);
         block_compare::compare(&mut tally, &case);
     }
+    for _ in 0..count / 2000 {
+        let case = cases::large_block(r);
+        block_compare::compare(&mut tally, &case);
+    }
+    seldom(&mut tally, r, count);
     tally
+}
+
+/// More of the conditions that were met too seldom.
+fn seldom(tally: &mut Tally, r: &mut Random, count: usize) {
+    for _ in 0..TRIES * count {
+        if tally.too_few().is_empty() {
+            return;
+        }
+        let case = cases::block(r);
+        if tally.lacks(outcome(&case)) {
+            block_compare::compare(tally, &case);
+        }
+        tally.progress();
+    }
+}
+
+fn outcome(case: &BlockCase) -> Outcome {
+    match oracle::block::block(&case.code, case.base, case.revision) {
+        Ok(_) => (0, ""),
+        Err(refusal) => (refusal.number, condition(&case.code, case.base, &refusal)),
+    }
+}
+
+/// Every block of up to 2 bytes; every string of 1 byte; every first two bytes of a path, with what they need after them.
+fn exhaustive(tally: &mut Tally) {
+    compare(tally, &[], 1000, 22);
+    for a in 0..=255 {
+        compare(tally, &[a], 1000, 22);
+        compare(tally, &[1, 0, 1, 0, a], 1000, 22);
+        for b in 0..=255 {
+            compare(tally, &[a, b], 1000, 22);
+            let mut path = b"\0\0OWN0\x01\0".to_vec();
+            path.extend([a, b]);
+            path.resize(path.len() + 10, 0);
+            for revision in [20, 21, 22] {
+                compare(tally, &path, 1000, revision);
+            }
+        }
+    }
 }
 
 fn compare(tally: &mut Tally, code: &[u8], base: usize, revision: u16) {

@@ -1,14 +1,19 @@
-//! Sections: every cut and byte change of small ones, faults one and two at once, limits, and large ones.
+//! Sections: every length, schema and flags, every cut and byte change of small ones, faults one and two at once, limits, and large ones.
 
 use crate::section_compare;
-use crate::tally::Tally;
+use crate::tally::{Outcome, Tally};
 use inputs::cases::{self, SectionCase};
 use inputs::random::Random;
 use inputs::section::Section;
+use inputs::section_conditions::{REACHABLE, condition};
 use inputs::shapes;
 
+/// How many more inputs are looked at for conditions that were met too seldom, for each one of the count.
+const TRIES: usize = 20;
+
 pub fn run(r: &mut Random, count: usize) -> Tally {
-    let mut tally = Tally::new("sections");
+    let mut tally = Tally::of("sections", &REACHABLE);
+    exhaustive(&mut tally, r);
     for shape in [shapes::one_proof, shapes::two_proofs, shapes::joined] {
         let bytes = shape(r).bytes();
         cuts(&mut tally, &bytes);
@@ -19,7 +24,45 @@ pub fn run(r: &mut Random, count: usize) -> Tally {
         let case = cases::section(r);
         section_compare::compare(&mut tally, &case);
     }
+    for _ in 0..count / 2000 {
+        let case = cases::large_section(r);
+        section_compare::compare(&mut tally, &case);
+    }
+    seldom(&mut tally, r, count);
     tally
+}
+
+/// More of the conditions that were met too seldom.
+fn seldom(tally: &mut Tally, r: &mut Random, count: usize) {
+    for _ in 0..TRIES * count {
+        if tally.too_few().is_empty() {
+            return;
+        }
+        let case = cases::section(r);
+        if tally.lacks(outcome(&case)) {
+            section_compare::compare(tally, &case);
+        }
+        tally.progress();
+    }
+}
+
+fn outcome(case: &SectionCase) -> Outcome {
+    match oracle::section::section(&case.file, case.cursor) {
+        Ok(_) => (0, ""),
+        Err(refusal) => (refusal.number, condition(&case.file, case.cursor, &refusal)),
+    }
+}
+
+/// Every payload length below 65,536, every schema and all flags, each on specimen 1.
+fn exhaustive(tally: &mut Tally, r: &mut Random) {
+    let bytes = Section::empty(r).bytes();
+    for at in [4, 8, 10] {
+        let mut changed = bytes.clone();
+        for value in 0..=u16::MAX {
+            changed[at..at + 2].copy_from_slice(&value.to_le_bytes());
+            compare(tally, &changed, 0);
+        }
+    }
 }
 
 fn compare(tally: &mut Tally, file: &[u8], cursor: usize) {

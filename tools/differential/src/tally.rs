@@ -3,39 +3,72 @@
 use std::collections::BTreeMap;
 use std::fmt::Debug;
 use std::io::{IsTerminal, Write};
+use std::time::{Duration, Instant};
 
 /// What an input led to: accepted (number 0) or a refusal's number, and the condition of it that applied.
 pub type Outcome = (u8, &'static str);
+
+/// How many inputs of each condition a whole run has at least.
+pub const LEAST: u64 = 1000;
+
+/// 61 and the numbers above it are not in the Rust.
+const ADDED: u8 = 61;
 
 pub struct Tally {
     part: &'static str,
     inputs: u64,
     differences: u64,
     outcomes: BTreeMap<Outcome, u64>,
+    /// The conditions that can be reached.
+    reachable: &'static [Outcome],
+    shown: Instant,
 }
 
 const SHOWN: u64 = 10;
 
 impl Tally {
     pub fn new(part: &'static str) -> Self {
+        Tally::of(part, &[])
+    }
+
+    /// A part whose conditions have to be met so many times each.
+    pub fn of(part: &'static str, reachable: &'static [Outcome]) -> Self {
         Tally {
             part,
             inputs: 0,
             differences: 0,
             outcomes: BTreeMap::new(),
+            reachable,
+            shown: Instant::now(),
         }
     }
 
-    /// One input; a line of progress now and then.
+    /// One input.
     pub fn input(&mut self, outcome: Outcome) {
         self.inputs += 1;
         *self.outcomes.entry(outcome).or_default() += 1;
-        if self.inputs.is_multiple_of(1 << 16) && std::io::stderr().is_terminal() {
-            eprint!(
-                "\r{}: {} inputs, {} differences",
-                self.part, self.inputs, self.differences
-            );
+        if self.inputs.is_multiple_of(1 << 12) {
+            self.progress();
+        }
+    }
+
+    /// A line on standard error: rewritten in place on a terminal, a new one every ten seconds elsewhere.
+    pub fn progress(&mut self) {
+        let terminal = std::io::stderr().is_terminal();
+        let pause = Duration::from_millis(if terminal { 200 } else { 10_000 });
+        if self.shown.elapsed() < pause {
+            return;
+        }
+        self.shown = Instant::now();
+        let line = format!(
+            "{}: {} inputs, {} differences",
+            self.part, self.inputs, self.differences
+        );
+        if terminal {
+            eprint!("\r{line}");
             let _ = std::io::stderr().flush();
+        } else {
+            eprintln!("{line}");
         }
     }
 
@@ -66,20 +99,65 @@ impl Tally {
         self.differences
     }
 
+    fn count(&self, outcome: Outcome) -> u64 {
+        self.outcomes.get(&outcome).copied().unwrap_or(0)
+    }
+
+    /// Whether a condition that can be reached has not been met often enough.
+    pub fn lacks(&self, outcome: Outcome) -> bool {
+        self.reachable.contains(&outcome) && self.count(outcome) < LEAST
+    }
+
+    pub fn too_few(&self) -> Vec<(Outcome, u64)> {
+        let counts = self.reachable.iter().map(|&o| (o, self.count(o)));
+        counts.filter(|(_, count)| *count < LEAST).collect()
+    }
+
+    /// How many inputs the Rust answers too, and how many of those are accepted.
+    pub fn with_rust_side(&self) -> (u64, u64) {
+        let of = |wanted: fn(u8) -> bool| -> u64 {
+            let found = self.outcomes.iter().filter(|((n, _), _)| wanted(*n));
+            found.map(|(_, count)| count).sum()
+        };
+        (of(|number| number < ADDED), of(|number| number == 0))
+    }
+
     pub fn print(&self) {
         if std::io::stderr().is_terminal() {
             eprint!("\r\x1b[K");
         }
+        let (both, accepted) = self.with_rust_side();
         println!(
-            "{}: {} inputs, {} differences",
+            "{}: {} inputs, {both} with a Rust side, {accepted} accepted, {} differences",
             self.part, self.inputs, self.differences
         );
-        for ((number, condition), count) in &self.outcomes {
-            let name = match number {
-                0 => "accepted".to_string(),
-                _ => number.to_string(),
-            };
-            println!("  {name:>8}  {count:>9}  {condition}");
+        for number in 0..=u8::MAX {
+            let all: Vec<(&str, u64)> = self
+                .outcomes
+                .iter()
+                .filter(|((n, _), _)| *n == number)
+                .map(|((_, condition), count)| (*condition, *count))
+                .collect();
+            print_number(number, &all);
+        }
+    }
+}
+
+/// The inputs of a number, and of each condition where there are several.
+fn print_number(number: u8, all: &[(&str, u64)]) {
+    let name = match number {
+        0 => "accepted".to_string(),
+        _ => number.to_string(),
+    };
+    let sum: u64 = all.iter().map(|(_, count)| count).sum();
+    match all {
+        [] => (),
+        [(condition, count)] => println!("  {name:>8}  {count:>9}  {condition}"),
+        _ => {
+            println!("  {name:>8}  {sum:>9}");
+            for (condition, count) in all {
+                println!("            {count:>9}  {condition}");
+            }
         }
     }
 }

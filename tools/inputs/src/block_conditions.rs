@@ -2,6 +2,43 @@
 
 use answers::refusal::Refusal;
 
+/// Every condition that a block can meet, but for 61.
+pub const REACHABLE: [(u8, &str); 33] = [
+    (30, ""),
+    (31, ""),
+    (32, ""),
+    (33, ""),
+    (34, "string cut"),
+    (34, "string not UTF-8"),
+    (34, "place not known, the offset is held"),
+    (35, ""),
+    (36, ""),
+    (37, ""),
+    (38, ""),
+    (39, ""),
+    (40, ""),
+    (41, ""),
+    (42, ""),
+    (43, ""),
+    (44, ""),
+    (45, ""),
+    (46, ""),
+    (47, ""),
+    (48, ""),
+    (49, ""),
+    (50, ""),
+    (51, ""),
+    (52, ""),
+    (53, ""),
+    (54, ""),
+    (55, ""),
+    (56, ""),
+    (57, ""),
+    (58, ""),
+    (59, ""),
+    (60, ""),
+];
+
 /// The condition behind a refusal, where its number stands for two.
 pub fn condition(code: &[u8], base: usize, refusal: &Refusal) -> &'static str {
     match refusal.number {

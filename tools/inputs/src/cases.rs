@@ -1,7 +1,9 @@
-//! What a decoder is called with: small sections and blocks at random, valid or damaged.
+//! What a decoder is called with: sections and blocks at random, valid or damaged.
 
+use crate::block::{self, Block, REVISIONS};
 use crate::random::Random;
-use crate::{block, block_faults, section_faults, shapes};
+use crate::section::Section;
+use crate::{block_faults, section_faults, shapes};
 
 pub struct SectionCase {
     pub file: Vec<u8>,
@@ -17,9 +19,19 @@ pub struct BlockCase {
 /// Bases at which a sum is exact, reaches 2^64 - 1 or is held there.
 pub const BASES: [usize; 4] = [0, 1000, usize::MAX - 20, usize::MAX];
 
-/// A section somewhere in a file.
+/// A small section somewhere in a file.
 pub fn section(r: &mut Random) -> SectionCase {
     let section = shapes::small(r);
+    in_file(r, section)
+}
+
+/// A section of some hundred records somewhere in a file.
+pub fn large_section(r: &mut Random) -> SectionCase {
+    let section = shapes::many(r);
+    in_file(r, section)
+}
+
+fn in_file(r: &mut Random, section: Section) -> SectionCase {
     let bytes = match r.below(8) {
         0 => section.bytes(),
         1 => section_faults::scrambled(r, section.bytes()),
@@ -41,9 +53,21 @@ pub fn section(r: &mut Random) -> SectionCase {
     SectionCase { file, cursor }
 }
 
-/// A block at some base.
+/// A small block at some base.
 pub fn block(r: &mut Random) -> BlockCase {
-    let mut block = block::small(r);
+    let block = block::small(r);
+    at_base(r, block)
+}
+
+/// A block of some thousand records at some base.
+pub fn large_block(r: &mut Random) -> BlockCase {
+    let counts = [r.below(257), r.below(3000), r.below(2000)];
+    let (revision, components) = (r.pick(&REVISIONS), r.below(12));
+    let block = block::large(r, revision, counts, components);
+    at_base(r, block)
+}
+
+fn at_base(r: &mut Random, mut block: Block) -> BlockCase {
     let code = match r.below(8) {
         0 => block.bytes(),
         1 => section_faults::scrambled(r, block.bytes()),

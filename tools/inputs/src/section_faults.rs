@@ -145,8 +145,9 @@ fn cut(s: &mut Section, r: &mut Random) {
 
 /// The end inside a field. A long kind makes up for what is cut, so that 13 does not apply.
 fn cut_in_field(s: &mut Section, r: &mut Random) {
+    let filler = payload_length(s).min(1500);
     if let Some(p) = any_proposition(s, r) {
-        p.kind.bytes.extend(well_formed(r, 1500));
+        p.kind.bytes.extend(well_formed(r, filler));
         s.propositions.sort_by(|a, b| order(a).cmp(&order(b)));
     }
     let fields = s.fields();

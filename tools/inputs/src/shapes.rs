@@ -153,6 +153,18 @@ pub fn small(r: &mut Random) -> Section {
     s
 }
 
+/// A section of some hundred records.
+pub fn many(r: &mut Random) -> Section {
+    let mut s = small(r);
+    if s.propositions.is_empty() {
+        s.propositions.push(proposition(b"k", [1, 2, 3]));
+    }
+    for _ in 0..r.within(100, 800) {
+        add_proof(r, &mut s);
+    }
+    s
+}
+
 /// Up to six, strictly rising; kinds and numbers often repeat.
 fn propositions(r: &mut Random) -> Vec<Proposition> {
     let kinds: Vec<Text> = (0..3).map(|_| text(r)).collect();

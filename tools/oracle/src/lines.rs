@@ -46,14 +46,15 @@ pub fn block_line(bytes: &[u8], base: usize, revision: u16) -> Answer<String> {
     let strings = b.strings.iter().zip(&b.string_starts);
     let paths = b.paths.iter().zip(&b.path_starts);
     Ok(format!(
-        "counts={},{},{} debug={} ownership={} strings_end={} instructions={} strings={} \
-         symbols={} paths={}",
+        "counts={},{},{} debug={} ownership={} strings_end={} symbols_start={} instructions={} \
+         strings={} symbols={} paths={}",
         b.layout.strings,
         b.layout.symbols,
         b.layout.paths,
         b.layout.has_debug,
         b.layout.has_ownership,
         b.layout.strings_end,
+        b.layout.symbols_start,
         b.layout.instructions,
         list(strings.map(|(text, start)| format!("{start}:{}", hex(text.as_bytes())))),
         list(

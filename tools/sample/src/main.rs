@@ -1,24 +1,41 @@
-//! Prints inputs with the Rust's answers, so many for each refusal number and condition that random inputs reach:
+//! Prints inputs with the Rust's answers, a line each:
 //!
 //!     section HEX CURSOR TAB ANSWER
 //!     block HEX BASE REVISION TAB ANSWER
+//!
+//! Either so many for each refusal number and condition that random inputs reach, or the inputs of fixed.rs.
 
+mod fixed;
+
+use inputs::cases::{self, BlockCase, SectionCase};
 use inputs::random::Random;
-use inputs::{block_conditions, cases, section_conditions};
+use inputs::{block_conditions, section_conditions};
 use oracle::lines::{block_line, hex, section_line};
 use std::collections::BTreeMap;
 
-const USAGE: &str = "usage: sample section|block SEED EACH LONGEST";
+const USAGE: &str = "usage: sample section|block SEED EACH LONGEST [ACCEPTED]
+       sample fixed";
 
-/// How many inputs are looked at for each one that is wanted.
+/// How many inputs are looked at.
 const TRIES: usize = 400_000;
 
 fn main() {
     let args: Vec<String> = std::env::args().skip(1).collect();
     let numbers: Option<Vec<usize>> = args.iter().skip(1).map(|n| n.parse().ok()).collect();
-    match (args.first().map(String::as_str), numbers.as_deref()) {
-        (Some("section"), Some(&[seed, each, longest])) => sections(seed, each, longest),
-        (Some("block"), Some(&[seed, each, longest])) => blocks(seed, each, longest),
+    let (what, numbers) = (
+        args.first().map(String::as_str),
+        numbers.unwrap_or_default(),
+    );
+    match (what, &numbers[..]) {
+        (Some("fixed"), []) => fixed::print(),
+        (Some("section"), &[seed, each, longest]) => sections(seed, picked(each, each), longest),
+        (Some("block"), &[seed, each, longest]) => blocks(seed, picked(each, each), longest),
+        (Some("section"), &[seed, each, longest, accepted]) => {
+            sections(seed, picked(each, accepted), longest)
+        }
+        (Some("block"), &[seed, each, longest, accepted]) => {
+            blocks(seed, picked(each, accepted), longest)
+        }
         _ => {
             eprintln!("{USAGE}");
             std::process::exit(2);
@@ -29,6 +46,7 @@ fn main() {
 /// Counts inputs by what they led to.
 struct Picked {
     each: usize,
+    accepted: usize,
     by_outcome: BTreeMap<(u8, &'static str), usize>,
 }
 
@@ -36,64 +54,84 @@ impl Picked {
     fn wants(&mut self, number: u8, condition: &'static str) -> bool {
         let count = self.by_outcome.entry((number, condition)).or_default();
         *count += 1;
-        *count <= self.each
+        *count
+            <= if number == 0 {
+                self.accepted
+            } else {
+                self.each
+            }
     }
 }
 
-fn picked(each: usize) -> Picked {
+fn picked(each: usize, accepted: usize) -> Picked {
     Picked {
         each,
+        accepted,
         by_outcome: BTreeMap::new(),
     }
 }
 
-fn sections(seed: usize, each: usize, longest: usize) {
-    let (mut r, mut picked) = (Random::new(seed as u64), picked(each));
+fn sections(seed: usize, mut picked: Picked, longest: usize) {
+    let mut r = Random::new(seed as u64);
     for _ in 0..TRIES {
         let case = cases::section(&mut r);
         if case.file.len() > longest {
             continue;
         }
-        let answer = section_line(&case.file, case.cursor);
-        let (number, condition) = match &answer {
+        let (number, condition) = match oracle::section::section(&case.file, case.cursor) {
             Ok(_) => (0, ""),
             Err(refusal) => {
-                let condition = section_conditions::condition(&case.file, case.cursor, refusal);
+                let condition = section_conditions::condition(&case.file, case.cursor, &refusal);
                 (refusal.number, condition)
             }
         };
         if picked.wants(number, condition) {
-            let answer =
-                answer.map_or_else(|refusal| refusal.to_string(), |line| format!("ok {line}"));
-            println!("section {} {}\t{answer}", hex(&case.file), case.cursor);
+            section(&case);
         }
     }
 }
 
-fn blocks(seed: usize, each: usize, longest: usize) {
-    let (mut r, mut picked) = (Random::new(seed as u64), picked(each));
+fn blocks(seed: usize, mut picked: Picked, longest: usize) {
+    let mut r = Random::new(seed as u64);
     for _ in 0..TRIES {
         let case = cases::block(&mut r);
         if case.code.len() > longest {
             continue;
         }
-        let answer = block_line(&case.code, case.base, case.revision);
-        let (number, condition) = match &answer {
+        let (number, condition) = match oracle::block::block(&case.code, case.base, case.revision) {
             Ok(_) => (0, block_conditions::accepted(case.revision)),
             Err(refusal) => {
-                let condition = block_conditions::condition(&case.code, case.base, refusal);
+                let condition = block_conditions::condition(&case.code, case.base, &refusal);
                 (refusal.number, condition)
             }
         };
         if picked.wants(number, condition) {
-            let answer =
-                answer.map_or_else(|refusal| refusal.to_string(), |line| format!("ok {line}"));
-            println!(
-                "block {} {} {}\t{answer}",
-                hex(&case.code),
-                case.base,
-                case.revision
-            );
+            block(&case);
         }
     }
+}
+
+fn section(case: &SectionCase) {
+    let answer = section_line(&case.file, case.cursor);
+    println!(
+        "section {} {}\t{}",
+        hex(&case.file),
+        case.cursor,
+        told(answer)
+    );
+}
+
+fn block(case: &BlockCase) {
+    let answer = block_line(&case.code, case.base, case.revision);
+    let code = hex(&case.code);
+    println!(
+        "block {code} {} {}\t{}",
+        case.base,
+        case.revision,
+        told(answer)
+    );
+}
+
+fn told(answer: answers::Answer<String>) -> String {
+    answer.map_or_else(|refusal| refusal.to_string(), |line| format!("ok {line}"))
 }

@@ -4,15 +4,15 @@ use native.Mathlib.Omega.{arith}
 use borrow.Author.Needs.{needs}
 use lib.ListN.{length}
 use Rattle.local_format.specs.Scan.{allPrintable}
-use Rattle.local_format.proofs.ScanLaws.{printableFrom, printable-turn, printable-none, printable-end}
+use Rattle.local_format.proofs.ScanLaws.{printableFrom, printable-turn, printable-end}
 use Rattle.local_format.proofs.utf8.all_printable.Statement.{statement}
 use Rattle.local_format.proofs.utf8.all_printable.Tie as tie
 
 abbrev Inv-loop : tie.InvT-loop
-Inv-loop s low₀ high₀ i₀ low high i = (i ≤ length s) × (printableFrom low high s i ≡ allPrintable s)
+Inv-loop s high₀ i₀ high i = (i ≤ length s) × (printableFrom high s i ≡ allPrintable s)
 
 abbrev μ-loop : tie.MeasureT-loop
-μ-loop s low₀ high₀ i₀ low high i = length s - i
+μ-loop s high₀ i₀ high i = length s - i
 
 loop-holds : tie.Need-loop-holds Inv-loop μ-loop
 loop-holds c = (omega arith, refl)
@@ -22,18 +22,11 @@ loop-again c =
     let l = c .before .before .before .before .loop in
     let s = c .before .before .before .before .before .before .args .bytes .now in (
       omega arith,
-      rw (c .before .least .ensures, c .greatest .ensures) (printable-turn s (l .i) (l .low) (l .high) (omega arith) ∙ l .inv .1),
+      rw (c .greatest .ensures) (printable-turn s (l .i) (l .high) _ (omega arith) (c .before .above-space .ensures) ∙ l .inv .1),
     )
 
 returns : tie.Need-returns Inv-loop μ-loop
-returns c =
-    let l = c .before .before .loop in
-    printable-none _ (l .i) (l .low) (l .high) (omega arith) (c .if1 .taken) ∙ l .inv .1
-
-returns-2 : tie.Need-returns-2 Inv-loop μ-loop
-returns-2 c =
-    let l = c .before .before .loop in
-    printable-end _ (l .i) (l .low) (l .high) (omega arith) (c .if1 .left) ∙ l .inv .1
+returns c = let l = c .before .loop in printable-end _ (l .i) (l .high) (omega arith) ∙ l .inv .1
 
 pub all-printable-spec : {M : Type 1} → statement M
 all-printable-spec =
@@ -48,5 +41,4 @@ all-printable-spec =
     (λ c. search needs)
     (λ c. search needs)
     loop-again
-    returns
-    returns-2)
+    returns)

@@ -1,0 +1,11 @@
+use borrow.Author.Needs.{needs}
+use native.Mathlib.Omega.{arith}
+use Rattle.local_format.proofs.ScanLaws.{above-space}
+use Rattle.local_format.proofs.utf8.above_space.Statement.{statement}
+use Rattle.local_format.proofs.utf8.above_space.Tie as tie
+
+returns : tie.Need-returns
+returns c = above-space (c .args .b) (omega arith)
+
+pub above-space-spec : {M : Type 1} → statement M
+above-space-spec = tie.close (tie.spec (λ c. search needs) (λ c. search needs) returns)

@@ -1,0 +1,29 @@
+-- Meets its contract. A part of a table is as long as the lesser of the length asked for and its own.
+use borrow.Author.Needs.{needs}
+use native.Mathlib.Omega.{arith}
+use mathlib.Core.Path.{sym}
+use lib.Seq.{length-take-le}
+use Rattle.replay.proofs.list.block.Statement.{statement}
+use Rattle.replay.proofs.list.block.Tie as tie
+
+slice-aggregate-block : tie.Need-slice-aggregate-block
+slice-aggregate-block c = sym (length-take-le (c .before .before .least .result) (c .before .before .before .before .before .before .before .before .args .first .now) (omega arith))
+
+slice-aggregate-block-2 : tie.Need-slice-aggregate-block-2
+slice-aggregate-block-2 c = sym (length-take-le (c .before .before .least2 .result) (c .before .before .before .before .before .before .before .before .before .args .third .now) (omega arith))
+
+pub block-spec : {M : Type 1} → statement M
+block-spec =
+    tie.close
+    (tie.spec
+    (λ c κs. search needs)
+    (λ c κs. search needs)
+    (λ c κs. search needs)
+    (λ c. search needs)
+    slice-aggregate-block
+    (λ c. search needs)
+    slice-aggregate-block-2
+    (λ c κs. search needs)
+    (λ c. search needs)
+    (λ c. search needs)
+    (λ c. search needs))
