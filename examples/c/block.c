@@ -30,7 +30,9 @@ static void print_component(FalgnustParts c) {
 }
 
 static void print_path(const Input *block, uint16_t revision, size_t number, size_t at) {
-    static const char *const events[] = {"borrow", "borrow on frame entry", "borrow at store site", "write", "write at store site", "write at record site"};
+    static const char *const events[] = {
+        "borrow", "borrow on frame entry", "borrow at store site", "write", "write at store site", "write at record site",
+    };
     FalgnustPath p = falgnust_read_path(block->bytes, block->len, at, revision);
     printf("path %zu: %s", number, events[p.event.event]);
     if (p.event.event == FALGNUST_BORROW_STORE_SITE || p.event.event > FALGNUST_WRITE)

@@ -35,3 +35,4 @@ pub mod raw;
 pub mod semcode_decode;
 
 mod messages;
+mod read;

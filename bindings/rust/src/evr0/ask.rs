@@ -1,10 +1,11 @@
 //! What is asked of a section by number. Each function decodes the section at `cursor` anew, and answers none where the section does not
 //! have the number (document 01's 62).
 
-use super::records::{self, Read};
+use super::records;
 use super::tables::Tables;
 use super::{Evr0Error, HEADER, Proof, Proposition, Witness};
 use crate::calls;
+use crate::read::Read;
 
 /// Where the way down from a proof leads.
 #[derive(Debug, Clone, Copy, PartialEq, Eq)]

@@ -3,10 +3,8 @@
 use super::tables::Tables;
 use super::{DecodedEvr0, Proof, Proposition, Witness};
 use crate::calls;
-use crate::raw::{self, Refusal, Section, Span};
-
-/// A record, or why there is none.
-pub type Read<T> = Result<T, Refusal>;
+use crate::raw::{self, Section, Span};
+use crate::read::{Read, accepted, string, there};
 
 /// An accepted section: every record is read at its place in the payload.
 pub fn records(payload: &[u8], section: &Section, tables: &Tables) -> DecodedEvr0 {
@@ -44,14 +42,6 @@ pub fn records(payload: &[u8], section: &Section, tables: &Tables) -> DecodedEvr
             .map(|read| there(parent(read)))
             .collect(),
     }
-}
-
-fn there<T>(read: Read<T>) -> T {
-    read.expect("each record of an accepted section")
-}
-
-fn accepted(accepted: bool, refusal: Refusal) -> Read<()> {
-    if accepted { Ok(()) } else { Err(refusal) }
 }
 
 pub fn proposition(payload: &[u8], read: raw::Proposition) -> Read<Proposition> {
@@ -115,15 +105,10 @@ pub fn authorised(read: raw::Authorised) -> Read<bool> {
 }
 
 fn text(payload: &[u8], span: Span) -> String {
-    string(&payload[span.start..span.start + span.len])
+    string(payload, span.start, span.len)
 }
 
 fn namespace(payload: &[u8], at: usize) -> String {
     let text = calls::read_text(payload, at);
-    string(&payload[text.start..text.start + text.len])
-}
-
-fn string(bytes: &[u8]) -> String {
-    let text = std::str::from_utf8(bytes);
-    text.expect("UTF-8 in an accepted text").to_owned()
+    string(payload, text.start, text.len)
 }

@@ -1,12 +1,13 @@
 //! The records of a block by number. Each function decodes the block anew, and answers none where the block does not have the number
 //! (document 01's 62).
 
-use super::records::{self, Read};
+use super::records;
 use super::tables::lend;
 use super::{
     Block, DecodeError, DecodedAccessPath, DecodedAccessPathComponent, DecodedDebugSymbol,
 };
 use crate::calls;
+use crate::read::Read;
 
 /// A path with what is done to it.
 #[derive(Debug, Clone, PartialEq, Eq)]

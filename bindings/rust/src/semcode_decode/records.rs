@@ -5,18 +5,8 @@ use super::{
     DecodedDebugSymbol, DecodedEvent, DecodedWriteExecution, StringTableDebugOwnershipParse,
 };
 use crate::calls;
-use crate::raw::{self, Refusal};
-
-/// A record, or why there is none.
-pub type Read<T> = Result<T, Refusal>;
-
-fn there<T>(read: Read<T>) -> T {
-    read.expect("each record of an accepted block")
-}
-
-fn accepted(accepted: bool, refusal: Refusal) -> Read<()> {
-    if accepted { Ok(()) } else { Err(refusal) }
-}
+use crate::raw;
+use crate::read::{self, Read, accepted, there};
 
 impl Block<'_> {
     /// An accepted block: every record is read at its place.
@@ -58,10 +48,9 @@ impl Block<'_> {
         }
     }
 
-    pub fn string(&self, read: raw::Text) -> Read<String> {
-        accepted(read.accepted, read.refusal)?;
-        let text = std::str::from_utf8(&self.code[read.start..read.start + read.len]);
-        Ok(text.expect("UTF-8 in an accepted string").to_owned())
+    pub fn string(&self, text: raw::Text) -> Read<String> {
+        accepted(text.accepted, text.refusal)?;
+        Ok(read::string(self.code, text.start, text.len))
     }
 
     /// A path with its components, which are read one after the other.
