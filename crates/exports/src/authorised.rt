@@ -3,7 +3,7 @@ ghost use mathlib.Core.Path.{_≡_};
 ghost use Rattle.evr0_read.specs.Ask.{authorisedNumber};
 ghost use Rattle.evr0_read.specs.Asked.{decodeAnew, valueIn, Lent};
 ghost use Rattle.evr0_read.specs.Maps.{authorisedOut};
-ghost use Rattle.exports.specs.EntryMaps.{authorisedFrom};
+ghost use Rattle.exports.specs.EntryMaps.{flatAuthorised};
 use crate::refusal::Refusal;
 use crate::refusal::flat_refusal;
 use crate::refusal::no_refusal;
@@ -19,7 +19,7 @@ pub struct Authorised {
 }
 
 fn flat_authorised(answer: AuthorisedAnswer) -> Authorised
-    ensures { λ r. ⌜ authorisedFrom r ≡ authorisedOut answer ⌝ }
+    ensures { λ r. ⌜ r ≡ flatAuthorised (authorisedOut answer) ⌝ }
 {
     match answer {
         AuthorisedAnswer::Answer(authorised) => Authorised {
@@ -44,8 +44,13 @@ pub extern "C" fn falgnust_authorised(
     proofs: &mut [u64],
     depths: &mut [u64],
 ) -> Authorised
-    ensures { λ r. ⌜ authorisedFrom r ≡ valueIn (λ v. v) (authorisedNumber proposition (decodeAnew (now (bytes .entry)) cursor (now (propositions .entry)) (now (proofs .entry)) (now (depths .entry)))) ⌝ }
-    ensures { λ r. ⌜ Lent (authorisedNumber proposition (decodeAnew (now (bytes .entry)) cursor (now (propositions .entry)) (now (proofs .entry)) (now (depths .entry)))) (now (propositions .entry)) (now (proofs .entry)) (now (depths .entry)) (now (propositions .exit)) (now (proofs .exit)) (now (depths .exit)) ⌝ }
+    ensures { λ r.
+        ⌜ r ≡
+        flatAuthorised (valueIn (λ v. v) (authorisedNumber proposition (decodeAnew (now (bytes .entry)) cursor (now (propositions .entry)) (now (proofs .entry)) (now (depths .entry))))) ⌝ }
+    ensures { λ r.
+        ⌜ Lent (authorisedNumber proposition (decodeAnew (now (bytes .entry)) cursor (now (propositions .entry)) (now (proofs .entry)) (now (depths .entry))))
+        (now (propositions .entry)) (now (proofs .entry)) (now (depths .entry))
+        (now (propositions .exit)) (now (proofs .exit)) (now (depths .exit)) ⌝ }
 {
     let answer = authorised(
         bytes,

@@ -8,7 +8,7 @@ ghost use Rattle.semcode_decode.specs.Layout.{layout, stringStarts, pathStarts,
 ghost use Rattle.semcode_decode.specs.Maps.{parseOut};
 ghost use Rattle.semcode_symbols.specs.Symbols.{blockSymbols, lentSymbols};
 ghost use Rattle.semcode_symbols.specs.Maps.{symbolIs};
-ghost use Rattle.exports.specs.BlockMaps.{blockFrom};
+ghost use Rattle.exports.specs.BlockMaps.{flatBlock};
 use crate::refusal::Refusal;
 use crate::refusal::flat_refusal;
 use crate::refusal::no_refusal;
@@ -32,7 +32,7 @@ pub struct Block {
 }
 
 fn flat_block(parse: Parse) -> Block
-    ensures { λ r. ⌜ blockFrom r ≡ parseOut parse ⌝ }
+    ensures { λ r. ⌜ r ≡ flatBlock (parseOut parse) ⌝ }
 {
     match parse {
         Parse::Whole(parsed) => Block {
@@ -72,8 +72,8 @@ pub extern "C" fn falgnust_parse_string_table_debug_and_ownership(
     paths: &mut [u64],
 ) -> Block
     ensures { λ r.
-        ⌜ blockFrom r ≡
-        layout (decodeBlock «base_offset» «header_rev» (roomsOf (now (strings .entry)) (length (now (symbols .entry))) (now (paths .entry))) (now (code .entry))) ⌝ }
+        ⌜ r ≡
+        flatBlock (layout (decodeBlock «base_offset» «header_rev» (roomsOf (now (strings .entry)) (length (now (symbols .entry))) (now (paths .entry))) (now (code .entry)))) ⌝ }
     ensures { λ r.
         ⌜ now (strings .exit) ≡
         lent (length (now (strings .entry)))

@@ -6,7 +6,7 @@ ghost use Rattle.evr0_read.specs.Asked.{decodeAnew, valueIn, Lent};
 ghost use Rattle.evr0_read.specs.Entry.{placedParent, recordAt};
 ghost use Rattle.evr0_read.specs.Place.{parentPlace};
 ghost use Rattle.evr0_read.specs.Maps.{parentEntryOut};
-ghost use Rattle.exports.specs.EntryMaps.{parentFrom};
+ghost use Rattle.exports.specs.EntryMaps.{flatParent};
 use crate::refusal::Refusal;
 use crate::refusal::flat_refusal;
 use crate::refusal::no_refusal;
@@ -26,7 +26,7 @@ pub struct Parent {
 }
 
 fn flat_parent(entry: ParentEntry) -> Parent
-    ensures { λ r. ⌜ parentFrom r ≡ parentEntryOut entry ⌝ }
+    ensures { λ r. ⌜ r ≡ flatParent (parentEntryOut entry) ⌝ }
 {
     match entry {
         ParentEntry::Found { start, proof } => Parent {
@@ -53,8 +53,13 @@ pub extern "C" fn falgnust_parent_number(
     proofs: &mut [u64],
     depths: &mut [u64],
 ) -> Parent
-    ensures { λ r. ⌜ parentFrom r ≡ valueIn (λ e. e) (parentNumber number (decodeAnew (now (bytes .entry)) cursor (now (propositions .entry)) (now (proofs .entry)) (now (depths .entry)))) ⌝ }
-    ensures { λ r. ⌜ Lent (parentNumber number (decodeAnew (now (bytes .entry)) cursor (now (propositions .entry)) (now (proofs .entry)) (now (depths .entry)))) (now (propositions .entry)) (now (proofs .entry)) (now (depths .entry)) (now (propositions .exit)) (now (proofs .exit)) (now (depths .exit)) ⌝ }
+    ensures { λ r.
+        ⌜ r ≡
+        flatParent (valueIn (λ e. e) (parentNumber number (decodeAnew (now (bytes .entry)) cursor (now (propositions .entry)) (now (proofs .entry)) (now (depths .entry))))) ⌝ }
+    ensures { λ r.
+        ⌜ Lent (parentNumber number (decodeAnew (now (bytes .entry)) cursor (now (propositions .entry)) (now (proofs .entry)) (now (depths .entry))))
+        (now (propositions .entry)) (now (proofs .entry)) (now (depths .entry))
+        (now (propositions .exit)) (now (proofs .exit)) (now (depths .exit)) ⌝ }
 {
     let entry = parent_number(bytes, cursor, number, propositions, proofs, depths);
     flat_parent(entry)
@@ -62,7 +67,7 @@ pub extern "C" fn falgnust_parent_number(
 
 #[no_mangle]
 pub extern "C" fn falgnust_read_parent(payload: &[u8], at: usize) -> Parent
-    ensures { λ r. ⌜ parentFrom r ≡ recordAt (parentRow tt) placedParent (now (payload .entry)) at ⌝ }
+    ensures { λ r. ⌜ r ≡ flatParent (recordAt (parentRow tt) placedParent (now (payload .entry)) at) ⌝ }
 {
     flat_parent(parent_at(payload, at))
 }

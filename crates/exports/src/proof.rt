@@ -5,7 +5,7 @@ ghost use Rattle.evr0_read.specs.Ask.{proofNumber};
 ghost use Rattle.evr0_read.specs.Asked.{decodeAnew, valueIn, Lent};
 ghost use Rattle.evr0_read.specs.Entry.{shown, shownSettled, placedProof, recordAt};
 ghost use Rattle.evr0_read.specs.Maps.{proofEntryOut};
-ghost use Rattle.exports.specs.EntryMaps.{proofFrom};
+ghost use Rattle.exports.specs.EntryMaps.{flatProof};
 use crate::refusal::Refusal;
 use crate::refusal::flat_refusal;
 use crate::refusal::no_refusal;
@@ -34,7 +34,7 @@ pub struct Proof {
 }
 
 fn flat_proof(entry: ProofEntry) -> Proof
-    ensures { λ r. ⌜ proofFrom r ≡ proofEntryOut entry ⌝ }
+    ensures { λ r. ⌜ r ≡ flatProof (proofEntryOut entry) ⌝ }
 {
     match entry {
         ProofEntry::Found { start, proof } => {
@@ -85,8 +85,13 @@ pub extern "C" fn falgnust_proof_number(
     proofs: &mut [u64],
     depths: &mut [u64],
 ) -> Proof
-    ensures { λ r. ⌜ proofFrom r ≡ valueIn (shown shownSettled) (proofNumber number (decodeAnew (now (bytes .entry)) cursor (now (propositions .entry)) (now (proofs .entry)) (now (depths .entry)))) ⌝ }
-    ensures { λ r. ⌜ Lent (proofNumber number (decodeAnew (now (bytes .entry)) cursor (now (propositions .entry)) (now (proofs .entry)) (now (depths .entry)))) (now (propositions .entry)) (now (proofs .entry)) (now (depths .entry)) (now (propositions .exit)) (now (proofs .exit)) (now (depths .exit)) ⌝ }
+    ensures { λ r.
+        ⌜ r ≡
+        flatProof (valueIn (shown shownSettled) (proofNumber number (decodeAnew (now (bytes .entry)) cursor (now (propositions .entry)) (now (proofs .entry)) (now (depths .entry))))) ⌝ }
+    ensures { λ r.
+        ⌜ Lent (proofNumber number (decodeAnew (now (bytes .entry)) cursor (now (propositions .entry)) (now (proofs .entry)) (now (depths .entry))))
+        (now (propositions .entry)) (now (proofs .entry)) (now (depths .entry))
+        (now (propositions .exit)) (now (proofs .exit)) (now (depths .exit)) ⌝ }
 {
     let entry = proof_number(
         bytes,
@@ -101,7 +106,7 @@ pub extern "C" fn falgnust_proof_number(
 
 #[no_mangle]
 pub extern "C" fn falgnust_read_proof(payload: &[u8], at: usize) -> Proof
-    ensures { λ r. ⌜ proofFrom r ≡ recordAt proofOf placedProof (now (payload .entry)) at ⌝ }
+    ensures { λ r. ⌜ r ≡ flatProof (recordAt proofOf placedProof (now (payload .entry)) at) ⌝ }
 {
     flat_proof(proof_at(payload, at))
 }

@@ -5,7 +5,7 @@ ghost use Rattle.evr0_read.specs.Ask.{propositionNumber};
 ghost use Rattle.evr0_read.specs.Asked.{decodeAnew, valueIn, Lent};
 ghost use Rattle.evr0_read.specs.Entry.{shown, shownProposition, placedProposition, recordAt};
 ghost use Rattle.evr0_read.specs.Maps.{propositionEntryOut};
-ghost use Rattle.exports.specs.EntryMaps.{propositionFrom};
+ghost use Rattle.exports.specs.EntryMaps.{flatProposition};
 use crate::refusal::Refusal;
 use crate::refusal::flat_refusal;
 use crate::refusal::no_refusal;
@@ -29,7 +29,7 @@ pub struct Proposition {
 }
 
 fn flat_proposition(entry: PropositionEntry) -> Proposition
-    ensures { λ r. ⌜ propositionFrom r ≡ propositionEntryOut entry ⌝ }
+    ensures { λ r. ⌜ r ≡ flatProposition (propositionEntryOut entry) ⌝ }
 {
     match entry {
         PropositionEntry::Found { start, proposition } => {
@@ -70,8 +70,13 @@ pub extern "C" fn falgnust_proposition_number(
     proofs: &mut [u64],
     depths: &mut [u64],
 ) -> Proposition
-    ensures { λ r. ⌜ propositionFrom r ≡ valueIn (shown shownProposition) (propositionNumber number (decodeAnew (now (bytes .entry)) cursor (now (propositions .entry)) (now (proofs .entry)) (now (depths .entry)))) ⌝ }
-    ensures { λ r. ⌜ Lent (propositionNumber number (decodeAnew (now (bytes .entry)) cursor (now (propositions .entry)) (now (proofs .entry)) (now (depths .entry)))) (now (propositions .entry)) (now (proofs .entry)) (now (depths .entry)) (now (propositions .exit)) (now (proofs .exit)) (now (depths .exit)) ⌝ }
+    ensures { λ r.
+        ⌜ r ≡
+        flatProposition (valueIn (shown shownProposition) (propositionNumber number (decodeAnew (now (bytes .entry)) cursor (now (propositions .entry)) (now (proofs .entry)) (now (depths .entry))))) ⌝ }
+    ensures { λ r.
+        ⌜ Lent (propositionNumber number (decodeAnew (now (bytes .entry)) cursor (now (propositions .entry)) (now (proofs .entry)) (now (depths .entry))))
+        (now (propositions .entry)) (now (proofs .entry)) (now (depths .entry))
+        (now (propositions .exit)) (now (proofs .exit)) (now (depths .exit)) ⌝ }
 {
     let entry = proposition_number(
         bytes,
@@ -86,7 +91,7 @@ pub extern "C" fn falgnust_proposition_number(
 
 #[no_mangle]
 pub extern "C" fn falgnust_read_proposition(payload: &[u8], at: usize) -> Proposition
-    ensures { λ r. ⌜ propositionFrom r ≡ recordAt propositionOf placedProposition (now (payload .entry)) at ⌝ }
+    ensures { λ r. ⌜ r ≡ flatProposition (recordAt propositionOf placedProposition (now (payload .entry)) at) ⌝ }
 {
     flat_proposition(proposition_at(payload, at))
 }

@@ -1,7 +1,7 @@
 // A text of a record.
 ghost use mathlib.Core.Path.{_≡_};
 ghost use Rattle.evr0_head.specs.Maps.{spanOut};
-ghost use Rattle.exports.specs.EntryMaps.{spanFrom};
+ghost use Rattle.exports.specs.EntryMaps.{flatSpan};
 
 // Where the bytes start in the payload, how many they are, the number of characters and the place after them.
 #[repr(C)]
@@ -13,7 +13,7 @@ pub struct Span {
 }
 
 pub fn flat_span(span: evr0_head::span::Span) -> Span
-    ensures { λ r. ⌜ spanFrom r ≡ spanOut span ⌝ }
+    ensures { λ r. ⌜ r ≡ flatSpan (spanOut span) ⌝ }
 {
     Span {
         start: span.start,

@@ -3,7 +3,7 @@ ghost use mathlib.Core.Path.{_≡_};
 ghost use Rattle.evr0_read.specs.Ask.{wayDownFrom};
 ghost use Rattle.evr0_read.specs.Asked.{decodeAnew, valueIn, Lent};
 ghost use Rattle.evr0_read.specs.Maps.{wayDownOut};
-ghost use Rattle.exports.specs.EntryMaps.{downFrom};
+ghost use Rattle.exports.specs.EntryMaps.{flatWay};
 use crate::refusal::Refusal;
 use crate::refusal::flat_refusal;
 use crate::refusal::no_refusal;
@@ -23,7 +23,7 @@ pub struct WayDown {
 }
 
 fn flat_way_down(way: evr0_read::down::WayDown) -> WayDown
-    ensures { λ r. ⌜ downFrom r ≡ wayDownOut way ⌝ }
+    ensures { λ r. ⌜ r ≡ flatWay (wayDownOut way) ⌝ }
 {
     match way {
         evr0_read::down::WayDown::Answer(down) => match down {
@@ -65,8 +65,13 @@ pub extern "C" fn falgnust_way_down(
     proofs: &mut [u64],
     depths: &mut [u64],
 ) -> WayDown
-    ensures { λ r. ⌜ downFrom r ≡ valueIn (λ v. v) (wayDownFrom limit from (decodeAnew (now (bytes .entry)) cursor (now (propositions .entry)) (now (proofs .entry)) (now (depths .entry)))) ⌝ }
-    ensures { λ r. ⌜ Lent (wayDownFrom limit from (decodeAnew (now (bytes .entry)) cursor (now (propositions .entry)) (now (proofs .entry)) (now (depths .entry)))) (now (propositions .entry)) (now (proofs .entry)) (now (depths .entry)) (now (propositions .exit)) (now (proofs .exit)) (now (depths .exit)) ⌝ }
+    ensures { λ r.
+        ⌜ r ≡
+        flatWay (valueIn (λ v. v) (wayDownFrom limit from (decodeAnew (now (bytes .entry)) cursor (now (propositions .entry)) (now (proofs .entry)) (now (depths .entry))))) ⌝ }
+    ensures { λ r.
+        ⌜ Lent (wayDownFrom limit from (decodeAnew (now (bytes .entry)) cursor (now (propositions .entry)) (now (proofs .entry)) (now (depths .entry))))
+        (now (propositions .entry)) (now (proofs .entry)) (now (depths .entry))
+        (now (propositions .exit)) (now (proofs .exit)) (now (depths .exit)) ⌝ }
 {
     let way = way_down(
         bytes,

@@ -6,7 +6,7 @@ ghost use Rattle.evr0_read.specs.Asked.{decodeAnew, valueIn, Lent};
 ghost use Rattle.evr0_read.specs.Entry.{placedWitness, recordAt};
 ghost use Rattle.evr0_read.specs.Place.{witnessPlace};
 ghost use Rattle.evr0_read.specs.Maps.{witnessEntryOut, witnessBeside};
-ghost use Rattle.exports.specs.EntryMaps.{witnessFrom};
+ghost use Rattle.exports.specs.EntryMaps.{flatWitness};
 use crate::refusal::Refusal;
 use crate::refusal::flat_refusal;
 use crate::refusal::no_refusal;
@@ -34,7 +34,7 @@ pub struct Witness {
 }
 
 fn flat_witness(entry: WitnessEntry) -> Witness
-    ensures { λ r. ⌜ witnessFrom r ≡ witnessEntryOut entry ⌝ }
+    ensures { λ r. ⌜ r ≡ flatWitness (witnessEntryOut entry) ⌝ }
 {
     let file_digest = entry.file_digest;
     let origin_digest = entry.origin_digest;
@@ -76,8 +76,13 @@ pub extern "C" fn falgnust_witness_number(
     proofs: &mut [u64],
     depths: &mut [u64],
 ) -> Witness
-    ensures { λ r. ⌜ witnessFrom r ≡ witnessBeside (valueIn (λ e. e) (witnessNumber number (decodeAnew (now (bytes .entry)) cursor (now (propositions .entry)) (now (proofs .entry)) (now (depths .entry))))) ⌝ }
-    ensures { λ r. ⌜ Lent (witnessNumber number (decodeAnew (now (bytes .entry)) cursor (now (propositions .entry)) (now (proofs .entry)) (now (depths .entry)))) (now (propositions .entry)) (now (proofs .entry)) (now (depths .entry)) (now (propositions .exit)) (now (proofs .exit)) (now (depths .exit)) ⌝ }
+    ensures { λ r.
+        ⌜ r ≡
+        flatWitness (witnessBeside (valueIn (λ e. e) (witnessNumber number (decodeAnew (now (bytes .entry)) cursor (now (propositions .entry)) (now (proofs .entry)) (now (depths .entry)))))) ⌝ }
+    ensures { λ r.
+        ⌜ Lent (witnessNumber number (decodeAnew (now (bytes .entry)) cursor (now (propositions .entry)) (now (proofs .entry)) (now (depths .entry))))
+        (now (propositions .entry)) (now (proofs .entry)) (now (depths .entry))
+        (now (propositions .exit)) (now (proofs .exit)) (now (depths .exit)) ⌝ }
 {
     let entry = witness_number(
         bytes,
@@ -92,7 +97,7 @@ pub extern "C" fn falgnust_witness_number(
 
 #[no_mangle]
 pub extern "C" fn falgnust_read_witness(payload: &[u8], at: usize) -> Witness
-    ensures { λ r. ⌜ witnessFrom r ≡ witnessBeside (recordAt (witnessOf 4) placedWitness (now (payload .entry)) at) ⌝ }
+    ensures { λ r. ⌜ r ≡ flatWitness (witnessBeside (recordAt (witnessOf 4) placedWitness (now (payload .entry)) at)) ⌝ }
 {
     flat_witness(witness_at(payload, at))
 }

@@ -1,6 +1,6 @@
 -- A walk of the function's MIR, by hand: the decoder is called with all that was lent, and its answer becomes the flat struct. All that is
 -- used of the two callees is that each meets its contract.
-use mathlib.Core.Path.{_≡_, refl, _∙_}
+use mathlib.Core.Path.{_≡_, refl, ap, _∙_}
 use Prim.Native.Nat.{ℕ, _<_, _^_}
 use mathlib.Core.List.{[], _∷_, List, map}
 use lib.ListN.{length}
@@ -56,7 +56,7 @@ use Rattle.semcode_symbols.proofs.parse_string_table_debug_and_ownership as top
 use Rattle.semcode_symbols.proofs.parse_string_table_debug_and_ownership.Symbol as top-def
 use Rattle.semcode_symbols.proofs.parse_string_table_debug_and_ownership.Symbol.{name as #top}
 use Rattle.semcode_symbols.proofs.parse_string_table_debug_and_ownership.Met as top-thm
-use Rattle.exports.specs.BlockMaps.{blockFrom}
+use Rattle.exports.specs.BlockMaps.{flatBlock}
 use Rattle.exports.specs.declared.block.Block.{Block}
 use Rattle.exports.proofs.block.Block as B
 use Rattle.exports.proofs.block.Block.Laws as B′
@@ -83,8 +83,8 @@ module _ {M : Type 1} (𝓤 : URA M) (H : Heap 𝓤) (A : Atoms 𝓤) (mem : Mem
   abbrev FlatC : Contract 𝓤
   FlatC = tripleOf 𝓤 H A flat.signature (flat.spec 𝓤 H A mem run)
 
-  says-flat : (r : Parse) (b : Block) → ent 𝓤 (ensured 𝓤 H A flat.ended (flat.clauses 𝓤 H A mem run) tt (r, tt) tt b) (fact 𝓤 (blockFrom b ≡ parseOut r))
-  says-flat r b = exE 𝓤 _ (λ ws. snd∗ 𝓤 (sem 𝓤 H A (lasts flat.ended tt (r, tt) ws)) (fact 𝓤 (blockFrom b ≡ parseOut r)))
+  says-flat : (r : Parse) (b : Block) → ent 𝓤 (ensured 𝓤 H A flat.ended (flat.clauses 𝓤 H A mem run) tt (r, tt) tt b) (fact 𝓤 (b ≡ flatBlock (parseOut r)))
+  says-flat r b = exE 𝓤 _ (λ ws. snd∗ 𝓤 (sem 𝓤 H A (lasts flat.ended tt (r, tt) ws)) (fact 𝓤 (b ≡ flatBlock (parseOut r))))
 
 module _ {M : Type 1} (𝓤 : URA M) (H : Heap 𝓤) (A : Atoms 𝓤) (W : Given 𝓤 H A) (mem : Memory → SProp 𝓤) (run : Routine → Fun 𝓤) (κ₀ κ₁ κ₂ κ₃ : Lft) (bounds : AllOutlive 4 (f.signature .outlives) (κ₀, (κ₁, (κ₂, (κ₃, tt))))) (q₀ q₁ q₂ q₃ : Share)
     (base : ℕ) (z : RefT (List ℕ)) (rev : ℕ) (x₁ : RefT (List DebugSymbol)) (x₂ : RefT (List ℕ)) (x₃ : RefT (List ℕ)) (base-fits : base < 2 ^ 64) (rev-fits : rev < 2 ^ 16) (room₀ : Room u8 (length (z .now))) (room₁ : Room R (length (x₁ .now))) (room₂ : Room u64 (length (x₂ .now))) (room₃ : Room u64 (length (x₃ .now))) where
@@ -137,7 +137,7 @@ module _ {M : Type 1} (𝓤 : URA M) (H : Heap 𝓤) (A : Atoms 𝓤) (W : Given
   left zs₁ zs₂ zs₃ = (‵ (flft κ₀ q₀) ⊛ ‵ (flft κ₁ q₁) ⊛ ‵ (flft κ₂ q₂) ⊛ ‵ (flft κ₃ q₃) ⊛ ‵ ftrue) ∷ ‵ (finally u64 (x₃ .name) zs₃) ∷ ‵ (finally u64 (x₂ .name) zs₂) ∷ ‵ (finally R (x₁ .name) zs₁) ∷ ‵ O₀ ∷ []
 
   exits : (b : Block) (w : Val) → Is B.the-row b (w ∷ []) → (zs₁ : List DebugSymbol) (zs₂ zs₃ : List ℕ) → length zs₁ ≡ length (x₁ .now) → length zs₂ ≡ length (x₂ .now) → length zs₃ ≡ length (x₃ .now)
-      → blockFrom b ≡ layout block → zs₂ ≡ lent (length (x₂ .now)) (stringStarts block) → zs₃ ≡ lent (length (x₃ .now)) (pathStarts block) → map symbolIs zs₁ ≡ lentSymbols (length (x₁ .now)) (blockSymbols block)
+      → b ≡ flatBlock (layout block) → zs₂ ≡ lent (length (x₂ .now)) (stringStarts block) → zs₃ ≡ lent (length (x₃ .now)) (pathStarts block) → map symbolIs zs₁ ≡ lentSymbols (length (x₁ .now)) (blockSymbols block)
       → ent 𝓤 (⋆ 𝓤 H A (left zs₁ zs₂ zs₃)) (Post w)
   exits b w is zs₁ zs₂ zs₃ l₁ l₂ l₃ e₀ e₂ e₃ e₁ =
       qed W (left zs₁ zs₂ zs₃) ∵ suffices ! _ (ends-at 𝓤 H A f.ended stayed (f.clauses 𝓤 H A mem run) W bound w b ends (tt, (tt, (tt, (l₁, (l₂, (l₃, tt))))))) $ suffices ! Left all $ frame ! $
@@ -211,11 +211,11 @@ module _ {M : Type 1} (𝓤 : URA M) (H : Heap 𝓤) (A : Atoms 𝓤) (W : Given
         owned ! D.the-row (Is D.the-row) (EL.makes D.the-type D′.the-plain 𝓤 H A) r (w ∷ []) is $ use1 W (raw (FlatC 𝓤 H A mem run .pre (to-flat r w))) (goes-flat r w) $
         calls-at ! fm (FlatC 𝓤 H A mem run) known-flat (to-flat r w) (and-then ! (load ! (from ! (stop !)) (look ! 18 refl)) (no-more !)) (λ w₁.
         use1 W (later (some (λ (b : Block). (‵ ftrue ⊛ ‵ (B.the-row .own b (w₁ ∷ []))) ⊛ raw (ensured 𝓤 H A flat.ended (flat.clauses 𝓤 H A mem run) tt (r, tt) tt b)))) (id⊢ 𝓤 _) $ await ! tt $ pick ! (λ b.
-        split ! $ move ! (1 ∷ []) $ use1 W (raw (fact 𝓤 (blockFrom b ≡ parseOut r))) (says-flat 𝓤 H A mem run r b) $ heard ! (blockFrom b ≡ parseOut r) (λ e₄. split ! $ drop ! $ facts ! B.the-row (Is B.the-row) (shows 𝓤 H A B.the-row) b (w₁ ∷ []) (λ is₁.
+        split ! $ move ! (1 ∷ []) $ use1 W (raw (fact 𝓤 (b ≡ flatBlock (parseOut r)))) (says-flat 𝓤 H A mem run r b) $ heard ! (b ≡ flatBlock (parseOut r)) (λ e₄. split ! $ drop ! $ facts ! B.the-row (Is B.the-row) (shows 𝓤 H A B.the-row) b (w₁ ∷ []) (λ is₁.
         land ! (from ! (stop !)) (init ! 31 refl (LL.lawful B.the-type B′.the-laws 𝓤 H A W .typed b _ is₁ .0)) $
         returns ! (look ! 31 refl) $ forget ! 5 refl $ forget ! 7 refl $ forget ! 9 refl $ forget ! 11 refl $ forget ! 13 refl $ forget ! 15 refl $ forget ! 17 refl $ forget ! 19 refl $ forget ! 21 refl $ forget ! 23 refl $ forget ! 25 refl $ forget ! 27 refl $ forget ! 29 refl $ forget ! 31 refl $
         move ! (31 ∷ 32 ∷ []) $ free1 ! $ move ! (29 ∷ 30 ∷ []) $ free1 ! $ move ! (27 ∷ 28 ∷ []) $ free1 ! $ move ! (25 ∷ 26 ∷ []) $ free1 ! $ move ! (23 ∷ 24 ∷ []) $ free1 ! $ move ! (21 ∷ 22 ∷ []) $ free1 ! $ move ! (19 ∷ 20 ∷ []) $ free1 ! $ move ! (17 ∷ 18 ∷ []) $ free1 ! $ move ! (15 ∷ 16 ∷ []) $ free1 ! $ move ! (13 ∷ 14 ∷ []) $ free1 ! $ move ! (11 ∷ 12 ∷ []) $ free1 ! $ move ! (9 ∷ 10 ∷ []) $ free1 ! $ move ! (7 ∷ 8 ∷ []) $ free1 ! $ move ! (5 ∷ 6 ∷ []) $ free1 ! $ free0 ! $
-        by ! (exits b w₁ is₁ (zs .1 .1 .1 .0) (zs .1 .1 .1 .1 .0) (zs .1 .1 .1 .1 .1 .0) long₁ long₂ long₃ (e₄ ∙ e₀) e₂ e₃ e₁))))))))))))))))))))))))))))))
+        by ! (exits b w₁ is₁ (zs .1 .1 .1 .0) (zs .1 .1 .1 .1 .0) (zs .1 .1 .1 .1 .1 .0) long₁ long₂ long₃ (e₄ ∙ ap flatBlock e₀) e₂ e₃ e₁))))))))))))))))))))))))))))))
 
 module _ {M : Type 1} (𝓤 : URA M) (H : Heap 𝓤) (A : Atoms 𝓤) (W : Given 𝓤 H A) (mem : Memory → SProp 𝓤) (run : Routine → Fun 𝓤) where
   walks : (C : Calls 𝓤 H) (Λ : Loops 𝓤 H) → FmC 𝓤 H (W .laws) C → Triple 𝓤 (C #top) (TopC 𝓤 H A mem run) → Triple 𝓤 (C #flat-block) (FlatC 𝓤 H A mem run)

@@ -1,28 +1,14 @@
 -- Either variant is told by its own fields, and a text by its own.
 use borrow.Author.Needs.{needs}
-use Prim.Native.Nat.{ℕ}
-use mathlib.Core.Path.{sym, ap, _∙_}
-use Rattle.local_format.specs.Out.{Out, ok, refused}
-use Rattle.local_format.specs.Text.{Span}
-use Rattle.evr0_section.specs.Rows.{Entry}
-use Rattle.evr0_section.specs.Proof.{ProofRecord}
-use Rattle.evr0_records.specs.Maps.{proofRecord}
-use Rattle.evr0_read.specs.Entry.{withRule}
-use Rattle.evr0_read.specs.Maps.{proofEntryOut}
+use mathlib.Core.Path.{refl}
 use Rattle.exports.proofs.proof.flat_proof.Statement.{statement}
 use Rattle.exports.proofs.proof.flat_proof.Tie as tie
 
--- a record at a place, with another text
-abbrev withText : ℕ → ProofRecord → Span → Out (Entry ProofRecord)
-withText start r t = ok (record { start = start; item = withRule r t })
-
 returns : tie.Need-returns
-returns c =
-    let read = c .before .before .before .before .entry .given in
-    ap (withText (read .0 .0) (proofRecord (read .0 .1 .0))) (c .flat-span .ensures) ∙ sym (ap proofEntryOut (read .1))
+returns c = rw (c .flat-span .ensures, c .before .no-refusal .ensures, c .before .before .before .before .entry .given .1) refl
 
 returns-2 : tie.Need-returns-2
-returns-2 c = ap refused (c .flat-refusal .ensures) ∙ sym (ap proofEntryOut (c .before .before .entry2 .given .1))
+returns-2 c = rw (c .flat-refusal .ensures, c .before .before .entry2 .given .1) refl
 
 pub flat-proof-spec : {M : Type 1} → statement M
 flat-proof-spec =

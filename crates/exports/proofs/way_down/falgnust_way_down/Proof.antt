@@ -1,13 +1,14 @@
 -- The flat struct holds what `way_down` answers, and the tables are as it left them.
 use borrow.Author.Needs.{needs}
-use mathlib.Core.Path.{_∙_}
+use mathlib.Core.Path.{ap, _∙_}
+use Rattle.exports.specs.EntryMaps.{flatWay}
 use Rattle.exports.proofs.way_down.falgnust_way_down.Statement.{statement}
 use Rattle.exports.proofs.way_down.falgnust_way_down.Tie as tie
 
 returns : tie.Need-returns
 returns c =
     let read = c .before .before .before .before .before .before .before .way-down .ensures in
-    (c .flat-way-down .ensures ∙ read .0, read .1)
+    (c .flat-way-down .ensures ∙ ap flatWay (read .0), read .1)
 
 pub falgnust-way-down-spec : {M : Type 1} → statement M
 falgnust-way-down-spec =
