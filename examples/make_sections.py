@@ -1,5 +1,6 @@
 #!/usr/bin/env python3
-"""Writes the example sections beside this file: specimen 4 of docs/01-scope.md, which is accepted, and specimen 5, which is refused.
+"""Writes the example sections beside this file: specimen 4 of docs/01-scope.md, which is accepted; specimen 5, which is refused; and one in
+which a positive and a negative proof are joined.
 
 What the specimens leave free (the digests, the epoch, owner, scope, type and the span) is zeros.
 """
@@ -22,8 +23,7 @@ def text(s):
 DIGEST = bytes(32)
 
 
-def proposition(kind):
-    owner, scope, type_ = 0, 0, 0
+def proposition(kind, owner=0, scope=0, type_=0):
     return text(kind) + u32(owner, scope, type_)
 
 
@@ -32,9 +32,8 @@ def proof(number, proposition, rule, authority, witnesses, parents, operation):
     return u32(number, proposition) + text(rule) + u32(authority, *witnesses, *parents) + bytes([operation, 0, 0, 0])
 
 
-def witness(number, proposition, polarity):
-    start, end = 0, 0
-    return u32(number, proposition) + bytes([polarity, 0, 0, 0]) + DIGEST + u32(start, end) + DIGEST
+def witness(number, proposition, polarity, file=DIGEST, span=(0, 0), origin=DIGEST):
+    return u32(number, proposition) + bytes([polarity, 0, 0, 0]) + file + u32(*span) + origin
 
 
 def section(propositions, proofs, witnesses, parents):
@@ -58,6 +57,28 @@ def specimen(parent):
     )
 
 
+def joined():
+    """Two propositions: one with an operation on a join of a positive and a negative proof, and one with a proof by a witness."""
+    digests = [bytes(range(first, first + 32)) for first in range(0, 192, 32)]
+    return section(
+        [proposition("baptism of Ægir".encode(), 3, 5, 8), proposition(b"burial", 3, 6, 8)],
+        [
+            proof(0, 0, b"POS-WITNESS-1", 7, (0, 1), (0, 0), 0),
+            proof(1, 0, b"NEG-WITNESS-1", 7, (1, 1), (0, 0), 0),
+            proof(2, 0, b"JOIN-SAME-P-1", 7, (2, 0), (0, 2), 0),
+            proof(3, 0, b"OP-T-ONLY-1", 7, (2, 0), (2, 1), 1),
+            proof(4, 1, b"POS-WITNESS-1", 9, (2, 1), (3, 0), 0),
+        ],
+        [
+            witness(0, 0, 1, digests[0], (10, 20), digests[1]),
+            witness(1, 0, 0, digests[2], (30, 30), digests[3]),
+            witness(2, 1, 1, digests[4], (0, 99), digests[5]),
+        ],
+        [0, 1, 2],
+    )
+
+
 here = pathlib.Path(__file__).parent
 (here / "accepted.evr0").write_bytes(specimen(0))
 (here / "refused.evr0").write_bytes(specimen(1))
+(here / "joined.evr0").write_bytes(joined())

@@ -1,8 +1,7 @@
 -- The output from what the decoder answers and leaves in its lent tables.
 use Prim.Native.Nat.{ℕ, _+_, _-_, _≤_, _<_}
-use mathlib.Core.Path.{_≡_, refl, sym, ap, ap₂, subst, _∙_}
+use mathlib.Core.Path.{_≡_, sym, ap, ap₂, subst, _∙_}
 use mathlib.Core.List.{List, [], _∷_, _++_}
-use native.Mathlib.Omega.{arith}
 use lib.ListN.{length, take, drop, length-map}
 use lib.Seq.{take-at}
 use borrow.Author.Tests.{le-leb, lt-leb}
@@ -19,7 +18,7 @@ use Rattle.evr0.specs.Answer as answer
 use Rattle.evr0.specs.Answer.{answerOf, proofStarts, proofDepths}
 use Rattle.evr0.specs.Maps.{startsOf}
 use Rattle.evidence_output.specs.Listed.{linesAt}
-use Rattle.evidence_output.specs.Output.{line, tooLong, refusedWord, headLine, proofLines, printed, enough, outputOf}
+use Rattle.evidence_output.specs.Output.{line, tooLong, refusedWord, headLine, printed, enough, outputOf}
 use Rattle.evr0_read.proofs.AcceptedLaws.{payloadTo, Accepted, accepted}
 use Rattle.evidence_output.proofs.ListedLaws.{lines-of-table}
 use Rattle.evidence_output.proofs.OutputLength.{proofs-few, records-few}

@@ -11,6 +11,7 @@ use Rattle.local_format.specs.Refusal.{Refusal}
 use Rattle.local_format.specs.Out.{Out, ok, refused, check, _>>=_, _>>_}
 use Rattle.local_format.specs.Maps.{refusalOut}
 use Rattle.local_format.proofs.OutLaws.{bind-ok, then-ok, checked-ok, check-ok, ok-same, never}
+use Rattle.lent_table.specs.Lent.{Front}
 use Rattle.derivation.specs.Rule.{fourRules}
 use Rattle.derivation.specs.Section as derivation
 use Rattle.derivation.specs.Pass.{depths}
@@ -23,7 +24,6 @@ use Rattle.evr0_head.specs.declared.check.Checked.{Checked}
 use Rattle.evr0_head.specs.declared.check.Checked.the-variants as checked
 use Rattle.evr0_head.proofs.HeadLaws.{limited}
 use Rattle.evr0_bounds.proofs.SectionWithin.{head-end}
-use Rattle.evr0.specs.Front.{Front}
 use Rattle.evr0.specs.Maps.{startsOf}
 use Rattle.evr0.specs.View.{Layout, TablesThere, view}
 use Rattle.evr0.specs.PassMaps.{filled}

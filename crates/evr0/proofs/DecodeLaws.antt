@@ -8,7 +8,6 @@ use Rattle.local_format.specs.Refusal.{Refusal}
 use Rattle.local_format.specs.Out.{Out, ok, refused, moved, atOffset, _>>=_}
 use Rattle.local_format.specs.Text.{bytesAt}
 use Rattle.local_format.proofs.OutLaws.{bind-ok, ok-same, never}
-use Rattle.lent_table.specs.Lent.{lent}
 use Rattle.derivation.specs.Rule.{fourRules}
 use Rattle.derivation.specs.Section.{proofTotal}
 use Rattle.derivation.specs.Pass.{depths}
@@ -20,7 +19,6 @@ use Rattle.evr0_section.specs.Proposition.{propositionRow}
 use Rattle.evr0_section.proofs.RowsLaws.{trace, trace-length}
 use Rattle.evr0_section.proofs.CheckedTables.{Steps, steps, tables-checked}
 use Rattle.evr0_bounds.proofs.SectionWithin.{four-within}
-use Rattle.evr0.specs.Front.{Front}
 use Rattle.evr0.specs.Maps.{startsOf}
 use Rattle.evr0.specs.Answer.{Accepted, Answer, answerOf, propositionStarts, proofStarts, proofDepths}
 use Rattle.evr0.proofs.ViewOf.{starts-total}
@@ -67,12 +65,6 @@ section-lengths room p cursor s e =
     let a = bind-ok (tablesOf fourRules room p) _ e in
     let b = bind-ok (depths (a .0 .witnesses .next) (sectionOf (a .0))) _ (a .2) in
     rw (ok-same (b .2)) at (tables-lengths room p (a .0) (b .0) cursor (a .1) (b .1))
-
--- ---- The lent tables
-
--- a table that begins with some numbers and is cleared after them
-pub front-lent : (n entries : ℕ) (t vs : List ℕ) → length t ≡ entries → length vs ≡ n → Front vs t → lent (length t) (take n t) ≡ lent entries vs
-front-lent n entries t vs l m e = let f : take n t ≡ vs = rw m at e in rw (f, l)
 
 -- ---- The payload as a part of the file
 

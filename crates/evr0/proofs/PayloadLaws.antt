@@ -8,13 +8,13 @@ use lib.ListN.{length}
 use Rattle.local_format.specs.Refusal.{Refusal}
 use Rattle.local_format.specs.Out.{Out, ok, refused, refuse}
 use Rattle.local_format.proofs.OutLaws.{bind-ok, ok-same, never}
+use Rattle.lent_table.specs.Lent.{Front}
 use Rattle.derivation.specs.Rule.{Rule}
 use Rattle.evr0_section.specs.Rows.{Rows, rows}
 use Rattle.evr0_section.specs.Head.{Counts}
 use Rattle.evr0_section.specs.Proposition.{Proposition, Before, first, propositionRow}
 use Rattle.evr0_section.specs.Proof.{Settled, Unowned, proofRow}
 use Rattle.evr0_section.specs.Witness.{WitnessRecord, witnessRow, parentRow}
-use Rattle.evr0.specs.Front.{Front}
 use Rattle.evr0.specs.Maps.{nextIn, startsOf, startsIn, Owned, ownedIn, noneOwned}
 use Rattle.evr0.specs.Payload.{Rest, Four, restAfter, tablesAfter}
 use Rattle.evr0.specs.PayloadMaps.{Places, parentsIn, placesIn, propositionStartsIn, proofStartsIn}

@@ -8,12 +8,12 @@ use lib.ListN.{length, take, drop, set, length-take, length-drop}
 use lib.Seq.{take-suc-set}
 use Rattle.local_format.specs.Refusal.{Refusal}
 use Rattle.local_format.specs.Out.{Out, ok, refused, atOffset}
+use Rattle.lent_table.specs.Lent.{Front}
 use Rattle.evr0_section.specs.Rows.{Row, Entry, Rows, rows}
 use Rattle.evr0_section.specs.Proof.{Settled, Unowned}
 use Rattle.evr0_section.proofs.Inside.{Inside, inside-ok, inside-refused}
 use Rattle.evr0_section.proofs.Progress.{Progress, Done, begun, turn, refused-at, ended}
 use Rattle.evr0.specs.Maps.{nextIn, startsIn, Owned, ownedIn}
-use Rattle.evr0.specs.Front.{Front}
 
 module _ {A S : Type 0} (row : S → List ℕ → Out (Row A S)) (p : List ℕ) (count at : ℕ) (first : S) where
   -- a turn that stored the start

@@ -5,4 +5,3 @@ pub mod PassMaps
 pub mod Payload
 pub mod PayloadMaps
 pub mod AnswerMaps
-pub mod Front

@@ -18,6 +18,7 @@ use Rattle.derivation.specs.Section as derivation
 use Rattle.derivation.proofs.Tests.{both}
 use Rattle.derivation.specs.Pass.{depthOf, depthsFrom, depths}
 use Rattle.evr0_section.specs.Head.{Counts, Head, Room, listed, countLimits, withinLimits, sizes, hasRoom, checkCounts}
+use Rattle.evr0_section.specs.Proposition.{propositionRow}
 use Rattle.evr0_section.specs.Proof.{proofRow}
 use Rattle.evr0_section.specs.Section.{Frame, Section, frameAt, sectionOf, proofItem, tablesOf, sectionIn, sectionAt}
 use Rattle.evr0_section.proofs.RowsLaws.{trace, trace-length}
@@ -92,6 +93,7 @@ module _ (rules : List Rule) (room : Room) (s : List ℕ) (cursor : ℕ) where
     pub read : tablesOf rules room (payloadTo (d .cursor)) ≡ ok (d .tables)
     pub tables : Steps rules room (payloadTo (d .cursor)) (d .tables)
     pub counts : Counted room (d .tables .head .counts)
+    pub propositions : length (d .tables .propositions .entries) ≡ d .tables .head .counts .propositions
     pub proofs : length (d .tables .proofs .entries) ≡ d .tables .head .counts .proofs
     pub depths : depths (d .tables .witnesses .next) (sectionOf (d .tables)) ≡ ok (d .depths)
     pub depthCount : length (d .depths) ≡ d .tables .head .counts .proofs
@@ -124,6 +126,7 @@ module _ (rules : List Rule) (room : Room) (s : List ℕ) (cursor : ℕ) where
         read = read;
         tables = t;
         counts = counted room (payloadTo (d .cursor)) (d .tables .head) (t .counts);
+        propositions = trace-length propositionRow (payloadTo (d .cursor)) (trace propositionRow (payloadTo (d .cursor)) _ _ _ (d .tables .propositions) (t .propositions));
         proofs = n;
         depths = g .1;
         depthCount = depths-length _ _ _ _ [] (g .1) ∙ omega (arith, n, length-map (d .tables .proofs .entries) proofItem);

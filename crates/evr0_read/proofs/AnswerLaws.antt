@@ -12,9 +12,7 @@ use Rattle.lent_table.specs.Lent.{lent}
 use Rattle.derivation.specs.Rule.{fourRules}
 use Rattle.derivation.specs.Down.{Down, wayDown, authorised}
 use Rattle.evr0_section.specs.Head.{Counts}
-use Rattle.evr0_section.specs.Proposition.{propositionRow}
 use Rattle.evr0_section.specs.Section.{Section, sectionOf, tablesOf}
-use Rattle.evr0_section.proofs.RowsLaws.{trace, trace-length}
 use Rattle.evr0.specs.Answer as answer
 use Rattle.evr0.specs.Answer.{proofStarts}
 use Rattle.evr0.specs.Maps.{startsOf}
@@ -35,6 +33,24 @@ abbrev pub isAuthorised : ℕ → Section → Out Bool
 isAuthorised k y = do
   e ← numbered k (y .tables .propositions .entries)
   ok (authorised (sectionOf (y .tables)) k)
+
+-- an answer where the number is in the table, and 62 where it is not
+module _ {x : Out Section} {d : Section} (is : x ≡ ok d) (k : ℕ) where
+  pub way-there : (limit : ℕ) → k < length (d .tables .proofs .entries) → ok (wayDown (sectionOf (d .tables)) limit k) ≡ valueIn (λ v. v) (wayDownFrom limit k x)
+  unfolding wayDownFrom
+  way-there limit h = picked (λ v. v) (wayFrom limit k) x (ok _) is (on-ok _ (is-found k (d .tables .proofs .entries) h .1))
+
+  pub way-gone : (limit : ℕ) → length (d .tables .proofs .entries) ≤ k → refuse 62 0 ≡ valueIn (λ v. v) (wayDownFrom limit k x)
+  unfolding wayDownFrom
+  way-gone limit h = picked (λ v. v) (wayFrom limit k) x (refuse 62 0) is (on-refused _ (not-found k (d .tables .proofs .entries) h))
+
+  pub authorised-there : k < length (d .tables .propositions .entries) → ok (authorised (sectionOf (d .tables)) k) ≡ valueIn (λ v. v) (authorisedNumber k x)
+  unfolding authorisedNumber
+  authorised-there h = picked (λ v. v) (isAuthorised k) x (ok _) is (on-ok _ (is-found k (d .tables .propositions .entries) h .1))
+
+  pub authorised-gone : length (d .tables .propositions .entries) ≤ k → refuse 62 0 ≡ valueIn (λ v. v) (authorisedNumber k x)
+  unfolding authorisedNumber
+  authorised-gone h = picked (λ v. v) (isAuthorised k) x (refuse 62 0) is (on-refused _ (not-found k (d .tables .propositions .entries) h))
 
 module _ (s : List ℕ) (cursor : ℕ) {d : answer.Answer} {x : Out Section} (decoding : Decoded s cursor d x) {a : answer.Accepted} (is : d .outcome ≡ ok a) where
   abbrev told : Told x (d .cursor) (a .counts)
@@ -70,24 +86,20 @@ module _ (s : List ℕ) (cursor : ℕ) {d : answer.Answer} {x : Out Section} (de
     -- ---- The way down
     module _ (limit k : ℕ) where
       pub way-asked : k < length (take (a .counts .proofs) t) → ok (wayDown (sectionOf (section .tables)) limit k) ≡ valueIn (λ v. v) (wayDownFrom limit k x)
-      unfolding wayDownFrom
-      way-asked h = picked (λ v. v) (wayFrom limit k) x (ok _) (told .is) (on-ok _ (is-found k (section .tables .proofs .entries) (omega (arith, total)) .1))
+      way-asked h = way-there (told .is) k limit (omega (arith, total))
 
       pub way-not-there : length (take (a .counts .proofs) t) ≤ k → refuse 62 0 ≡ valueIn (λ v. v) (wayDownFrom limit k x)
-      unfolding wayDownFrom
-      way-not-there h = picked (λ v. v) (wayFrom limit k) x (refuse 62 0) (told .is) (on-refused _ (not-found k (section .tables .proofs .entries) (omega (arith, total))))
+      way-not-there h = way-gone (told .is) k limit (omega (arith, total))
 
   -- ---- Authorised
   propositions-total : a .counts .propositions ≡ length (section .tables .propositions .entries)
   propositions-total =
       ap (λ (c : Counts). c .propositions) (told .counted)
-      ∙ sym (trace-length propositionRow _ (trace propositionRow _ _ _ _ (section .tables .propositions) (facts s cursor decoding is .tables .propositions)))
+      ∙ sym (facts s cursor decoding is .propositions)
 
   module _ (k : ℕ) where
     pub authorised-asked : k < a .counts .propositions → ok (authorised (sectionOf (section .tables)) k) ≡ valueIn (λ v. v) (authorisedNumber k x)
-    unfolding authorisedNumber
-    authorised-asked h = picked (λ v. v) (isAuthorised k) x (ok _) (told .is) (on-ok _ (is-found k (section .tables .propositions .entries) (omega (arith, propositions-total)) .1))
+    authorised-asked h = authorised-there (told .is) k (omega (arith, propositions-total))
 
     pub authorised-not-there : a .counts .propositions ≤ k → refuse 62 0 ≡ valueIn (λ v. v) (authorisedNumber k x)
-    unfolding authorisedNumber
-    authorised-not-there h = picked (λ v. v) (isAuthorised k) x (refuse 62 0) (told .is) (on-refused _ (not-found k (section .tables .propositions .entries) (omega (arith, propositions-total))))
+    authorised-not-there h = authorised-gone (told .is) k (omega (arith, propositions-total))

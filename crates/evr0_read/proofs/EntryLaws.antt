@@ -1,4 +1,4 @@
--- A record by its number, as the reader at its start answers it; and that its text's place in the payload is one of 64 bits.
+-- A record at a place and by its number, as the reader there answers it; and that its text's place in the payload is one of 64 bits.
 use Prim.Native.Nat.{ℕ, _+_, _-_, _^_, _≤_, _<_}
 use mathlib.Core.Path.{_≡_, refl, sym, ap, ap₂, subst}
 use mathlib.Core.List.{List}
@@ -16,22 +16,27 @@ use Rattle.evr0_section.specs.Proof.{ProofRecord, zerosAt, proofOf}
 use Rattle.evr0_section.specs.Witness.{WitnessRecord}
 use Rattle.evr0_head.specs.Maps.{Beside}
 use Rattle.evr0_records.specs.Maps as records
-use Rattle.evr0_read.specs.Entry.{entryAt}
+use Rattle.evr0_read.specs.Entry.{recordAt, entryAt}
 use Rattle.evr0_read.specs.Maps.{witnessBeside}
 
-module _ {X A : Type 0} (read : List ℕ → Out X) (place : ℕ → X → A) (p : List ℕ) (count start k : ℕ) where
-  pub entry-none : count ≤ k → refuse 62 0 ≡ entryAt read place p count start k
-  unfolding entryAt
-  entry-none h = rw (le-ltb k count h)
+module _ {X A : Type 0} (read : List ℕ → Out X) (place : ℕ → X → A) (p : List ℕ) (start : ℕ) where
+  pub record-refused : {r : Refusal} → read (drop start p) ≡ refused r → refused r ≡ recordAt read place p start
+  unfolding recordAt
+  record-refused e = rw e
 
-  pub entry-refused : {r : Refusal} → k < count → read (drop start p) ≡ refused r → refused r ≡ entryAt read place p count start k
-  unfolding entryAt
-  entry-refused h e = rw (lt-ltb k count h, e)
+  pub record-found : {x : X} {y : A} → read (drop start p) ≡ ok x → y ≡ place start x
+      → ok (record { start = start; item = y }) ≡ recordAt read place p start
+  unfolding recordAt
+  record-found e f = rw (e, f)
 
-  pub entry-found : {x : X} {y : A} → k < count → read (drop start p) ≡ ok x → y ≡ place start x
-      → ok (record { start = start; item = y }) ≡ entryAt read place p count start k
-  unfolding entryAt
-  entry-found h e f = rw (lt-ltb k count h, e, f)
+  module _ (count k : ℕ) where
+    pub entry-none : count ≤ k → refuse 62 0 ≡ entryAt read place p count start k
+    unfolding entryAt
+    entry-none h = rw (le-ltb k count h)
+
+    pub entry-there : k < count → recordAt read place p start ≡ entryAt read place p count start k
+    unfolding entryAt
+    entry-there h = rw (lt-ltb k count h)
 
 -- ---- Texts
 

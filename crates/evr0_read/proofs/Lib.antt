@@ -4,7 +4,10 @@ pub mod HeldLaws
 pub mod DownLaws
 pub mod AuthorisedLaws
 pub mod EntryLaws
+pub mod PlaceLaws
 pub mod NumberedLaws
 pub mod AskLaws
 pub mod NumberLaws
 pub mod AnswerLaws
+pub mod Listing
+pub mod Stated

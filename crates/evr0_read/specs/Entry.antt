@@ -1,4 +1,4 @@
--- A record by its number, in a payload and from its start; its text at its place in the payload.
+-- A record of a payload, from its start and by its number; its text at its place in the payload.
 use Prim.Native.Nat.{ℕ, _+_}
 use mathlib.Core.List.{List}
 use mathlib.Core.Bool.{cond}
@@ -60,10 +60,12 @@ abbrev pub placedParent : ℕ → Row ℕ (Unit {0}) → ℕ
 placedParent start x = x .item
 
 module _ {X A : Type 0} (read : List ℕ → Out X) (place : ℕ → X → A) where
-  -- the record with the number k, of `count` records, which starts at a place of the payload p
+  -- the record that starts at a place of the payload p
+  unfoldable pub recordAt : List ℕ → ℕ → Out (Entry A)
+  recordAt p start = do
+    x ← read (drop start p)
+    ok (record { start = start; item = place start x })
+
+  -- the same, if it is one of `count` records by its number k
   unfoldable pub entryAt : List ℕ → ℕ → ℕ → ℕ → Out (Entry A)
-  entryAt p count start k =
-      let there : Out (Entry A) = (do
-        x ← read (drop start p)
-        ok (record { start = start; item = place start x })) in
-      cond (ltb k count) there (refuse 62 0)
+  entryAt p count start k = cond (ltb k count) (recordAt p start) (refuse 62 0)

@@ -36,7 +36,7 @@ fn operates(proof: Proof, proposition: u32) -> bool
 }
 
 // In an accepted section.
-pub fn authorised_in(payload: &[u8], starts: &[u64], proposition: PropositionIndex) -> bool
+fn authorised_in(payload: &[u8], starts: &[u64], proposition: PropositionIndex) -> bool
     ensures { λ r. ⌜ ((d : Section) → Held (now (payload .entry)) (now (starts .entry)) d → r ≡ of.authorised (sectionOf (d .tables)) (proposition .0)) ⌝ }
 {
     let wanted = proposition.0;

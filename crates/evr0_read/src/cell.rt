@@ -1,11 +1,12 @@
-// Witnesses and parents by number: they are as many bytes each, and stand at the payload's end.
+// Witnesses and parents of a payload, at a place and by number: they are as many bytes each, and stand at its end.
 ghost use mathlib.Core.Path.{_≡_};
-ghost use Prim.Native.Nat.{_-_, _+_, _*_, _≤_};
+ghost use Prim.Native.Nat.{_-_, _*_};
 ghost use lib.ListN.{length};
 ghost use Rattle.local_format.specs.Out.{refused};
 ghost use Rattle.local_format.specs.Maps.{refusalOut};
 ghost use Rattle.evr0_section.specs.Witness.{witnessOf, parentRow};
-ghost use Rattle.evr0_read.specs.Entry.{placedWitness, placedParent, entryAt};
+ghost use Rattle.evr0_read.specs.Entry.{placedWitness, placedParent, recordAt, entryAt};
+ghost use Rattle.evr0_read.specs.Place.{witnessPlace, parentPlace};
 ghost use Rattle.evr0_read.specs.Maps.{witnessEntryOut, witnessBeside, parentEntryOut};
 use evr0_head::counts::Counts;
 use evr0_head::number::ProofNumber;
@@ -14,9 +15,6 @@ use evr0_records::parent::Parent;
 use evr0_records::witness::Witness;
 use evr0_records::witness::WitnessAnswer;
 use local_format::refusal::Refusal;
-
-// The most witnesses, and the most parents, of an accepted section.
-const MAX_RECORDS: usize = 262144;
 
 pub enum WitnessFound {
     Found { start: usize, witness: Witness },
@@ -35,21 +33,46 @@ pub enum ParentEntry {
     Refused(Refusal),
 }
 
-// The place so many bytes before the end.
-fn before_end(len: usize, bytes: usize) -> usize
-    ensures { λ r. ⌜ r ≡ len - bytes ⌝ }
+// Where so many witnesses that end at a place start; 0 where they do not fit.
+fn before_witnesses(end: usize, count: usize) -> usize
+    ensures { λ r. ⌜ r ≡ end - 84 * count ⌝ }
 {
-    if bytes <= len { len - bytes } else { 0 }
-}
-
-// Where the parent cells start.
-pub fn parents_at(payload: &[u8], counts: Counts) -> usize
-    ensures { λ r. ⌜ (counts .parents ≤ 262144 → r ≡ length (now (payload .entry)) - 4 * counts .parents) ⌝ }
-{
-    if MAX_RECORDS < counts.parents {
+    if end / 84 < count {
         return 0;
     }
-    before_end(payload.len(), 4 * counts.parents)
+    end - 84 * count
+}
+
+// Where so many parents that end at a place start; 0 where they do not fit.
+pub fn before_parents(end: usize, count: usize) -> usize
+    ensures { λ r. ⌜ r ≡ end - 4 * count ⌝ }
+{
+    if end / 4 < count {
+        return 0;
+    }
+    end - 4 * count
+}
+
+// Where a witness starts in a payload of `len` bytes; 0 where there is none with the number.
+pub fn witness_place(len: usize, counts: Counts, number: WitnessNumber) -> usize
+    ensures { λ r. ⌜ r ≡ witnessPlace len (counts .witnesses) (counts .parents) (number .0) ⌝ }
+{
+    let i = number.place();
+    if counts.witnesses <= i {
+        return 0;
+    }
+    before_witnesses(before_parents(len, counts.parents), counts.witnesses - i)
+}
+
+// Where a parent cell starts in a payload of `len` bytes; 0 where there is none with the number.
+pub fn parent_place(len: usize, counts: Counts, number: u32) -> usize
+    ensures { λ r. ⌜ r ≡ parentPlace len (counts .parents) number ⌝ }
+{
+    let i = evr0_head::number::wide(number);
+    if counts.parents <= i {
+        return 0;
+    }
+    before_parents(len, counts.parents - i)
 }
 
 pub fn no_witness(refusal: Refusal) -> WitnessEntry
@@ -62,24 +85,11 @@ pub fn no_witness(refusal: Refusal) -> WitnessEntry
     }
 }
 
-pub fn witness_in(payload: &[u8], counts: Counts, number: WitnessNumber) -> WitnessEntry
-    ensures { λ r. ⌜ (counts .witnesses ≤ 262144 → counts .parents ≤ 262144 → witnessEntryOut r ≡ witnessBeside (entryAt (witnessOf 4) placedWitness (now (payload .entry)) (counts .witnesses) (length (now (payload .entry)) - (84 * (counts .witnesses - number .0) + 4 * counts .parents)) (number .0))) ⌝ }
+// The witness that starts at a place.
+pub fn witness_at(payload: &[u8], at: usize) -> WitnessEntry
+    ensures { λ r. ⌜ witnessEntryOut r ≡ witnessBeside (recordAt (witnessOf 4) placedWitness (now (payload .entry)) at) ⌝ }
 {
-    if MAX_RECORDS < counts.witnesses {
-        return no_witness(local_format::refusal::refuse(62, 0));
-    }
-    if MAX_RECORDS < counts.parents {
-        return no_witness(local_format::refusal::refuse(62, 0));
-    }
-    let i = number.place();
-    if counts.witnesses <= i {
-        return no_witness(local_format::refusal::refuse(62, 0));
-    }
-    let start = before_end(
-        payload.len(),
-        84 * (counts.witnesses - i) + 4 * counts.parents,
-    );
-    let read = evr0_records::witness::read_witness(local_format::part::tail(payload, start));
+    let read = evr0_records::witness::read_witness(local_format::part::tail(payload, at));
     let file_digest = read.file_digest;
     let origin_digest = read.origin_digest;
     let answer = read.answer;
@@ -87,7 +97,7 @@ pub fn witness_in(payload: &[u8], counts: Counts, number: WitnessNumber) -> Witn
         WitnessAnswer::Read { witness, size: _ } => WitnessEntry {
             file_digest,
             origin_digest,
-            answer: WitnessFound::Found { start, witness },
+            answer: WitnessFound::Found { start: at, witness },
         },
         WitnessAnswer::Refused(r) => WitnessEntry {
             file_digest,
@@ -97,23 +107,34 @@ pub fn witness_in(payload: &[u8], counts: Counts, number: WitnessNumber) -> Witn
     }
 }
 
-pub fn parent_in(payload: &[u8], counts: Counts, number: u32) -> ParentEntry
-    ensures { λ r. ⌜ (counts .parents ≤ 262144 → parentEntryOut r ≡ entryAt (parentRow tt) placedParent (now (payload .entry)) (counts .parents) (length (now (payload .entry)) - 4 * (counts .parents - number)) number) ⌝ }
+// The parent cell that starts at a place.
+pub fn parent_at(payload: &[u8], at: usize) -> ParentEntry
+    ensures { λ r. ⌜ parentEntryOut r ≡ recordAt (parentRow tt) placedParent (now (payload .entry)) at ⌝ }
 {
-    if MAX_RECORDS < counts.parents {
-        return ParentEntry::Refused(local_format::refusal::refuse(62, 0));
-    }
-    let i = evr0_head::number::wide(number);
-    if counts.parents <= i {
-        return ParentEntry::Refused(local_format::refusal::refuse(62, 0));
-    }
-    let start = before_end(payload.len(), 4 * (counts.parents - i));
-    let read = evr0_records::parent::read_parent(local_format::part::tail(payload, start));
+    let read = evr0_records::parent::read_parent(local_format::part::tail(payload, at));
     match read {
         Parent::Read { proof_id, size: _ } => ParentEntry::Found {
-            start,
+            start: at,
             proof: proof_id,
         },
         Parent::Refused(r) => ParentEntry::Refused(r),
     }
+}
+
+pub fn witness_in(payload: &[u8], counts: Counts, number: WitnessNumber) -> WitnessEntry
+    ensures { λ r. ⌜ witnessEntryOut r ≡ witnessBeside (entryAt (witnessOf 4) placedWitness (now (payload .entry)) (counts .witnesses) (witnessPlace (length (now (payload .entry))) (counts .witnesses) (counts .parents) (number .0)) (number .0)) ⌝ }
+{
+    if counts.witnesses <= number.place() {
+        return no_witness(local_format::refusal::refuse(62, 0));
+    }
+    witness_at(payload, witness_place(payload.len(), counts, number))
+}
+
+pub fn parent_in(payload: &[u8], counts: Counts, number: u32) -> ParentEntry
+    ensures { λ r. ⌜ parentEntryOut r ≡ entryAt (parentRow tt) placedParent (now (payload .entry)) (counts .parents) (parentPlace (length (now (payload .entry))) (counts .parents) number) number ⌝ }
+{
+    if counts.parents <= evr0_head::number::wide(number) {
+        return ParentEntry::Refused(local_format::refusal::refuse(62, 0));
+    }
+    parent_at(payload, parent_place(payload.len(), counts, number))
 }

@@ -1,6 +1,6 @@
 // The way down: from a proof, always the first parent.
 ghost use mathlib.Core.Path.{_≡_};
-ghost use Prim.Native.Nat.{ℕ, _<_};
+ghost use Prim.Native.Nat.{ℕ, _*_, _<_};
 ghost use Rattle.local_format.specs.Out.{Out};
 ghost use Rattle.lent_table.specs.Lent.{lent};
 ghost use Rattle.evr0.specs.Answer.{proofStarts};
@@ -21,6 +21,7 @@ use evr0::section::decode_evr0_section;
 use evr0_head::number::ProofNumber;
 use evr0_head::number::WitnessNumber;
 use evr0_head::number::wide;
+use evr0_records::proof::Proof;
 use evr0_records::proof::ProofRead;
 use local_format::field::U32;
 use local_format::refusal::Refusal;
@@ -30,14 +31,15 @@ pub enum Down {
     Spent(ProofNumber),
 }
 
+// Where a proof's first parent cell starts, in the table of parent cells.
+fn first_cell(proof: Proof) -> usize
+    ensures { λ r. ⌜ r ≡ 4 * proof .«parent_first» ⌝ }
+{
+    4 * wide(proof.parent_first)
+}
+
 // From a proof of an accepted section, whose parent cells start at `cells`.
-pub fn down_from(
-    payload: &[u8],
-    starts: &[u64],
-    cells: usize,
-    from: ProofNumber,
-    limit: u64,
-) -> Down
+fn down_from(payload: &[u8], starts: &[u64], cells: usize, from: ProofNumber, limit: u64) -> Down
     ensures { λ r. ⌜ ((d : Section) → Held (now (payload .entry)) (now (starts .entry)) d → cells ≡ d .tables .witnesses .next → from .0 < length (now (starts .entry)) → downOut r ≡ wayDown (sectionOf (d .tables)) limit (from .0)) ⌝ }
 {
     let table = local_format::part::tail(payload, cells);
@@ -55,7 +57,7 @@ pub fn down_from(
         if moves == limit {
             return Down::Spent(ProofNumber(number));
         }
-        let cell = local_format::field::read_u32_le(table, 4 * wide(proof.parent_first));
+        let cell = local_format::field::read_u32_le(table, first_cell(proof));
         let U32::Value { value, next: _ } = cell else {
             return Down::Spent(from);
         };
@@ -90,7 +92,7 @@ fn way_down_of(
             if table.len() <= from.place() {
                 return WayDown::Refused(local_format::refusal::refuse(62, 0));
             }
-            let cells = crate::cell::parents_at(payload, counts);
+            let cells = crate::cell::before_parents(payload.len(), counts.parents);
             WayDown::Answer(down_from(payload, table, cells, from, limit))
         }
     }

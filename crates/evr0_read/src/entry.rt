@@ -1,4 +1,4 @@
-// Propositions and proofs by number, in a payload and the starts of its tables. A text stands at its place in the payload.
+// Propositions and proofs of a payload, at a place and by number. A text stands at its place in the payload.
 ghost use mathlib.Core.Path.{_≡_};
 ghost use Prim.Native.Nat.{_+_, _≤_};
 ghost use lib.ListN.{length, getD};
@@ -6,7 +6,7 @@ ghost use Rattle.evr0_section.specs.Proposition.{propositionOf};
 ghost use Rattle.evr0_section.specs.Proof.{proofOf};
 ghost use Rattle.evr0_head.specs.Maps.{spanOut};
 ghost use Rattle.evr0_records.specs.Maps.{propositionRecord, proofRecord};
-ghost use Rattle.evr0_read.specs.Entry.{placed, withKind, withRule, placedProposition, placedProof, entryAt};
+ghost use Rattle.evr0_read.specs.Entry.{placed, withKind, withRule, placedProposition, placedProof, recordAt, entryAt};
 ghost use Rattle.evr0_read.specs.Maps.{propositionEntryOut, proofEntryOut};
 use evr0_head::number::ProofNumber;
 use evr0_head::number::PropositionIndex;
@@ -77,6 +77,37 @@ fn place_proof(proof: Proof, start: usize) -> Proof
     }
 }
 
+// The proposition that starts at a place.
+pub fn proposition_at(payload: &[u8], at: usize) -> PropositionEntry
+    ensures { λ r. ⌜ propositionEntryOut r ≡ recordAt propositionOf placedProposition (now (payload .entry)) at ⌝ }
+{
+    let read = evr0_records::proposition::read_proposition(local_format::part::tail(payload, at));
+    match read {
+        PropositionRead::Read {
+            proposition,
+            size: _,
+        } => PropositionEntry::Found {
+            start: at,
+            proposition: place_proposition(proposition, at),
+        },
+        PropositionRead::Refused(r) => PropositionEntry::Refused(r),
+    }
+}
+
+// The proof that starts at a place.
+pub fn proof_at(payload: &[u8], at: usize) -> ProofEntry
+    ensures { λ r. ⌜ proofEntryOut r ≡ recordAt proofOf placedProof (now (payload .entry)) at ⌝ }
+{
+    let read = evr0_records::proof::read_proof(local_format::part::tail(payload, at));
+    match read {
+        ProofRead::Read { proof, size: _ } => ProofEntry::Found {
+            start: at,
+            proof: place_proof(proof, at),
+        },
+        ProofRead::Refused(r) => ProofEntry::Refused(r),
+    }
+}
+
 pub fn proposition_in(payload: &[u8], starts: &[u64], number: PropositionIndex) -> PropositionEntry
     ensures { λ r. ⌜ propositionEntryOut r ≡ entryAt propositionOf placedProposition (now (payload .entry)) (length (now (starts .entry))) (getD (now (starts .entry)) (number .0) 0) (number .0) ⌝ }
 {
@@ -84,21 +115,7 @@ pub fn proposition_in(payload: &[u8], starts: &[u64], number: PropositionIndex) 
     if starts.len() <= i {
         return PropositionEntry::Refused(local_format::refusal::refuse(62, 0));
     }
-    let start = starts[i] as usize;
-    let read = evr0_records::proposition::read_proposition(local_format::part::tail(
-        payload,
-        start,
-    ));
-    match read {
-        PropositionRead::Read {
-            proposition,
-            size: _,
-        } => PropositionEntry::Found {
-            start,
-            proposition: place_proposition(proposition, start),
-        },
-        PropositionRead::Refused(r) => PropositionEntry::Refused(r),
-    }
+    proposition_at(payload, starts[i] as usize)
 }
 
 pub fn proof_entry_in(payload: &[u8], starts: &[u64], number: ProofNumber) -> ProofEntry
@@ -108,13 +125,5 @@ pub fn proof_entry_in(payload: &[u8], starts: &[u64], number: ProofNumber) -> Pr
     if starts.len() <= i {
         return ProofEntry::Refused(local_format::refusal::refuse(62, 0));
     }
-    let start = starts[i] as usize;
-    let read = evr0_records::proof::read_proof(local_format::part::tail(payload, start));
-    match read {
-        ProofRead::Read { proof, size: _ } => ProofEntry::Found {
-            start,
-            proof: place_proof(proof, start),
-        },
-        ProofRead::Refused(r) => ProofEntry::Refused(r),
-    }
+    proof_at(payload, starts[i] as usize)
 }

@@ -1,3 +1,4 @@
 pub mod Maps
 pub mod BlockMaps
 pub mod SectionMaps
+pub mod EntryMaps

@@ -1,7 +1,6 @@
--- From the flat structs in C's layout to the definitions' types.
+-- The flat structs in C's layout that hold what the definitions answer: refusals, fields, scans and texts.
 use Prim.Native.Nat.{ℕ}
-use mathlib.Core.Bool.{Bool, cond}
-use lib.Dec.{eqb}
+use mathlib.Core.Bool.{true, false, cond}
 use Rattle.local_format.specs.Refusal.{Kind, invalid, limit, strings, debug, ownership, added, Refusal}
 use Rattle.local_format.specs.Out.{Out, ok, refused}
 use Rattle.local_format.specs.Field.{Field, whole, cut}
@@ -14,30 +13,37 @@ use Rattle.exports.specs.declared.utf8.Scanned as scanned
 use Rattle.exports.specs.declared.utf8.Utf8 as utf8
 use Rattle.exports.specs.declared.text.Text as text
 
-abbrev pub fieldOut : field.Field → Field
-fieldOut f = cond (f .whole) (whole (record { value = f .value; next = f .next })) cut
-
 -- the kinds in document 01's order
-abbrev pub kindAt : ℕ → Kind
-kindAt k =
-    cond (eqb k 0) invalid
-    (cond (eqb k 1) limit
-    (cond (eqb k 2) strings
-    (cond (eqb k 3) debug
-    (cond (eqb k 4) ownership added))))
+abbrev pub kindNumber : Kind → ℕ
+kindNumber invalid = 0
+kindNumber limit = 1
+kindNumber strings = 2
+kindNumber debug = 3
+kindNumber ownership = 4
+kindNumber added = 5
 
-abbrev pub refusalFrom : refusal.Refusal → Refusal
-refusalFrom r = record { kind = kindAt (r .kind); number = r .number; offset = r .offset }
+abbrev pub flatRefusal : Refusal → refusal.Refusal
+flatRefusal r = record { kind = kindNumber (r .kind); number = r .number; offset = r .offset }
 
-abbrev pub scanFrom : scanned.Scanned → Scanned
-scanFrom s = cond (eqb (s .answer) 0) scan.notUtf8 (scan.text (s .chars) (eqb (s .answer) 2))
+-- what stands in an accepted answer
+abbrev pub noRefusal : refusal.Refusal
+noRefusal = record { kind = 0; number = 0; offset = 0 }
 
-abbrev pub utf8From : utf8.Utf8 → Utf8
-utf8From u = cond (u .whole) (scan.whole (cond (u .text) (scan.text (u .chars) (u .control)) scan.notUtf8) (u .next)) scan.cut
+abbrev pub flatField : Field → field.Field
+flatField (whole g) = record { whole = true; value = g .value; next = g .next }
+flatField cut = record { whole = false; value = 0; next = 0 }
 
--- an answer that was accepted, or else its refusal
-abbrev pub outFrom : {A : Type 0} → Bool → A → refusal.Refusal → Out A
-outFrom accepted a r = cond accepted (ok a) (refused (refusalFrom r))
+abbrev pub flatScan : Scanned → scanned.Scanned
+flatScan (scan.text chars control) = record { answer = cond control 2 1; chars = chars }
+flatScan scan.notUtf8 = record { answer = 0; chars = 0 }
 
-abbrev pub textFrom : text.Text → Out Span
-textFrom t = outFrom (t .accepted) (record { start = t .start; len = t .len; chars = t .chars; next = t .next }) (t .refusal)
+abbrev pub flatUtf8 : Utf8 → utf8.Utf8
+flatUtf8 (scan.whole (scan.text chars control) next) =
+    record { whole = true; text = true; control = control; chars = chars; next = next }
+flatUtf8 (scan.whole scan.notUtf8 next) = record { whole = true; text = false; control = false; chars = 0; next = next }
+flatUtf8 scan.cut = record { whole = false; text = false; control = false; chars = 0; next = 0 }
+
+abbrev pub flatText : Out Span → text.Text
+flatText (ok t) =
+    record { accepted = true; refusal = noRefusal; start = t .start; len = t .len; chars = t .chars; next = t .next }
+flatText (refused r) = record { accepted = false; refusal = flatRefusal r; start = 0; len = 0; chars = 0; next = 0 }

@@ -1,16 +1,20 @@
-// A function's block: its result, with string starts and path starts in two lent tables.
+// A function's block: its result, with string starts and path starts in two lent tables and the debug symbols in a lent list.
 ghost use mathlib.Core.Path.{_≡_};
+ghost use mathlib.Core.List.{map};
 ghost use lib.ListN.{length};
 ghost use Rattle.lent_table.specs.Lent.{lent};
 ghost use Rattle.semcode_decode.specs.Block.{decodeBlock};
 ghost use Rattle.semcode_decode.specs.Layout.{layout, stringStarts, pathStarts, roomsOf};
 ghost use Rattle.semcode_decode.specs.Maps.{parseOut};
-ghost use Rattle.exports.specs.BlockMaps.{blockFrom};
+ghost use Rattle.semcode_symbols.specs.Symbols.{blockSymbols, lentSymbols};
+ghost use Rattle.semcode_symbols.specs.Maps.{symbolIs};
+ghost use Rattle.exports.specs.BlockMaps.{flatBlock};
 use crate::refusal::Refusal;
 use crate::refusal::flat_refusal;
 use crate::refusal::no_refusal;
 use semcode_decode::decode::Parse;
-use semcode_decode::decode::parse_string_table_debug_and_ownership;
+use semcode_symbols::DebugSymbol;
+use semcode_symbols::parse_string_table_debug_and_ownership;
 
 // Counts, whether each tag was found, and places in the block; or a refusal, with zeros beside it.
 #[repr(C)]
@@ -28,7 +32,7 @@ pub struct Block {
 }
 
 fn flat_block(parse: Parse) -> Block
-    ensures { λ r. ⌜ blockFrom r ≡ parseOut parse ⌝ }
+    ensures { λ r. ⌜ r ≡ flatBlock (parseOut parse) ⌝ }
 {
     match parse {
         Parse::Whole(parsed) => Block {
@@ -58,27 +62,30 @@ fn flat_block(parse: Parse) -> Block
     }
 }
 
-// `symbols` is the number of symbols that the caller has room for.
 #[no_mangle]
 pub extern "C" fn falgnust_parse_string_table_debug_and_ownership(
     base_offset: usize,
     code: &[u8],
     header_rev: u16,
-    symbols: usize,
+    symbols: &mut [DebugSymbol],
     strings: &mut [u64],
     paths: &mut [u64],
 ) -> Block
     ensures { λ r.
-        ⌜ blockFrom r ≡
-        layout (decodeBlock «base_offset» «header_rev» (roomsOf (now (strings .entry)) symbols (now (paths .entry))) (now (code .entry))) ⌝ }
+        ⌜ r ≡
+        flatBlock (layout (decodeBlock «base_offset» «header_rev» (roomsOf (now (strings .entry)) (length (now (symbols .entry))) (now (paths .entry))) (now (code .entry)))) ⌝ }
     ensures { λ r.
         ⌜ now (strings .exit) ≡
         lent (length (now (strings .entry)))
-        (stringStarts (decodeBlock «base_offset» «header_rev» (roomsOf (now (strings .entry)) symbols (now (paths .entry))) (now (code .entry)))) ⌝ }
+        (stringStarts (decodeBlock «base_offset» «header_rev» (roomsOf (now (strings .entry)) (length (now (symbols .entry))) (now (paths .entry))) (now (code .entry)))) ⌝ }
     ensures { λ r.
         ⌜ now (paths .exit) ≡
         lent (length (now (paths .entry)))
-        (pathStarts (decodeBlock «base_offset» «header_rev» (roomsOf (now (strings .entry)) symbols (now (paths .entry))) (now (code .entry)))) ⌝ }
+        (pathStarts (decodeBlock «base_offset» «header_rev» (roomsOf (now (strings .entry)) (length (now (symbols .entry))) (now (paths .entry))) (now (code .entry)))) ⌝ }
+    ensures { λ r.
+        ⌜ map symbolIs (now (symbols .exit)) ≡
+        lentSymbols (length (now (symbols .entry)))
+        (blockSymbols (decodeBlock «base_offset» «header_rev» (roomsOf (now (strings .entry)) (length (now (symbols .entry))) (now (paths .entry))) (now (code .entry)))) ⌝ }
 {
     let parse = parse_string_table_debug_and_ownership(
         base_offset,

@@ -1,7 +1,7 @@
 // Fields at a place.
 ghost use mathlib.Core.Path.{_≡_};
 ghost use Rattle.local_format.specs.Field.{fieldAt};
-ghost use Rattle.exports.specs.Maps.{fieldOut};
+ghost use Rattle.exports.specs.Maps.{flatField};
 use local_format::field::U8;
 use local_format::field::U16;
 use local_format::field::U32;
@@ -19,7 +19,7 @@ pub struct Field {
 
 #[no_mangle]
 pub extern "C" fn falgnust_read_u8(bytes: &[u8], at: usize) -> Field
-    ensures { λ r. ⌜ fieldOut r ≡ fieldAt 1 (now (bytes .entry)) at ⌝ }
+    ensures { λ r. ⌜ r ≡ flatField (fieldAt 1 (now (bytes .entry)) at) ⌝ }
 {
     let U8::Value { value, next } = read_u8(bytes, at) else {
         return Field {
@@ -37,7 +37,7 @@ pub extern "C" fn falgnust_read_u8(bytes: &[u8], at: usize) -> Field
 
 #[no_mangle]
 pub extern "C" fn falgnust_read_u16_le(bytes: &[u8], at: usize) -> Field
-    ensures { λ r. ⌜ fieldOut r ≡ fieldAt 2 (now (bytes .entry)) at ⌝ }
+    ensures { λ r. ⌜ r ≡ flatField (fieldAt 2 (now (bytes .entry)) at) ⌝ }
 {
     let U16::Value { value, next } = read_u16_le(bytes, at) else {
         return Field {
@@ -55,7 +55,7 @@ pub extern "C" fn falgnust_read_u16_le(bytes: &[u8], at: usize) -> Field
 
 #[no_mangle]
 pub extern "C" fn falgnust_read_u32_le(bytes: &[u8], at: usize) -> Field
-    ensures { λ r. ⌜ fieldOut r ≡ fieldAt 4 (now (bytes .entry)) at ⌝ }
+    ensures { λ r. ⌜ r ≡ flatField (fieldAt 4 (now (bytes .entry)) at) ⌝ }
 {
     let U32::Value { value, next } = read_u32_le(bytes, at) else {
         return Field {

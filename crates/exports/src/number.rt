@@ -11,8 +11,8 @@ ghost use Rattle.semcode_decode.specs.Number.{
   headIn,
 };
 ghost use Rattle.semcode_read.specs.After.{Lent};
-ghost use Rattle.exports.specs.Maps.{textFrom};
-ghost use Rattle.exports.specs.BlockMaps.{symbolFrom, pathFrom, componentFrom};
+ghost use Rattle.exports.specs.Maps.{flatText};
+ghost use Rattle.exports.specs.BlockMaps.{flatSymbol, flatPath, flatComponent};
 use crate::record::Component;
 use crate::record::Path;
 use crate::record::Symbol;
@@ -36,8 +36,8 @@ pub extern "C" fn falgnust_string_number(
     paths: &mut [u64],
 ) -> Text
     ensures { λ r.
-        ⌜ textFrom r ≡
-        textIn (stringNumber number (decodeAnew «base_offset» «header_rev» (now (strings .entry)) (now (paths .entry)) (now (code .entry)))) ⌝ }
+        ⌜ r ≡
+        flatText (textIn (stringNumber number (decodeAnew «base_offset» «header_rev» (now (strings .entry)) (now (paths .entry)) (now (code .entry))))) ⌝ }
     ensures { λ r.
         ⌜ Lent (stringNumber number (decodeAnew «base_offset» «header_rev» (now (strings .entry)) (now (paths .entry)) (now (code .entry))))
         (now (strings .entry))
@@ -59,8 +59,8 @@ pub extern "C" fn falgnust_symbol_number(
     paths: &mut [u64],
 ) -> Symbol
     ensures { λ r.
-        ⌜ symbolFrom r ≡
-        takenIn (symbolNumber number (decodeAnew «base_offset» «header_rev» (now (strings .entry)) (now (paths .entry)) (now (code .entry)))) ⌝ }
+        ⌜ r ≡
+        flatSymbol (takenIn (symbolNumber number (decodeAnew «base_offset» «header_rev» (now (strings .entry)) (now (paths .entry)) (now (code .entry))))) ⌝ }
     ensures { λ r.
         ⌜ Lent (symbolNumber number (decodeAnew «base_offset» «header_rev» (now (strings .entry)) (now (paths .entry)) (now (code .entry))))
         (now (strings .entry))
@@ -82,8 +82,8 @@ pub extern "C" fn falgnust_path_number(
     paths: &mut [u64],
 ) -> Path
     ensures { λ r.
-        ⌜ pathFrom r ≡
-        headIn (pathNumber number (decodeAnew «base_offset» «header_rev» (now (strings .entry)) (now (paths .entry)) (now (code .entry)))) ⌝ }
+        ⌜ r ≡
+        flatPath (headIn (pathNumber number (decodeAnew «base_offset» «header_rev» (now (strings .entry)) (now (paths .entry)) (now (code .entry))))) ⌝ }
     ensures { λ r.
         ⌜ Lent (pathNumber number (decodeAnew «base_offset» «header_rev» (now (strings .entry)) (now (paths .entry)) (now (code .entry))))
         (now (strings .entry))
@@ -106,8 +106,8 @@ pub extern "C" fn falgnust_component_number(
     paths: &mut [u64],
 ) -> Component
     ensures { λ r.
-        ⌜ componentFrom r ≡
-        takenIn (componentNumber number component (decodeAnew «base_offset» «header_rev» (now (strings .entry)) (now (paths .entry)) (now (code .entry)))) ⌝ }
+        ⌜ r ≡
+        flatComponent (takenIn (componentNumber number component (decodeAnew «base_offset» «header_rev» (now (strings .entry)) (now (paths .entry)) (now (code .entry))))) ⌝ }
     ensures { λ r.
         ⌜ Lent (componentNumber number component (decodeAnew «base_offset» «header_rev» (now (strings .entry)) (now (paths .entry)) (now (code .entry))))
         (now (strings .entry))

@@ -4,7 +4,7 @@ ghost use Rattle.semcode_records.specs.Symbol.{symbolAt};
 ghost use Rattle.semcode_records.specs.Path.{headAt};
 ghost use Rattle.semcode_records.specs.Component.{componentAt};
 ghost use Rattle.semcode_records.specs.Maps.{symbolOut, pathOut, componentOut, eventIs, componentIs};
-ghost use Rattle.exports.specs.BlockMaps.{symbolFrom, eventAt, pathFrom, componentOf, componentFrom};
+ghost use Rattle.exports.specs.BlockMaps.{flatSymbol, flatEvent, flatPath, flatParts, flatComponent};
 use crate::refusal::Refusal;
 use crate::refusal::flat_refusal;
 use crate::refusal::no_refusal;
@@ -29,7 +29,7 @@ pub struct Symbol {
 }
 
 pub fn flat_symbol(read: semcode_records::symbol::Symbol) -> Symbol
-    ensures { λ r. ⌜ symbolFrom r ≡ symbolOut read ⌝ }
+    ensures { λ r. ⌜ r ≡ flatSymbol (symbolOut read) ⌝ }
 {
     match read {
         semcode_records::symbol::Symbol::Whole { symbol, next } => Symbol {
@@ -53,7 +53,7 @@ pub fn flat_symbol(read: semcode_records::symbol::Symbol) -> Symbol
 
 #[no_mangle]
 pub extern "C" fn falgnust_read_debug_symbol(code: &[u8], at: usize) -> Symbol
-    ensures { λ r. ⌜ symbolFrom r ≡ symbolAt (now (code .entry)) at ⌝ }
+    ensures { λ r. ⌜ r ≡ flatSymbol (symbolAt (now (code .entry)) at) ⌝ }
 {
     flat_symbol(read_debug_symbol(code, at))
 }
@@ -69,7 +69,7 @@ pub struct Event {
 }
 
 fn flat_event(event: DecodedEvent) -> Event
-    ensures { λ r. ⌜ eventAt (r .event) (r .site) ≡ eventIs event ⌝ }
+    ensures { λ r. ⌜ r ≡ flatEvent (eventIs event) ⌝ }
 {
     match event {
         DecodedEvent::Borrow(activation) => match activation {
@@ -97,7 +97,7 @@ pub struct Path {
 }
 
 pub fn flat_path(read: semcode_records::path::Path) -> Path
-    ensures { λ r. ⌜ pathFrom r ≡ pathOut read ⌝ }
+    ensures { λ r. ⌜ r ≡ flatPath (pathOut read) ⌝ }
 {
     match read {
         semcode_records::path::Path::Whole { path, next } => {
@@ -126,7 +126,7 @@ pub fn flat_path(read: semcode_records::path::Path) -> Path
 
 #[no_mangle]
 pub extern "C" fn falgnust_read_path(code: &[u8], at: usize, header_rev: u16) -> Path
-    ensures { λ r. ⌜ pathFrom r ≡ headAt «header_rev» (now (code .entry)) at ⌝ }
+    ensures { λ r. ⌜ r ≡ flatPath (headAt «header_rev» (now (code .entry)) at) ⌝ }
 {
     flat_path(read_path(code, at, header_rev))
 }
@@ -142,7 +142,7 @@ pub struct Parts {
 }
 
 fn parts_of(component: DecodedAccessPathComponent) -> Parts
-    ensures { λ r. ⌜ componentOf (r .kind) (r .first) (r .second) ≡ componentIs component ⌝ }
+    ensures { λ r. ⌜ r ≡ flatParts (componentIs component) ⌝ }
 {
     match component {
         DecodedAccessPathComponent::TupleIndex(index) => Parts {
@@ -177,7 +177,7 @@ pub struct Component {
 }
 
 pub fn flat_component(read: semcode_records::component::Component) -> Component
-    ensures { λ r. ⌜ componentFrom r ≡ componentOut read ⌝ }
+    ensures { λ r. ⌜ r ≡ flatComponent (componentOut read) ⌝ }
 {
     match read {
         semcode_records::component::Component::Whole { component, next } => Component {
@@ -206,7 +206,7 @@ pub extern "C" fn falgnust_read_component(
     header_rev: u16,
     kind: u8,
 ) -> Component
-    ensures { λ r. ⌜ componentFrom r ≡ componentAt «header_rev» kind (now (code .entry)) at ⌝ }
+    ensures { λ r. ⌜ r ≡ flatComponent (componentAt «header_rev» kind (now (code .entry)) at) ⌝ }
 {
     flat_component(read_component(code, at, header_rev, kind))
 }

@@ -1,8 +1,7 @@
 // Refusals in C's layout.
 ghost use mathlib.Core.Path.{_≡_};
-ghost use Rattle.local_format.specs.Refusal.{refusal};
 ghost use Rattle.local_format.specs.Maps.{kindOut, refusalOut};
-ghost use Rattle.exports.specs.Maps.{kindAt, refusalFrom};
+ghost use Rattle.exports.specs.Maps.{kindNumber, flatRefusal, noRefusal};
 use local_format::refusal::Kind;
 
 // The kinds are numbered in document 01's order: 0 Invalid, 1 Limit, 2 Strings, 3 Debug, 4 Ownership, 5 Added.
@@ -14,7 +13,7 @@ pub struct Refusal {
 }
 
 fn kind_number(kind: Kind) -> u8
-    ensures { λ r. ⌜ kindAt r ≡ kindOut kind ⌝ }
+    ensures { λ r. ⌜ r ≡ kindNumber (kindOut kind) ⌝ }
 {
     match kind {
         Kind::Invalid => 0,
@@ -27,7 +26,7 @@ fn kind_number(kind: Kind) -> u8
 }
 
 pub fn flat_refusal(refused: local_format::refusal::Refusal) -> Refusal
-    ensures { λ r. ⌜ refusalFrom r ≡ refusalOut refused ⌝ }
+    ensures { λ r. ⌜ r ≡ flatRefusal (refusalOut refused) ⌝ }
 {
     let kind = refused.kind;
     Refusal {
@@ -39,7 +38,7 @@ pub fn flat_refusal(refused: local_format::refusal::Refusal) -> Refusal
 
 // What stands in an accepted answer: number 0, which no refusal has.
 pub fn no_refusal() -> Refusal
-    ensures { λ r. ⌜ refusalFrom r ≡ refusal 0 0 ⌝ }
+    ensures { λ r. ⌜ r ≡ noRefusal ⌝ }
 {
     Refusal {
         kind: 0,

@@ -2,10 +2,10 @@
 ghost use mathlib.Core.Path.{_≡_};
 ghost use lib.ListN.{length};
 ghost use Rattle.lent_table.specs.Lent.{lent};
-ghost use Rattle.evr0_section.specs.Section.{decodeSection};
-ghost use Rattle.evr0.specs.Answer.{roomOf, answerOf, propositionStarts, proofStarts, proofDepths};
+ghost use Rattle.evr0.specs.Answer.{answerOf, propositionStarts, proofStarts, proofDepths};
 ghost use Rattle.evr0.specs.AnswerMaps.{answerOut};
-ghost use Rattle.exports.specs.SectionMaps.{sectionFrom};
+ghost use Rattle.evr0_read.specs.Asked.{decodeAnew};
+ghost use Rattle.exports.specs.SectionMaps.{flatSection};
 use crate::refusal::Refusal;
 use crate::refusal::flat_refusal;
 use crate::refusal::no_refusal;
@@ -32,7 +32,7 @@ pub struct Section {
 }
 
 fn flat_section(decoded: DecodedEvr0) -> Section
-    ensures { λ r. ⌜ sectionFrom r ≡ answerOut decoded ⌝ }
+    ensures { λ r. ⌜ r ≡ flatSection (answerOut decoded) ⌝ }
 {
     let source_set = decoded.source_set;
     let compiler_contract = decoded.compiler_contract;
@@ -78,10 +78,21 @@ pub extern "C" fn falgnust_decode_evr0_section(
     proofs: &mut [u64],
     depths: &mut [u64],
 ) -> Section
-    ensures { λ r. ⌜ sectionFrom r ≡ answerOf cursor (decodeSection (roomOf (length (now (propositions .entry))) (length (now (proofs .entry))) (length (now (depths .entry)))) (now (bytes .entry)) cursor) ⌝ }
-    ensures { λ r. ⌜ now (propositions .exit) ≡ lent (length (now (propositions .entry))) (propositionStarts (decodeSection (roomOf (length (now (propositions .entry))) (length (now (proofs .entry))) (length (now (depths .entry)))) (now (bytes .entry)) cursor)) ⌝ }
-    ensures { λ r. ⌜ now (proofs .exit) ≡ lent (length (now (proofs .entry))) (proofStarts (decodeSection (roomOf (length (now (propositions .entry))) (length (now (proofs .entry))) (length (now (depths .entry)))) (now (bytes .entry)) cursor)) ⌝ }
-    ensures { λ r. ⌜ now (depths .exit) ≡ lent (length (now (depths .entry))) (proofDepths (decodeSection (roomOf (length (now (propositions .entry))) (length (now (proofs .entry))) (length (now (depths .entry)))) (now (bytes .entry)) cursor)) ⌝ }
+    ensures { λ r.
+        ⌜ r ≡
+        flatSection (answerOf cursor (decodeAnew (now (bytes .entry)) cursor (now (propositions .entry)) (now (proofs .entry)) (now (depths .entry)))) ⌝ }
+    ensures { λ r.
+        ⌜ now (propositions .exit) ≡
+        lent (length (now (propositions .entry)))
+        (propositionStarts (decodeAnew (now (bytes .entry)) cursor (now (propositions .entry)) (now (proofs .entry)) (now (depths .entry)))) ⌝ }
+    ensures { λ r.
+        ⌜ now (proofs .exit) ≡
+        lent (length (now (proofs .entry)))
+        (proofStarts (decodeAnew (now (bytes .entry)) cursor (now (propositions .entry)) (now (proofs .entry)) (now (depths .entry)))) ⌝ }
+    ensures { λ r.
+        ⌜ now (depths .exit) ≡
+        lent (length (now (depths .entry)))
+        (proofDepths (decodeAnew (now (bytes .entry)) cursor (now (propositions .entry)) (now (proofs .entry)) (now (depths .entry)))) ⌝ }
 {
     let decoded = decode_evr0_section(bytes, cursor, propositions, proofs, depths);
     flat_section(decoded)

@@ -2,7 +2,7 @@
 ghost use mathlib.Core.Path.{_≡_};
 ghost use Rattle.local_format.specs.Text.{textAt, stringAt};
 ghost use Rattle.local_format.specs.Maps.{textOut};
-ghost use Rattle.exports.specs.Maps.{textFrom};
+ghost use Rattle.exports.specs.Maps.{flatText};
 use crate::refusal::Refusal;
 use crate::refusal::flat_refusal;
 use crate::refusal::no_refusal;
@@ -21,7 +21,7 @@ pub struct Text {
 }
 
 pub fn flat_text(text: local_format::text::Text) -> Text
-    ensures { λ r. ⌜ textFrom r ≡ textOut text ⌝ }
+    ensures { λ r. ⌜ r ≡ flatText (textOut text) ⌝ }
 {
     match text {
         local_format::text::Text::Whole {
@@ -50,14 +50,14 @@ pub fn flat_text(text: local_format::text::Text) -> Text
 
 #[no_mangle]
 pub extern "C" fn falgnust_read_text(bytes: &[u8], at: usize) -> Text
-    ensures { λ r. ⌜ textFrom r ≡ textAt (now (bytes .entry)) at ⌝ }
+    ensures { λ r. ⌜ r ≡ flatText (textAt (now (bytes .entry)) at) ⌝ }
 {
     flat_text(read_text(bytes, at))
 }
 
 #[no_mangle]
 pub extern "C" fn falgnust_read_string(bytes: &[u8], at: usize) -> Text
-    ensures { λ r. ⌜ textFrom r ≡ stringAt (now (bytes .entry)) at ⌝ }
+    ensures { λ r. ⌜ r ≡ flatText (stringAt (now (bytes .entry)) at) ⌝ }
 {
     flat_text(read_string(bytes, at))
 }

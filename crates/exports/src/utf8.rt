@@ -2,7 +2,7 @@
 ghost use mathlib.Core.Path.{_≡_};
 ghost use Rattle.local_format.specs.Utf8.{decode};
 ghost use Rattle.local_format.specs.Scan.{scanOf, utf8At};
-ghost use Rattle.exports.specs.Maps.{scanFrom, utf8From};
+ghost use Rattle.exports.specs.Maps.{flatScan, flatUtf8};
 use local_format::utf8::read_utf8;
 use local_format::utf8::scan;
 
@@ -15,7 +15,7 @@ pub struct Scanned {
 
 #[no_mangle]
 pub extern "C" fn falgnust_scan(bytes: &[u8]) -> Scanned
-    ensures { λ r. ⌜ scanFrom r ≡ scanOf (decode (now (bytes .entry))) ⌝ }
+    ensures { λ r. ⌜ r ≡ flatScan (scanOf (decode (now (bytes .entry)))) ⌝ }
 {
     let scanned = scan(bytes);
     match scanned {
@@ -45,7 +45,7 @@ pub struct Utf8 {
 
 #[no_mangle]
 pub extern "C" fn falgnust_read_utf8(bytes: &[u8], at: usize, len: usize) -> Utf8
-    ensures { λ r. ⌜ utf8From r ≡ utf8At (now (bytes .entry)) at len ⌝ }
+    ensures { λ r. ⌜ r ≡ flatUtf8 (utf8At (now (bytes .entry)) at len) ⌝ }
 {
     let read = read_utf8(bytes, at, len);
     match read {

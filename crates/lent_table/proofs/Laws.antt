@@ -6,7 +6,7 @@ use native.Mathlib.Omega.{arith}
 use native.Mathlib.Nat.{sub-zero}
 use lib.ListN.{length, take, drop, replicate, length-take, length-drop, drop-of-length-le}
 use lib.Seq.{take-all}
-use Rattle.lent_table.specs.Lent.{lent}
+use Rattle.lent_table.specs.Lent.{lent, Front}
 
 pub none : (entries : ℕ) → replicate entries 0 ≡ lent entries []
 none entries = rw sub-zero
@@ -26,3 +26,7 @@ module _ (n : ℕ) (xs : List ℕ) where
       let t : take n xs ≡ xs = take-all n xs h in
       let z : length xs - length xs ≡ 0 = omega arith in
       rw (t, z, append-nil)
+
+-- a table that begins with some numbers and is cleared after them
+pub front-lent : (n entries : ℕ) (t vs : List ℕ) → length t ≡ entries → length vs ≡ n → Front vs t → lent (length t) (take n t) ≡ lent entries vs
+front-lent n entries t vs l m e = let f : take n t ≡ vs = rw m at e in rw (f, l)

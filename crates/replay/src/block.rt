@@ -123,14 +123,7 @@ fn parsed(
 ) -> Held
     ensures { λ r. ⌜ heldOut r ≡ blockHeld (now (list .entry)) at (now (input .entry)) (length (now (strings .entry))) (length (now (paths .entry))) (decodeBlock base revision (roomsOf (now (strings .entry)) room (now (paths .entry))) (now (input .entry))) ⌝ }
 {
-    let parsed = semcode_decode::decode::parse_string_table_debug_and_ownership(
-        base,
-        input,
-        revision,
-        room,
-        strings,
-        paths,
-    );
+    let parsed = semcode_decode::decode::parse_block(base, input, revision, room, strings, paths);
     answer(list, at, input, parsed, strings, paths)
 }
 

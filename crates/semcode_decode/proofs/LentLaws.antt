@@ -1,20 +1,11 @@
 -- A decoded block and its lent tables, at a base: on acceptance as many starts as the counts say, and then zeros.
 use mathlib.Core.Path.{_≡_, refl, ap, sym, _∙_}
 use Prim.Native.Nat.{ℕ}
-use mathlib.Core.List.{List}
-use lib.ListN.{length, take, length-map}
+use lib.ListN.{length, length-map}
 use Rattle.local_format.specs.Out.{Out, ok, refused, based}
 use Rattle.local_format.proofs.OutLaws.{never, ok-same}
-use Rattle.lent_table.specs.Lent.{lent}
 use Rattle.semcode_decode.specs.Block.{Block}
 use Rattle.semcode_decode.specs.Layout.{Layout, layout, stringStarts, pathStarts}
-use Rattle.semcode_decode.specs.Front.{Front}
-
--- a table whose entries past the front are cleared
-pub front-lent : (n entries : ℕ) (t vs : List ℕ) → length t ≡ entries → length vs ≡ n → Front vs t → lent (length t) (take n t) ≡ lent entries vs
-front-lent n entries t vs l m e =
-    let f : take n t ≡ vs = rw m at e in
-    rw (f, l)
 
 module _ (base : ℕ) where
   -- an accepted block is the same at every base

@@ -11,6 +11,7 @@ use Rattle.local_format.specs.Out.{Out, ok, refuse, _>>=_, _>>_}
 use Rattle.local_format.specs.Field.{field}
 use Rattle.local_format.specs.Tag.{tagAt, dbg0, own0}
 use Rattle.local_format.specs.Text.{Span}
+use Rattle.local_format.specs.Number.{numbered}
 use Rattle.local_format.proofs.OutLaws.{never, ok-same, bind-ok, checked-ok}
 use Rattle.semcode_records.specs.Records.{Taken, taken, Entry, Table, noRecords, before, records, ends}
 use Rattle.semcode_records.specs.Symbol.{Symbol, symbolAt}
@@ -19,7 +20,6 @@ use Rattle.semcode_records.proofs.RecordsLaws.{none-left, ends-before, as-many}
 use Rattle.semcode_records.proofs.SymbolLaws.{symbols-cut}
 use Rattle.semcode_decode.specs.Block.{Rooms, stringRecord, stringTable, symbolTable, pathTable, Section, sectionAt, Block, blockOf}
 use Rattle.semcode_decode.specs.Layout.{startsOf}
-use Rattle.semcode_decode.specs.Number.{numbered}
 
 -- ---- A record of a table
 

@@ -10,10 +10,10 @@ use lib.Seq.{take-suc-set, length-take-le}
 use Rattle.local_format.specs.Refusal.{Refusal}
 use Rattle.local_format.specs.Out.{Out, ok, refused, _>>=_}
 use Rattle.local_format.proofs.OutLaws.{never, refused-same, ok-same, bind-ok}
+use Rattle.lent_table.specs.Lent.{Front}
 use Rattle.semcode_records.specs.Records.{Taken, Entry, Table, before, records, ends}
 use Rattle.semcode_records.proofs.RecordsLaws.{none-left, first-refused, first-read, as-many}
 use Rattle.semcode_decode.specs.Layout.{extent, startsOf, starts}
-use Rattle.semcode_decode.specs.Front.{Front}
 
 -- what a loop keeps of a table: the starts and the place after the last record
 pub record Kept : Type 0 where

@@ -28,7 +28,7 @@ answered base x =
       block = block;
       path = (do
         chosen ← pathNumber 0 block
-        ok (chosen .entry .value));
+        ok (chosen .value .value));
     }
 
 -- one borrow without components, in a block without strings and debug symbols

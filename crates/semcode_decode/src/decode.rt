@@ -14,10 +14,9 @@ use local_format::refusal::refuse;
 ghost use mathlib.Core.Path.{_≡_};
 ghost use lib.ListN.{length};
 ghost use Rattle.local_format.specs.Maps.{refusalOf, refusalOut};
-ghost use Rattle.lent_table.specs.Lent.{lent};
+ghost use Rattle.lent_table.specs.Lent.{lent, Front};
 ghost use Rattle.semcode_decode.specs.Block.{blockOf, decodeBlock};
 ghost use Rattle.semcode_decode.specs.Layout.{layout, stringStarts, pathStarts, roomsOf};
-ghost use Rattle.semcode_decode.specs.Front.{Front};
 ghost use Rattle.semcode_decode.specs.Maps.{parseOut};
 
 // Counts, tags found and places in the block.
@@ -106,7 +105,7 @@ fn parse_tables(
 }
 
 // A block at a base, with a lent list of so many symbols: string starts and path starts go to two lent tables.
-pub fn parse_string_table_debug_and_ownership(
+pub fn parse_block(
     base_offset: usize,
     code: &[u8],
     header_rev: u16,

@@ -17,12 +17,12 @@ ghost use Prim.Native.Nat.{_-_, _/_, _≤_};
 ghost use lib.ListN.{length};
 ghost use Rattle.local_format.specs.Maps.{refusalOf, refusalOut};
 ghost use Rattle.local_format.specs.Tag.{dbg0, own0};
+ghost use Rattle.lent_table.specs.Lent.{Front};
 ghost use Rattle.semcode_records.specs.Records.{records};
 ghost use Rattle.semcode_records.specs.Symbol.{symbolAt};
 ghost use Rattle.semcode_records.specs.Path.{pathAt};
 ghost use Rattle.semcode_decode.specs.Block.{stringRecord, stringTable, symbolTable, pathTable, sectionAt};
 ghost use Rattle.semcode_decode.specs.Layout.{extent, tagged, starts, sectionStarts};
-ghost use Rattle.semcode_decode.specs.Front.{Front};
 ghost use Rattle.semcode_decode.specs.Maps.{tableOut, sectionOut};
 
 pub const MAX_STRINGS_PER_FUNCTION: u16 = 256;

@@ -9,13 +9,14 @@ use lib.ListN.{length}
 use borrow.Author.Tests.{leb-true, leb-false}
 use Rattle.local_format.specs.Refusal.{Refusal}
 use Rattle.local_format.specs.Out.{Out, ok, refused, refuse, _>>=_}
+use Rattle.local_format.specs.Number.{numbered}
 use Rattle.local_format.proofs.OutLaws.{never, refused-same, ok-same, on-ok}
 use Rattle.semcode_records.specs.Records.{Taken, taken, Entry}
 use Rattle.semcode_records.specs.Component.{Component, componentAt}
 use Rattle.semcode_records.specs.Path.{Path, kindOfEvent, pathAt, Head, headOf}
 use Rattle.semcode_records.proofs.PathLaws.{path-components}
 use Rattle.semcode_decode.specs.Block.{Rooms, Block, blockOf}
-use Rattle.semcode_decode.specs.Number.{numbered, Chosen, pathNumber, componentNumber, blockIn, takenIn, headIn}
+use Rattle.semcode_decode.specs.Number.{Asked, pathNumber, componentNumber, blockIn, takenIn, headIn}
 use Rattle.semcode_decode.proofs.ReadLaws.{there, not-there, tables-read}
 use Rattle.semcode_read.specs.After.{componentAfter}
 
@@ -40,12 +41,12 @@ chosen-path n (refused r) h = absurd (never h)
 chosen-path n (ok b) {t} h = go (numbered n (b .ownership .table .entries)) refl h
   where
     go : (y : Out (Entry Path)) → numbered n (b .ownership .table .entries) ≡ y
-        → headIn (y >>= λ e. ok (record { block = b; entry = e })) ≡ ok t → ChosenPath n (ok b) (t .value)
+        → headIn (y >>= λ e. ok (record { decoded = b; value = e })) ≡ ok t → ChosenPath n (ok b) (t .value)
     go (ok e) k l = record { block = b; entry = e; accepted = refl; is = k; read-back = ap (λ (t : Taken Head). t .value) (ok-same l) }
     go (refused r) k l = absurd (never l)
 
-abbrev chosenIn : {A : Type 0} → Block → Entry A → Out (Chosen A)
-chosenIn b e = ok (record { block = b; entry = e })
+abbrev chosenIn : {A : Type 0} → Block → Entry A → Out (Asked A)
+chosenIn b e = ok (record { decoded = b; value = e })
 
 -- no path, no component
 pub no-path : (n k : ℕ) (x : Out Block) {r : Refusal} → headIn (pathNumber n x) ≡ refused r
@@ -54,7 +55,7 @@ unfolding pathNumber componentNumber
 no-path n k (refused q) h = let e = refused-same h in (ap refused e, ap refused e)
 no-path n k (ok b) {r} h = go (numbered n (b .ownership .table .entries)) h
   where
-    go : (y : Out (Entry Path)) → headIn (y >>= λ e. ok (record { block = b; entry = e })) ≡ refused r
+    go : (y : Out (Entry Path)) → headIn (y >>= λ e. ok (record { decoded = b; value = e })) ≡ refused r
         → (((y >>= λ e. numbered k (e .value .components .entries)) >>= chosenIn b) ≡ refused r) × ((y >>= chosenIn b) ≡ refused r)
     go (ok e) l = absurd (never (sym l))
     go (refused q) l = let e = refused-same l in (ap refused e, ap refused e)

@@ -7,6 +7,7 @@ use lib.ListN.{length, getD, replicate, length-append, length-map, List·getD-ap
 use Rattle.local_format.specs.Refusal.{Refusal}
 use Rattle.local_format.specs.Out.{Out, ok, refused, refuse}
 use Rattle.local_format.specs.Text.{Span, stringAt}
+use Rattle.local_format.specs.Number.{numbered, choose}
 use Rattle.local_format.proofs.OutLaws.{never, ok-same, bind-ok}
 use Rattle.lent_table.specs.Lent.{lent}
 use Rattle.semcode_records.specs.Records.{Taken, taken, Entry}
@@ -16,13 +17,13 @@ use Rattle.semcode_records.proofs.RecordsLaws.{as-many}
 use Rattle.semcode_records.proofs.SymbolLaws.{symbols-whole}
 use Rattle.semcode_decode.specs.Block.{Rooms, Block, stringRecord, blockOf}
 use Rattle.semcode_decode.specs.Layout.{Layout, layoutOf, layout, stringStarts, pathStarts}
-use Rattle.semcode_decode.specs.Number.{numbered, Chosen, choose, stringNumber, symbolNumber, pathNumber, blockIn, takenIn, textIn, headIn}
+use Rattle.semcode_decode.specs.Number.{Asked, stringNumber, symbolNumber, pathNumber, blockIn, takenIn, textIn, headIn}
 use Rattle.semcode_decode.proofs.BlockLaws.{layout-refused}
 use Rattle.semcode_decode.proofs.ReadLaws.{there, tables-read, symbol-start}
 use Rattle.semcode_read.specs.After.{Lent}
 
 -- ---- The lent tables
-module _ {A : Type 0} (y : Out (Chosen A)) (strings paths strings′ paths′ : List ℕ) where
+module _ {A : Type 0} (y : Out (Asked A)) (strings paths strings′ paths′ : List ℕ) where
   -- they are the block's
   pub tables-kept : (x : Out Block) → blockIn y ≡ x
       → strings′ ≡ lent (length strings) (stringStarts x) → paths′ ≡ lent (length paths) (pathStarts x)
@@ -49,7 +50,7 @@ module _ {A : Type 0} (pick : Block → Out (Entry A)) (x : Out Block) where
   block-refused e = let h = layout-refused x e in rw h (refl, refl)
 
   pub picked : {b : Block} {e : Entry A} → x ≡ ok b → pick b ≡ ok e
-      → (choose pick x ≡ ok (record { block = b; entry = e })) × (blockIn (choose pick x) ≡ x)
+      → (choose pick x ≡ ok (record { decoded = b; value = e })) × (blockIn (choose pick x) ≡ x)
   picked h k = rw (h, k) (refl, refl)
 
   pub not-picked : {b : Block} → x ≡ ok b → pick b ≡ refuse 62 0 → choose pick x ≡ refuse 62 0

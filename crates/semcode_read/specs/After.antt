@@ -8,10 +8,10 @@ use Rattle.lent_table.specs.Lent.{lent}
 use Rattle.semcode_records.specs.Records.{Taken, records, ends}
 use Rattle.semcode_records.specs.Component.{Component, componentAt}
 use Rattle.semcode_decode.specs.Layout.{stringStarts, pathStarts}
-use Rattle.semcode_decode.specs.Number.{Chosen, blockIn}
+use Rattle.semcode_decode.specs.Number.{Asked, blockIn}
 
 -- the tables lent, and what they hold afterwards: the starts and then zeros; after a refusal, zeros
-pub record Lent {A : Type 0} (answer : Out (Chosen A)) (strings paths strings′ paths′ : List ℕ) : Type 0 where
+pub record Lent {A : Type 0} (answer : Out (Asked A)) (strings paths strings′ paths′ : List ℕ) : Type 0 where
   pub of-strings : strings′ ≡ lent (length strings) (stringStarts (blockIn answer))
   pub of-paths : paths′ ≡ lent (length paths) (pathStarts (blockIn answer))
 

@@ -5,8 +5,8 @@ use local_format::refusal::refuse;
 use local_format::text::Text;
 use local_format::text::read_string;
 use semcode_decode::decode::Parse;
+use semcode_decode::decode::parse_block;
 use semcode_decode::decode::parse_refusal;
-use semcode_decode::decode::parse_string_table_debug_and_ownership;
 use semcode_records::component::Component;
 use semcode_records::component::Components;
 use semcode_records::component::components_refusal;
@@ -69,14 +69,7 @@ pub fn string_number(
         (now (strings .exit))
         (now (paths .exit)) ⌝ }
 {
-    let answer = parse_string_table_debug_and_ownership(
-        base_offset,
-        code,
-        header_rev,
-        SYMBOLS,
-        strings,
-        paths,
-    );
+    let answer = parse_block(base_offset, code, header_rev, SYMBOLS, strings, paths);
     let Parse::Whole(parsed) = answer else {
         return Text::Refused(parse_refusal(answer));
     };
@@ -104,14 +97,7 @@ pub fn symbol_number(
         (now (strings .exit))
         (now (paths .exit)) ⌝ }
 {
-    let answer = parse_string_table_debug_and_ownership(
-        base_offset,
-        code,
-        header_rev,
-        SYMBOLS,
-        strings,
-        paths,
-    );
+    let answer = parse_block(base_offset, code, header_rev, SYMBOLS, strings, paths);
     let Parse::Whole(parsed) = answer else {
         return Symbol::Refused(parse_refusal(answer));
     };
@@ -139,14 +125,7 @@ pub fn path_number(
         (now (strings .exit))
         (now (paths .exit)) ⌝ }
 {
-    let answer = parse_string_table_debug_and_ownership(
-        base_offset,
-        code,
-        header_rev,
-        SYMBOLS,
-        strings,
-        paths,
-    );
+    let answer = parse_block(base_offset, code, header_rev, SYMBOLS, strings, paths);
     let Parse::Whole(parsed) = answer else {
         return Path::Refused(parse_refusal(answer));
     };

@@ -1,9 +1,13 @@
-//! Blocks. The Rust copies strings, symbols and paths into vectors; the port writes starts to lent tables, whose lengths a row states.
+//! Blocks. The Rust copies strings, symbols and paths into vectors; the port writes starts to lent tables and symbols to a lent list, whose
+//! lengths a row states.
 
 use crate::rows::{Plan, Row, calls, plan};
+use answers::Answer;
+use answers::block::Layout;
 use inputs::block::{Block, each_form, large, small};
 use inputs::random::Random;
 use oracle::semcode_decode::DecodeError;
+use port::block::DebugSymbol;
 use std::cell::RefCell;
 use std::hint::black_box;
 
@@ -76,17 +80,9 @@ fn row(name: &str, blocks: &[Block], rooms: Rooms) -> Row {
     let same = codes.clone();
     for code in &codes {
         let rust = oracle::block::block(code, BASE, REVISION).map(|block| block.layout);
-        assert_eq!(
-            rust,
-            port(
-                code,
-                &mut vec![0; rooms[0]],
-                rooms[1],
-                &mut vec![0; rooms[2]]
-            )
-        );
+        assert_eq!(rust, port(code, &mut Tables::new(rooms)));
     }
-    let tables = RefCell::new((vec![0; rooms[0]], vec![0; rooms[2]]));
+    let tables = RefCell::new(Tables::new(rooms));
     Row {
         name: name.to_string(),
         bytes: codes.iter().map(Vec::len).sum(),
@@ -96,27 +92,39 @@ fn row(name: &str, blocks: &[Block], rooms: Rooms) -> Row {
             })
         }),
         port: calls(move || {
-            let (strings, paths) = &mut *tables.borrow_mut();
+            let tables = &mut *tables.borrow_mut();
             codes.iter().fold(0, |sum: u64, code| {
-                sum.wrapping_add(port_summary(port(
-                    black_box(code),
-                    strings,
-                    rooms[1],
-                    paths,
-                )))
+                sum.wrapping_add(port_summary(port(black_box(code), tables)))
             })
         }),
     }
 }
 
-fn port(
-    code: &[u8],
-    strings: &mut [u64],
-    symbols: usize,
-    paths: &mut [u64],
-) -> answers::Answer<answers::block::Layout> {
+/// What is lent.
+struct Tables {
+    strings: Vec<u64>,
+    symbols: Vec<DebugSymbol>,
+    paths: Vec<u64>,
+}
+
+impl Tables {
+    fn new(rooms: Rooms) -> Self {
+        Self {
+            strings: vec![0; rooms[0]],
+            symbols: vec![DebugSymbol::default(); rooms[1]],
+            paths: vec![0; rooms[2]],
+        }
+    }
+}
+
+fn port(code: &[u8], tables: &mut Tables) -> Answer<Layout> {
     port::block::parse_string_table_debug_and_ownership(
-        BASE, code, REVISION, symbols, strings, paths,
+        BASE,
+        code,
+        REVISION,
+        &mut tables.symbols,
+        &mut tables.strings,
+        &mut tables.paths,
     )
 }
 
@@ -137,7 +145,7 @@ fn rust_summary(code: &[u8]) -> u64 {
     }
 }
 
-fn port_summary(answer: answers::Answer<answers::block::Layout>) -> u64 {
+fn port_summary(answer: Answer<Layout>) -> u64 {
     match answer {
         Ok(l) => (l.strings + l.symbols + l.paths + l.instructions) as u64,
         Err(refusal) => refusal.offset as u64,

@@ -1,5 +1,6 @@
-//! One block on both sides: the result, every entry of both lent tables, and every record.
+//! One block on both sides: the result, every entry of the lent list and of both lent tables, and every record.
 
+use crate::block_binding;
 use crate::block_numbers;
 use crate::tally::{Tally, hex};
 use answers::Answer;
@@ -8,12 +9,20 @@ use answers::refusal::{Kind, Refusal};
 use inputs::block_conditions::{accepted, condition};
 use inputs::cases::BlockCase;
 use port::block::{
-    parse_string_table_debug_and_ownership, read_component, read_debug_symbol, read_path,
+    DebugSymbol, parse_string_table_debug_and_ownership, read_component, read_debug_symbol,
+    read_path,
 };
 use port::text::read_string;
 
 /// What a lent table holds before a call.
 pub const OLD: u64 = 0xA5A5_A5A5_A5A5_A5A5;
+
+/// What a lent list of symbols holds before a call.
+const OLD_SYMBOL: DebugSymbol = DebugSymbol {
+    pc: OLD as usize,
+    line: OLD as u32,
+    col: OLD as u16,
+};
 
 /// The most strings, symbols and paths that a block may have.
 const MOST: [usize; 3] = [256, 8192, 65_535];
@@ -26,6 +35,7 @@ pub fn compare(tally: &mut Tally, case: &BlockCase) {
     });
     let rooms = rooms(case);
     with_rooms(tally, case, rooms, &rust);
+    block_binding::compare(tally, case);
     if tally.inputs().is_multiple_of(8) {
         block_numbers::compare(tally, case, &rust, rooms);
     }
@@ -35,38 +45,70 @@ pub fn compare(tally: &mut Tally, case: &BlockCase) {
     }
 }
 
-/// Room enough, and for paths not much more than that: a path takes 7 bytes at least, so a larger count is refused after all, unless its
-/// table is too short for the count.
-fn rooms(case: &BlockCase) -> [usize; 3] {
-    let room = case.code.len() / 7 + 3;
-    let small = call(case, [MOST[0], MOST[1], room]).0;
-    match small {
+/// Room enough, and for symbols and paths not much more than that: a symbol takes 10 bytes and a path 7 at least, so a larger count is
+/// refused after all, unless its table is too short for the count.
+pub fn rooms(case: &BlockCase) -> [usize; 3] {
+    let length = case.code.len();
+    let rooms = [MOST[0] + length % 3, length / 10 + 3, length / 7 + 3];
+    match call(case, rooms).0 {
         Err(Refusal { number: 61, .. }) => MOST,
-        _ => [MOST[0] + room % 3, MOST[1] + room % 3, room],
+        _ => rooms,
     }
 }
 
-/// The port's answer with so much room for strings, symbols and paths, and the tables after it.
-fn call(case: &BlockCase, rooms: [usize; 3]) -> (Answer<Layout>, Vec<u64>, Vec<u64>) {
+/// An answer, and after it the lent strings, symbols and paths.
+type Called = (Answer<Layout>, Vec<u64>, Vec<DebugSymbol>, Vec<u64>);
+
+/// The port's answer with so much room for strings, symbols and paths.
+fn call(case: &BlockCase, rooms: [usize; 3]) -> Called {
     let (mut strings, mut paths) = (vec![OLD; rooms[0]], vec![OLD; rooms[2]]);
+    let mut symbols = vec![OLD_SYMBOL; rooms[1]];
     let answer = parse_string_table_debug_and_ownership(
         case.base,
         &case.code,
         case.revision,
-        rooms[1],
+        &mut symbols,
         &mut strings,
         &mut paths,
     );
-    (answer, strings, paths)
+    (answer, strings, symbols, paths)
 }
 
 fn with_rooms(tally: &mut Tally, case: &BlockCase, rooms: [usize; 3], rust: &Answer<Block>) {
-    let (layout, strings, paths) = match rust {
-        Ok(b) => (Ok(b.layout), &b.string_starts[..], &b.path_starts[..]),
-        Err(refusal) => (Err(*refusal), &[][..], &[][..]),
+    let expected = match rust {
+        Ok(b) => (
+            Ok(b.layout),
+            lent(&b.string_starts, rooms[0]),
+            listed(&b.symbols, rooms[1]),
+            lent(&b.path_starts, rooms[2]),
+        ),
+        Err(refusal) => refused(*refusal, rooms),
     };
-    let expected = (layout, lent(strings, rooms[0]), lent(paths, rooms[2]));
     tally.same(&expected, &call(case, rooms), || what(case));
+}
+
+/// A refusal, and zeros in every table.
+fn refused(refusal: Refusal, rooms: [usize; 3]) -> Called {
+    (
+        Err(refusal),
+        lent(&[], rooms[0]),
+        listed(&[], rooms[1]),
+        lent(&[], rooms[2]),
+    )
+}
+
+/// Symbols, and zeros past them.
+fn listed(symbols: &[Symbol], room: usize) -> Vec<DebugSymbol> {
+    let mut list: Vec<DebugSymbol> = symbols
+        .iter()
+        .map(|s| DebugSymbol {
+            pc: s.pc,
+            line: s.line,
+            col: s.column,
+        })
+        .collect();
+    list.resize(room, DebugSymbol::default());
+    list
 }
 
 /// Entries, and zeros past them.
@@ -153,9 +195,8 @@ fn short_tables(tally: &mut Tally, case: &BlockCase, layout: &Layout) {
             number: 61,
             offset: case.base.saturating_add(places[table]),
         };
-        let expected = (Err(refusal), lent(&[], rooms[0]), lent(&[], rooms[2]));
         tally.input((61, SHORT[table]));
-        tally.same(&expected, &call(case, rooms), || {
+        tally.same(&refused(refusal, rooms), &call(case, rooms), || {
             format!("room {rooms:?}, {}", what(case))
         });
     }

@@ -1,5 +1,6 @@
 //! The records of a block by number: those of the Rust's vectors, 62 past their end, and the block's own refusal where it has one.
 
+use crate::block_binding_numbers;
 use crate::block_compare::{OLD, lent, what};
 use crate::tally::Tally;
 use answers::Answer;
@@ -12,7 +13,7 @@ use std::fmt::Debug;
 /// A block with more records than this is left out, since each reader decodes the block anew.
 const MOST: usize = 40;
 
-const NOT_THERE: Refusal = Refusal {
+pub const NOT_THERE: Refusal = Refusal {
     kind: Kind::Added,
     number: 62,
     offset: 0,
@@ -28,11 +29,13 @@ struct Read<'a> {
 pub fn compare(tally: &mut Tally, case: &BlockCase, rust: &Answer<Block>, rooms: [usize; 3]) {
     match rust {
         Ok(block) if records(block) <= MOST => {
+            block_binding_numbers::compare(tally, case, rust);
             let rooms = [block.strings.len() + 1, block.paths.len() + 1];
             numbers(tally, &Read { case, rust, rooms }, block);
         }
         Ok(_) => (),
         Err(refusal) => {
+            block_binding_numbers::compare(tally, case, rust);
             let rooms = [rooms[0], rooms[2]];
             let read = Read { case, rust, rooms };
             read.check(
@@ -96,7 +99,7 @@ fn numbers(tally: &mut Tally, read: &Read, block: &Block) {
 }
 
 /// The numbers of a table, and two that it does not have.
-fn past(count: usize) -> impl Iterator<Item = usize> {
+pub fn past(count: usize) -> impl Iterator<Item = usize> {
     (0..=count).chain([usize::MAX])
 }
 

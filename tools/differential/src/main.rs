@@ -1,17 +1,8 @@
 //! Compares the port with the Rust on seeded inputs: kind, number and offset of each refusal, and each result and table entry.
 
-mod block_compare;
-mod block_numbers;
-mod blocks;
-mod fields;
-mod section_compare;
-mod sections;
-mod tally;
-mod texts;
-mod utf8;
-
+use differential::tally::{LEAST, Tally};
+use differential::{blocks, fields, sections, texts, utf8};
 use inputs::random::Random;
-use tally::{LEAST, Tally};
 
 /// The random inputs of a part, where no other number is asked for.
 const COUNT: usize = 500_000;

@@ -1,6 +1,8 @@
 //! One section on both sides: the result, the cursor, and every entry of the three lent tables.
 
 use crate::block_compare::{OLD, lent};
+use crate::section_binding;
+use crate::section_numbers;
 use crate::tally::{Tally, hex};
 use answers::Answer;
 use answers::refusal::{Kind, Refusal};
@@ -13,11 +15,16 @@ use port::section::decode_evr0_section;
 type Rooms = [usize; 3];
 
 pub fn compare(tally: &mut Tally, case: &SectionCase) {
-    let rust = oracle::section::section(&case.file, case.cursor).map(|(section, _)| section);
+    let rust = oracle::section::section(&case.file, case.cursor);
     tally.input(match &rust {
         Ok(_) => (0, ""),
         Err(refusal) => (refusal.number, condition(&case.file, case.cursor, refusal)),
     });
+    section_binding::compare(tally, case);
+    if tally.inputs().is_multiple_of(7) {
+        section_numbers::compare(tally, case, &rust);
+    }
+    let rust = rust.map(|(section, _)| section);
     let rooms = rooms(case);
     tally.same(&expected(case, &rust, rooms), &call(case, rooms), || {
         what(case)

@@ -1,112 +1,28 @@
-//! crates/exports/src/block.rt and record.rt
+//! Function tables.
 
-use crate::refusal::Refusal;
+use crate::refusal;
 use answers::Answer;
 use answers::block::{Activation, Component, Event, Execution, Layout, Symbol};
+use falgnust::calls::{self, BlockTables};
+use falgnust::raw;
 
-#[repr(C)]
-struct FlatBlock {
-    accepted: bool,
-    refusal: Refusal,
-    has_debug_section: bool,
-    has_ownership_section: bool,
-    string_count: usize,
-    string_table_end_offset: usize,
-    debug_symbol_count: usize,
-    debug_symbols_start: usize,
-    path_count: usize,
-    instr_start_offset: usize,
-}
+pub use falgnust::raw::DebugSymbol;
 
-#[repr(C)]
-pub(crate) struct FlatSymbol {
-    accepted: bool,
-    refusal: Refusal,
-    pc: usize,
-    line: u32,
-    col: u16,
-    next: usize,
-}
-
-#[repr(C)]
-struct FlatEvent {
-    event: u8,
-    site: u32,
-}
-
-#[repr(C)]
-pub(crate) struct FlatPath {
-    accepted: bool,
-    refusal: Refusal,
-    event: FlatEvent,
-    root_symbol_id: u32,
-    component_count: u16,
-    components_start: usize,
-    next: usize,
-}
-
-#[repr(C)]
-struct Parts {
-    kind: u8,
-    first: u32,
-    second: u16,
-}
-
-#[repr(C)]
-pub(crate) struct FlatComponent {
-    accepted: bool,
-    refusal: Refusal,
-    component: Parts,
-    next: usize,
-}
-
-unsafe extern "C" {
-    fn falgnust_parse_string_table_debug_and_ownership(
-        base_offset: usize,
-        code: *const u8,
-        code_len: usize,
-        header_rev: u16,
-        symbols: usize,
-        strings: *mut u64,
-        strings_len: usize,
-        paths: *mut u64,
-        paths_len: usize,
-    ) -> FlatBlock;
-    fn falgnust_read_debug_symbol(code: *const u8, len: usize, at: usize) -> FlatSymbol;
-    fn falgnust_read_path(code: *const u8, len: usize, at: usize, header_rev: u16) -> FlatPath;
-    fn falgnust_read_component(
-        code: *const u8,
-        len: usize,
-        at: usize,
-        header_rev: u16,
-        kind: u8,
-    ) -> FlatComponent;
-}
-
-/// `symbols` is the room for symbols; the starts go to the lent tables.
+/// The symbols go to the lent list, the starts to the lent tables.
+#[inline]
 pub fn parse_string_table_debug_and_ownership(
     base_offset: usize,
     code: &[u8],
     header_rev: u16,
-    symbols: usize,
+    symbols: &mut [DebugSymbol],
     strings: &mut [u64],
     paths: &mut [u64],
 ) -> Answer<Layout> {
-    let b = unsafe {
-        falgnust_parse_string_table_debug_and_ownership(
-            base_offset,
-            code.as_ptr(),
-            code.len(),
-            header_rev,
-            symbols,
-            strings.as_mut_ptr(),
-            strings.len(),
-            paths.as_mut_ptr(),
-            paths.len(),
-        )
-    };
+    let lent = BlockTables { strings, paths };
+    let b =
+        calls::parse_string_table_debug_and_ownership(base_offset, code, header_rev, symbols, lent);
     if !b.accepted {
-        return Err(b.refusal.into());
+        return Err(refusal::answer(b.refusal));
     }
     Ok(Layout {
         strings: b.string_count,
@@ -121,13 +37,14 @@ pub fn parse_string_table_debug_and_ownership(
 }
 
 /// The symbol at a place, and the place after it.
+#[inline]
 pub fn read_debug_symbol(code: &[u8], at: usize) -> Answer<(Symbol, usize)> {
-    symbol(unsafe { falgnust_read_debug_symbol(code.as_ptr(), code.len(), at) })
+    symbol(calls::read_debug_symbol(code, at))
 }
 
-pub(crate) fn symbol(s: FlatSymbol) -> Answer<(Symbol, usize)> {
+pub(crate) fn symbol(s: raw::Symbol) -> Answer<(Symbol, usize)> {
     if !s.accepted {
-        return Err(s.refusal.into());
+        return Err(refusal::answer(s.refusal));
     }
     let symbol = Symbol {
         pc: s.pc,
@@ -147,13 +64,14 @@ pub struct Head {
     pub next: usize,
 }
 
+#[inline]
 pub fn read_path(code: &[u8], at: usize, header_rev: u16) -> Answer<Head> {
-    path(unsafe { falgnust_read_path(code.as_ptr(), code.len(), at, header_rev) })
+    path(calls::read_path(code, at, header_rev))
 }
 
-pub(crate) fn path(p: FlatPath) -> Answer<Head> {
+pub(crate) fn path(p: raw::Path) -> Answer<Head> {
     if !p.accepted {
-        return Err(p.refusal.into());
+        return Err(refusal::answer(p.refusal));
     }
     let site = p.event.site;
     let event = match p.event.event {
@@ -175,20 +93,21 @@ pub(crate) fn path(p: FlatPath) -> Answer<Head> {
 }
 
 /// The component at a place of a path with this event kind, and the place after it.
+#[inline]
 pub fn read_component(
     code: &[u8],
     at: usize,
     header_rev: u16,
     kind: u8,
 ) -> Answer<(Component, usize)> {
-    component(unsafe { falgnust_read_component(code.as_ptr(), code.len(), at, header_rev, kind) })
+    component(calls::read_component(code, at, header_rev, kind))
 }
 
-pub(crate) fn component(c: FlatComponent) -> Answer<(Component, usize)> {
+pub(crate) fn component(c: raw::Component) -> Answer<(Component, usize)> {
     if !c.accepted {
-        return Err(c.refusal.into());
+        return Err(refusal::answer(c.refusal));
     }
-    let Parts {
+    let raw::Parts {
         kind,
         first,
         second,

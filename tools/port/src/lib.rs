@@ -1,5 +1,4 @@
-//! The proved decoders, called through the C functions of the crate `exports`. Nothing checks these declarations against the Rattle
-//! source, so each module keeps to the functions and structs of the file of the same name there.
+//! The proved decoders, called by bindings/rust's `calls` with tables that the caller lends, and their answers in document 01's terms.
 
 pub mod block;
 pub mod field;

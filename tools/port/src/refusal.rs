@@ -1,21 +1,13 @@
-//! crates/exports/src/refusal.rt
+//! Refusals.
 
-use answers::refusal::Kind;
+use answers::refusal::{Kind, Refusal};
+use falgnust::raw;
 
-#[repr(C)]
-#[derive(Clone, Copy)]
-pub struct Refusal {
-    kind: u8,
-    number: u8,
-    offset: usize,
-}
-
-impl From<Refusal> for answers::refusal::Refusal {
-    fn from(r: Refusal) -> Self {
-        answers::refusal::Refusal {
-            kind: Kind::ALL[r.kind as usize],
-            number: r.number,
-            offset: r.offset,
-        }
+#[inline]
+pub fn answer(r: raw::Refusal) -> Refusal {
+    Refusal {
+        kind: Kind::ALL[r.kind as usize],
+        number: r.number,
+        offset: r.offset,
     }
 }

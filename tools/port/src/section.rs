@@ -1,40 +1,12 @@
-//! crates/exports/src/section.rt
+//! Sections.
 
-use crate::refusal::Refusal;
+use crate::refusal;
 use answers::Answer;
 use answers::section::Head;
-
-#[repr(C)]
-struct FlatSection {
-    accepted: bool,
-    refusal: Refusal,
-    source_set: [u8; 32],
-    compiler_contract: [u8; 32],
-    epoch: u16,
-    policy_at: usize,
-    issuer_at: usize,
-    propositions: usize,
-    proofs: usize,
-    witnesses: usize,
-    parents: usize,
-    cursor: usize,
-}
-
-unsafe extern "C" {
-    fn falgnust_decode_evr0_section(
-        bytes: *const u8,
-        bytes_len: usize,
-        cursor: usize,
-        propositions: *mut u64,
-        propositions_len: usize,
-        proofs: *mut u64,
-        proofs_len: usize,
-        depths: *mut u64,
-        depths_len: usize,
-    ) -> FlatSection;
-}
+use falgnust::calls::{self, SectionTables};
 
 /// The answer, and the cursor after the call. Starts and depths go to the lent tables.
+#[inline]
 pub fn decode_evr0_section(
     bytes: &[u8],
     cursor: usize,
@@ -42,21 +14,14 @@ pub fn decode_evr0_section(
     proofs: &mut [u64],
     depths: &mut [u64],
 ) -> (Answer<Head>, usize) {
-    let s = unsafe {
-        falgnust_decode_evr0_section(
-            bytes.as_ptr(),
-            bytes.len(),
-            cursor,
-            propositions.as_mut_ptr(),
-            propositions.len(),
-            proofs.as_mut_ptr(),
-            proofs.len(),
-            depths.as_mut_ptr(),
-            depths.len(),
-        )
+    let lent = SectionTables {
+        propositions,
+        proofs,
+        depths,
     };
+    let s = calls::decode_evr0_section(bytes, cursor, lent);
     if !s.accepted {
-        return (Err(s.refusal.into()), s.cursor);
+        return (Err(refusal::answer(s.refusal)), s.cursor);
     }
     let head = Head {
         source_set: s.source_set,

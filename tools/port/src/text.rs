@@ -1,27 +1,14 @@
-//! crates/exports/src/text.rt
+//! Texts.
 
-use crate::refusal::Refusal;
+use crate::refusal;
 use answers::Answer;
 use answers::text::Span;
-
-#[repr(C)]
-pub(crate) struct Text {
-    accepted: bool,
-    refusal: Refusal,
-    start: usize,
-    len: usize,
-    chars: usize,
-    next: usize,
-}
-
-unsafe extern "C" {
-    fn falgnust_read_text(bytes: *const u8, len: usize, at: usize) -> Text;
-    fn falgnust_read_string(bytes: *const u8, len: usize, at: usize) -> Text;
-}
+use falgnust::calls;
+use falgnust::raw::Text;
 
 pub(crate) fn answer(t: Text) -> Answer<Span> {
     if !t.accepted {
-        return Err(t.refusal.into());
+        return Err(refusal::answer(t.refusal));
     }
     Ok(Span {
         start: t.start,
@@ -31,10 +18,12 @@ pub(crate) fn answer(t: Text) -> Answer<Span> {
     })
 }
 
+#[inline]
 pub fn read_text(bytes: &[u8], at: usize) -> Answer<Span> {
-    answer(unsafe { falgnust_read_text(bytes.as_ptr(), bytes.len(), at) })
+    answer(calls::read_text(bytes, at))
 }
 
+#[inline]
 pub fn read_string(bytes: &[u8], at: usize) -> Answer<Span> {
-    answer(unsafe { falgnust_read_string(bytes.as_ptr(), bytes.len(), at) })
+    answer(calls::read_string(bytes, at))
 }

@@ -5,11 +5,12 @@ use Prim.Native.Nat.{_<_}
 use mathlib.Core.Path.{_≡_, refl, _∙_}
 use lib.ListN.{length, getD}
 use Rattle.local_format.specs.Out.{Out, ok}
+use Rattle.local_format.specs.Number.{numbered}
 use Rattle.local_format.proofs.OutLaws.{told}
 use Rattle.semcode_records.specs.Path.{headAt}
 use Rattle.semcode_decode.specs.Block.{Block}
 use Rattle.semcode_decode.specs.Layout.{layout}
-use Rattle.semcode_decode.specs.Number.{decodeAnew, numbered, pathNumber, headIn}
+use Rattle.semcode_decode.specs.Number.{decodeAnew, pathNumber, headIn}
 use Rattle.semcode_decode.specs.Maps.{layoutIs, parseOut}
 use Rattle.semcode_read.specs.After.{Lent}
 use Rattle.semcode_read.proofs.NumberLaws.{tables-cleared}
@@ -18,29 +19,29 @@ use Rattle.semcode_read.proofs.path_number.Statement.{statement}
 use Rattle.semcode_read.proofs.path_number.Tie as tie
 
 -- the call of the decoder, and the block that it speaks of
-abbrev parsed : tie.After-answer → tie.After-parse-string-table-debug-and-ownership
+abbrev parsed : tie.After-answer → tie.After-parse-block
 parsed k = k .before .before .before .before .before .before
 
-abbrev block : tie.After-parse-string-table-debug-and-ownership → Out Block
+abbrev block : tie.After-parse-block → Out Block
 block pt =
     let a = pt .before .before .before .before .before .before .args in
     decodeAnew (a .base-offset) (a .header-rev) (a .strings .now) (a .paths .now) (a .code .now)
 
 accepted : (k : tie.After-answer) → layout (block (parsed k)) ≡ ok (layoutIs (k .answer .given .0 .0))
-accepted k = told parseOut (parsed k .parse-string-table-debug-and-ownership .ensures .0) (k .answer .given .1)
+accepted k = told parseOut (parsed k .parse-block .ensures .0) (k .answer .given .1)
 
 -- the number is in the table
 found : (i : tie.Then1)
     → let pt = parsed (i .before .before .before) in
     let a = pt .before .before .before .before .before .before .args in
-    let last = pt .parse-string-table-debug-and-ownership .last in
+    let last = pt .parse-block .last in
     (a .number < length (last .1 .1 .1 .1 .1 .0))
     × (headAt (a .header-rev) (a .code .now) (getD (last .1 .1 .1 .1 .1 .0) (a .number) 0) ≡ headIn (pathNumber (a .number) (block pt)))
     × Lent (pathNumber (a .number) (block pt)) (a .strings .now) (a .paths .now) (last .1 .1 .1 .1 .0) (last .1 .1 .1 .1 .1 .0)
 found i =
     let k = i .before .before .before in
     let a = parsed k .before .before .before .before .before .before .args in
-    let p = parsed k .parse-string-table-debug-and-ownership in
+    let p = parsed k .parse-block in
     path-anew (a .base-offset) (a .header-rev) (a .strings .now) (a .paths .now) (a .code .now) (p .last .1 .1 .1 .1 .0) (p .last .1 .1 .1 .1 .1 .0)
     (p .ensures .1 .0)
     (p .ensures .1 .1)
@@ -54,7 +55,7 @@ returns c =
     let k = c .before in
     let pt = k .before .before .before .before .before .before in
     let a = pt .before .before .before .before .before .before .args in
-    let p = pt .parse-string-table-debug-and-ownership in
+    let p = pt .parse-block in
     let b =
     refused-anew (a .base-offset) (a .header-rev) (a .strings .now) (a .paths .now) (a .code .now) (p .last .1 .1 .1 .1 .0) (p .last .1 .1 .1 .1 .1 .0)
     (p .ensures .1 .0)
@@ -65,7 +66,7 @@ returns c =
     (rw (b .0, c .parse-refusal .ensures, k .enum-told .given .1), b .1)
 
 mul-read-path : tie.Need-mul-read-path
-mul-read-path c = record { fits = omega (arith, found c .0, parsed (c .before .before .before) .parse-string-table-debug-and-ownership .kept .1 .1 .1 .1 .1 .0) }
+mul-read-path c = record { fits = omega (arith, found c .0, parsed (c .before .before .before) .parse-block .kept .1 .1 .1 .1 .1 .0) }
 
 slice-read-read-path : tie.Need-slice-read-read-path
 slice-read-read-path c = found (c .before) .0
@@ -82,7 +83,7 @@ returns-3 c =
     let i = n .before .before .before in
     let k = i .before .before .before in
     let a = parsed k .before .before .before .before .before .before .args in
-    let p = parsed k .parse-string-table-debug-and-ownership in
+    let p = parsed k .parse-block in
     let e =
     missing-anew (a .base-offset) (a .header-rev) (a .strings .now) (a .paths .now) (a .code .now) (λ b. b .ownership .table .entries) (λ l. l .paths) (λ b. refl)
     (accepted k)

@@ -5,11 +5,12 @@ use Prim.Native.Nat.{_+_, _*_, _≤_}
 use mathlib.Core.Path.{_≡_, refl, _∙_}
 use lib.ListN.{length}
 use Rattle.local_format.specs.Out.{Out, ok}
+use Rattle.local_format.specs.Number.{numbered}
 use Rattle.local_format.proofs.OutLaws.{told}
 use Rattle.semcode_records.specs.Symbol.{symbolAt}
 use Rattle.semcode_decode.specs.Block.{Block}
 use Rattle.semcode_decode.specs.Layout.{layout}
-use Rattle.semcode_decode.specs.Number.{decodeAnew, numbered, symbolNumber, takenIn}
+use Rattle.semcode_decode.specs.Number.{decodeAnew, symbolNumber, takenIn}
 use Rattle.semcode_decode.specs.Maps.{layoutIs, parseOut}
 use Rattle.semcode_read.specs.After.{Lent}
 use Rattle.semcode_read.proofs.NumberLaws.{tables-cleared}
@@ -18,22 +19,22 @@ use Rattle.semcode_read.proofs.symbol_number.Statement.{statement}
 use Rattle.semcode_read.proofs.symbol_number.Tie as tie
 
 -- the call of the decoder, and the block that it speaks of
-abbrev parsed : tie.After-answer → tie.After-parse-string-table-debug-and-ownership
+abbrev parsed : tie.After-answer → tie.After-parse-block
 parsed k = k .before .before .before .before .before .before
 
-abbrev block : tie.After-parse-string-table-debug-and-ownership → Out Block
+abbrev block : tie.After-parse-block → Out Block
 block pt =
     let a = pt .before .before .before .before .before .before .args in
     decodeAnew (a .base-offset) (a .header-rev) (a .strings .now) (a .paths .now) (a .code .now)
 
 accepted : (k : tie.After-answer) → layout (block (parsed k)) ≡ ok (layoutIs (k .answer .given .0 .0))
-accepted k = told parseOut (parsed k .parse-string-table-debug-and-ownership .ensures .0) (k .answer .given .1)
+accepted k = told parseOut (parsed k .parse-block .ensures .0) (k .answer .given .1)
 
 -- the number is in the table
 found : (i : tie.Then1)
     → let pt = parsed (i .before .before .before) in
     let a = pt .before .before .before .before .before .before .args in
-    let last = pt .parse-string-table-debug-and-ownership .last in
+    let last = pt .parse-block .last in
     let start = i .before .before .before .answer .given .0 .0 .«debug_symbols_start» in
     (start + 10 * a .number + 10 ≤ length (a .code .now))
     × (symbolAt (a .code .now) (start + 10 * a .number) ≡ takenIn (symbolNumber (a .number) (block pt)))
@@ -41,7 +42,7 @@ found : (i : tie.Then1)
 found i =
     let k = i .before .before .before in
     let a = parsed k .before .before .before .before .before .before .args in
-    let p = parsed k .parse-string-table-debug-and-ownership in
+    let p = parsed k .parse-block in
     symbol-anew (a .base-offset) (a .header-rev) (a .strings .now) (a .paths .now) (a .code .now) (p .last .1 .1 .1 .1 .0) (p .last .1 .1 .1 .1 .1 .0)
     (p .ensures .1 .0)
     (p .ensures .1 .1)
@@ -55,7 +56,7 @@ returns c =
     let k = c .before in
     let pt = k .before .before .before .before .before .before in
     let a = pt .before .before .before .before .before .before .args in
-    let p = pt .parse-string-table-debug-and-ownership in
+    let p = pt .parse-block in
     let b =
     refused-anew (a .base-offset) (a .header-rev) (a .strings .now) (a .paths .now) (a .code .now) (p .last .1 .1 .1 .1 .0) (p .last .1 .1 .1 .1 .1 .0)
     (p .ensures .1 .0)
@@ -83,7 +84,7 @@ returns-3 c =
     let i = n .before .before .before in
     let k = i .before .before .before in
     let a = parsed k .before .before .before .before .before .before .args in
-    let p = parsed k .parse-string-table-debug-and-ownership in
+    let p = parsed k .parse-block in
     let e =
     missing-anew (a .base-offset) (a .header-rev) (a .strings .now) (a .paths .now) (a .code .now) (λ b. b .debug .table .entries) (λ l. l .symbols) (λ b. refl)
     (accepted k)

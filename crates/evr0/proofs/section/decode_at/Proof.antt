@@ -12,7 +12,8 @@ use Rattle.evr0_section.specs.Head.{Counts}
 use Rattle.evr0_section.specs.Section.{Section}
 use Rattle.evr0.specs.Answer.{roomOf, answerOf, propositionStarts, proofStarts, proofDepths}
 use Rattle.evr0.specs.AnswerMaps.{outcomeOut}
-use Rattle.evr0.proofs.DecodeLaws.{same-part, refusal-within, moved-refused, Given, moved-accepted, front-lent}
+use Rattle.lent_table.proofs.Laws.{front-lent}
+use Rattle.evr0.proofs.DecodeLaws.{same-part, refusal-within, moved-refused, Given, moved-accepted}
 use Rattle.evr0.proofs.section.decode_at.Statement.{statement}
 use Rattle.evr0.proofs.section.decode_at.Tie as tie
 

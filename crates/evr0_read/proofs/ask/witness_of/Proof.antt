@@ -1,6 +1,6 @@
 -- Meets its contract: what the decoder refused, or the witness with the number.
 use borrow.Author.Needs.{needs}
-use Prim.Native.Nat.{ℕ, _+_, _-_, _*_}
+use Prim.Native.Nat.{ℕ}
 use mathlib.Core.Path.{ap, _∙_}
 use mathlib.Core.List.{List}
 use lib.ListN.{length}
@@ -9,9 +9,10 @@ use Rattle.evr0_section.specs.Witness.{witnessOf}
 use Rattle.evr0.specs.AnswerMaps.{outcomeOut}
 use Rattle.evr0_read.specs.Ask.{witnessNumber}
 use Rattle.evr0_read.specs.Entry.{entryAt, placedWitness}
+use Rattle.evr0_read.specs.Place.{witnessPlace}
 use Rattle.evr0_read.specs.Maps.{witnessBeside}
 use Rattle.evr0_read.proofs.AskLaws.{refusal-is, starts-after, ends-within, not-decoded}
-use Rattle.evr0_read.proofs.NumberLaws.{witness-asked, few-witnesses, few-parents}
+use Rattle.evr0_read.proofs.NumberLaws.{witness-asked}
 use Rattle.evr0_read.proofs.ask.witness_of.Statement.{statement}
 use Rattle.evr0_read.proofs.ask.witness_of.Tie as tie
 
@@ -28,9 +29,9 @@ returns-2 c x h =
     let is = ap outcomeOut (o .outcome2 .given .1) in
     let k = o .before .before .before .args .number .0 in
     let n = o .outcome2 .given .0 .0 .counts in
-    c .witness-in .ensures (few-witnesses _ _ h is) (few-parents _ _ h is)
+    c .witness-in .ensures
     ∙ ap witnessBeside
-    (ap (λ (q : List ℕ). entryAt (witnessOf 4) placedWitness q (n .witnesses) (length q - (84 * (n .witnesses - k) + 4 * n .parents)) k)
+    (ap (λ (q : List ℕ). entryAt (witnessOf 4) placedWitness q (n .witnesses) (witnessPlace (length q) (n .witnesses) (n .parents) k) k)
     (p .payload-of .ensures (starts-after _ _ h is) (ends-within _ _ h is))
     ∙ witness-asked _ _ h is k)
 

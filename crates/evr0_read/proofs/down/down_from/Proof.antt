@@ -1,8 +1,7 @@
 -- Meets its contract. The invariant: in an accepted section the way down has reached the proof `number` with the moves made.
 use borrow.Author.Needs.{needs}
-use Prim.Native.Nat.{ℕ, _-_, _*_, _≤_, _<_}
+use Prim.Native.Nat.{_-_, _*_, _≤_, _<_}
 use mathlib.Core.Path.{_≡_, ap, ap₂, _∙_}
-use mathlib.Core.List.{List}
 use native.Mathlib.Omega.{arith}
 use lib.ListN.{length, drop}
 use Rattle.local_format.specs.Field.{fieldAt}
@@ -58,7 +57,7 @@ module _ (c : tie.After-read-u32-le Inv-loop μ-loop) where
   at-loop = record-read .before .before .before .before
 
   celled : u32Out (c .read-u32-le .result) ≡ fieldAt 4 (drop (at-loop .before .before .before .before .args .cells) (at-loop .before .before .before .before .args .payload .now)) (4 * record-read .read .given .0 .0 .«parent_first»)
-  celled = c .read-u32-le .ensures ∙ ap₂ (λ (s : List ℕ) (n : ℕ). fieldAt 4 s (4 * n)) (at-loop .before .tail .ensures) (c .before .wide2 .ensures)
+  celled = c .read-u32-le .ensures ∙ ap₂ (fieldAt 4) (at-loop .before .tail .ensures) (c .before .first-cell .ensures)
 
 returns-4 : tie.Need-returns-4 Inv-loop μ-loop
 returns-4 c d h e l =
@@ -106,7 +105,6 @@ down-from-spec =
     returns-2
     returns-3
     (λ c κs. search needs)
-    (λ c. search needs)
     (λ c κs. search needs)
     (λ c. search needs)
     (λ c. search needs)

@@ -9,7 +9,6 @@ use Rattle.evr0.specs.AnswerMaps.{acceptedOut, outcomeOut, answerOut}
 use Rattle.evr0_read.specs.Ask.{wayDownFrom}
 use Rattle.evr0_read.specs.Asked.{Decoded}
 use Rattle.evr0_read.proofs.AskLaws.{refusal-is, payload, starts-after, ends-within, not-decoded}
-use Rattle.evr0_read.proofs.NumberLaws.{few-parents}
 use Rattle.evr0_read.proofs.AnswerLaws.{wayFrom, cells-at, held, way-asked, way-not-there}
 use Rattle.evr0_read.proofs.down.way_down_of.Statement.{statement}
 use Rattle.evr0_read.proofs.down.way_down_of.Tie as tie
@@ -46,7 +45,7 @@ returns-3 c x n h e =
     let i = is (f .before) h in
     let q = part (f .before) h in
     ap ok
-    (c .down-from .ensures _ (held _ _ h i n e q (f .front .ensures)) (cells-at _ _ h i q (m .parents-at .ensures (few-parents _ _ h i)))
+    (c .down-from .ensures _ (held _ _ h i n e q (f .front .ensures)) (cells-at _ _ h i q (m .before-parents .ensures))
     (omega (arith, m .before .if1 .left, m .before .before .place .ensures)))
     ∙ way-asked _ _ h i n e _ _ (omega (arith, m .before .if1 .left, m .before .before .place .ensures, ap length (f .front .ensures)))
 

@@ -2,14 +2,15 @@
 use borrow.Author.Needs.{needs}
 use mathlib.Core.Path.{sym, ap, _∙_}
 use Rattle.local_format.specs.Maps.{u16Out}
+use Rattle.exports.specs.Maps.{flatField}
 use Rattle.exports.proofs.field.falgnust_read_u16_le.Statement.{statement}
 use Rattle.exports.proofs.field.falgnust_read_u16_le.Tie as tie
 
 returns : tie.Need-returns
-returns c = sym (ap u16Out (c .enum-told .given .1)) ∙ c .before .before .read-u16-le .ensures
+returns c = ap flatField (sym (ap u16Out (c .enum-told .given .1)) ∙ c .before .before .read-u16-le .ensures)
 
 returns-2 : tie.Need-returns-2
-returns-2 c = sym (ap u16Out (c .before .value .given .1)) ∙ c .before .before .before .read-u16-le .ensures
+returns-2 c = ap flatField (sym (ap u16Out (c .before .value .given .1)) ∙ c .before .before .before .read-u16-le .ensures)
 
 pub falgnust-read-u16-le-spec : {M : Type 1} → statement M
 falgnust-read-u16-le-spec =

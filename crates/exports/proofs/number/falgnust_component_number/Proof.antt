@@ -1,13 +1,14 @@
 -- The flat struct holds what `component_number` answers, and the tables are as it left them.
 use borrow.Author.Needs.{needs}
-use mathlib.Core.Path.{_∙_}
+use mathlib.Core.Path.{ap, _∙_}
+use Rattle.exports.specs.BlockMaps.{flatComponent}
 use Rattle.exports.proofs.number.falgnust_component_number.Statement.{statement}
 use Rattle.exports.proofs.number.falgnust_component_number.Tie as tie
 
 returns : tie.Need-returns
 returns c =
     let read = c .before .before .before .before .before .component-number .ensures in
-    (c .flat-component .ensures ∙ read .0, read .1)
+    (c .flat-component .ensures ∙ ap flatComponent (read .0), read .1)
 
 pub falgnust-component-number-spec : {M : Type 1} → statement M
 falgnust-component-number-spec =

@@ -1,13 +1,14 @@
 -- The flat struct holds what `string_number` answers, and the tables are as it left them.
 use borrow.Author.Needs.{needs}
-use mathlib.Core.Path.{_∙_}
+use mathlib.Core.Path.{ap, _∙_}
+use Rattle.exports.specs.Maps.{flatText}
 use Rattle.exports.proofs.number.falgnust_string_number.Statement.{statement}
 use Rattle.exports.proofs.number.falgnust_string_number.Tie as tie
 
 returns : tie.Need-returns
 returns c =
     let read = c .before .before .before .before .before .string-number .ensures in
-    (c .flat-text .ensures ∙ read .0, read .1)
+    (c .flat-text .ensures ∙ ap flatText (read .0), read .1)
 
 pub falgnust-string-number-spec : {M : Type 1} → statement M
 falgnust-string-number-spec =

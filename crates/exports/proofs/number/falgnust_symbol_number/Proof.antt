@@ -1,13 +1,14 @@
 -- The flat struct holds what `symbol_number` answers, and the tables are as it left them.
 use borrow.Author.Needs.{needs}
-use mathlib.Core.Path.{_∙_}
+use mathlib.Core.Path.{ap, _∙_}
+use Rattle.exports.specs.BlockMaps.{flatSymbol}
 use Rattle.exports.proofs.number.falgnust_symbol_number.Statement.{statement}
 use Rattle.exports.proofs.number.falgnust_symbol_number.Tie as tie
 
 returns : tie.Need-returns
 returns c =
     let read = c .before .before .before .before .before .symbol-number .ensures in
-    (c .flat-symbol .ensures ∙ read .0, read .1)
+    (c .flat-symbol .ensures ∙ ap flatSymbol (read .0), read .1)
 
 pub falgnust-symbol-number-spec : {M : Type 1} → statement M
 falgnust-symbol-number-spec =

@@ -1,11 +1,12 @@
 -- The flat struct holds what `read_debug_symbol` answers.
 use borrow.Author.Needs.{needs}
-use mathlib.Core.Path.{_∙_}
+use mathlib.Core.Path.{ap, _∙_}
+use Rattle.exports.specs.BlockMaps.{flatSymbol}
 use Rattle.exports.proofs.record.falgnust_read_debug_symbol.Statement.{statement}
 use Rattle.exports.proofs.record.falgnust_read_debug_symbol.Tie as tie
 
 returns : tie.Need-returns
-returns c = c .flat-symbol .ensures ∙ c .before .read-debug-symbol .ensures
+returns c = c .flat-symbol .ensures ∙ ap flatSymbol (c .before .read-debug-symbol .ensures)
 
 pub falgnust-read-debug-symbol-spec : {M : Type 1} → statement M
 falgnust-read-debug-symbol-spec =

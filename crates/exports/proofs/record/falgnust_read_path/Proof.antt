@@ -1,11 +1,12 @@
 -- The flat struct holds what `read_path` answers.
 use borrow.Author.Needs.{needs}
-use mathlib.Core.Path.{_∙_}
+use mathlib.Core.Path.{ap, _∙_}
+use Rattle.exports.specs.BlockMaps.{flatPath}
 use Rattle.exports.proofs.record.falgnust_read_path.Statement.{statement}
 use Rattle.exports.proofs.record.falgnust_read_path.Tie as tie
 
 returns : tie.Need-returns
-returns c = c .flat-path .ensures ∙ c .before .read-path .ensures
+returns c = c .flat-path .ensures ∙ ap flatPath (c .before .read-path .ensures)
 
 pub falgnust-read-path-spec : {M : Type 1} → statement M
 falgnust-read-path-spec =

@@ -7,14 +7,17 @@ use Rattle.semcode_records.specs.declared.path.DecodedBorrowActivation.{Decoded
 use Rattle.semcode_records.specs.declared.path.DecodedWriteExecution.{DecodedWriteExecution}
 use Rattle.semcode_records.specs.declared.path.DecodedEvent.{DecodedEvent}
 use Rattle.semcode_records.specs.declared.path.DecodedEvent.the-variants.{Borrow, Write}
+use Rattle.exports.specs.BlockMaps.{flatEvent}
 use Rattle.exports.proofs.record.flat_event.Statement.{statement}
 use Rattle.exports.proofs.record.flat_event.Tie as tie
 
-borrowIs : {e : DecodedEvent} {a b : DecodedBorrowActivation} → e ≡ Borrow a → a ≡ b → path.borrow (activationIs b) ≡ eventIs e
-borrowIs told of = sym (ap eventIs told ∙ ap (λ (a : DecodedBorrowActivation). path.borrow (activationIs a)) of)
+borrowIs : {e : DecodedEvent} {a b : DecodedBorrowActivation} → e ≡ Borrow a → a ≡ b → flatEvent (path.borrow (activationIs b)) ≡ flatEvent (eventIs e)
+borrowIs told of =
+    ap flatEvent (sym (ap eventIs told ∙ ap (λ (a : DecodedBorrowActivation). path.borrow (activationIs a)) of))
 
-writeIs : {e : DecodedEvent} {a b : DecodedWriteExecution} → e ≡ Write a → a ≡ b → path.write (executionIs b) ≡ eventIs e
-writeIs told of = sym (ap eventIs told ∙ ap (λ (a : DecodedWriteExecution). path.write (executionIs a)) of)
+writeIs : {e : DecodedEvent} {a b : DecodedWriteExecution} → e ≡ Write a → a ≡ b → flatEvent (path.write (executionIs b)) ≡ flatEvent (eventIs e)
+writeIs told of =
+    ap flatEvent (sym (ap eventIs told ∙ ap (λ (a : DecodedWriteExecution). path.write (executionIs a)) of))
 
 returns : tie.Need-returns
 returns c = borrowIs (c .before .before .before .event .given .1) (c .enum-told .given .1)

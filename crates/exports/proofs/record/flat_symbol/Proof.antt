@@ -1,17 +1,14 @@
 -- Either variant is told by its own fields.
 use borrow.Author.Needs.{needs}
-use mathlib.Core.Path.{sym, ap, _∙_}
-use Rattle.local_format.specs.Out.{refused}
-use Rattle.semcode_records.specs.Maps.{symbolOut}
+use mathlib.Core.Path.{refl}
 use Rattle.exports.proofs.record.flat_symbol.Statement.{statement}
 use Rattle.exports.proofs.record.flat_symbol.Tie as tie
 
 returns : tie.Need-returns
-returns c =
-    sym (ap symbolOut (c .before .before .read .given .1))
+returns c = rw (c .no-refusal .ensures, c .before .before .read .given .1) refl
 
 returns-2 : tie.Need-returns-2
-returns-2 c = ap refused (c .flat-refusal .ensures) ∙ sym (ap symbolOut (c .before .before .read2 .given .1))
+returns-2 c = rw (c .flat-refusal .ensures, c .before .before .read2 .given .1) refl
 
 pub flat-symbol-spec : {M : Type 1} → statement M
 flat-symbol-spec =

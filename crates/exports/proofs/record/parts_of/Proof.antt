@@ -1,21 +1,20 @@
 -- Each variant is told by its own fields.
 use borrow.Author.Needs.{needs}
-use mathlib.Core.Path.{sym, ap}
-use Rattle.semcode_records.specs.Maps.{componentIs}
+use mathlib.Core.Path.{refl}
 use Rattle.exports.proofs.record.parts_of.Statement.{statement}
 use Rattle.exports.proofs.record.parts_of.Tie as tie
 
 returns : tie.Need-returns
-returns c = sym (ap componentIs (c .before .component .given .1))
+returns c = rw (c .before .component .given .1) refl
 
 returns-2 : tie.Need-returns-2
-returns-2 c = sym (ap componentIs (c .before .component2 .given .1))
+returns-2 c = rw (c .before .component2 .given .1) refl
 
 returns-3 : tie.Need-returns-3
-returns-3 c = sym (ap componentIs (c .before .component3 .given .1))
+returns-3 c = rw (c .before .component3 .given .1) refl
 
 returns-4 : tie.Need-returns-4
-returns-4 c = sym (ap componentIs (c .before .component4 .given .1))
+returns-4 c = rw (c .before .component4 .given .1) refl
 
 pub parts-of-spec : {M : Type 1} → statement M
 parts-of-spec =

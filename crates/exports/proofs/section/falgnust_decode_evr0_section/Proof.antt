@@ -1,13 +1,14 @@
 -- The flat struct holds what the decoder answers, and the tables are as it left them.
 use borrow.Author.Needs.{needs}
-use mathlib.Core.Path.{_∙_}
+use mathlib.Core.Path.{ap, _∙_}
+use Rattle.exports.specs.SectionMaps.{flatSection}
 use Rattle.exports.proofs.section.falgnust_decode_evr0_section.Statement.{statement}
 use Rattle.exports.proofs.section.falgnust_decode_evr0_section.Tie as tie
 
 returns : tie.Need-returns
 returns c =
     let decoded = c .before .before .before .before .before .before .before .decode-evr0-section .ensures in
-    (c .flat-section .ensures ∙ decoded .0, (decoded .1 .0, (decoded .1 .1 .0, decoded .1 .1 .1 .0)))
+    (c .flat-section .ensures ∙ ap flatSection (decoded .0), (decoded .1 .0, (decoded .1 .1 .0, decoded .1 .1 .1 .0)))
 
 pub falgnust-decode-evr0-section-spec : {M : Type 1} → statement M
 falgnust-decode-evr0-section-spec =

@@ -1,16 +1,14 @@
 -- Either variant is told by its own fields.
 use borrow.Author.Needs.{needs}
-use mathlib.Core.Path.{sym, ap, _∙_}
-use Rattle.local_format.specs.Out.{refused}
-use Rattle.local_format.specs.Maps.{textOut}
+use mathlib.Core.Path.{refl}
 use Rattle.exports.proofs.text.flat_text.Statement.{statement}
 use Rattle.exports.proofs.text.flat_text.Tie as tie
 
 returns : tie.Need-returns
-returns c = sym (ap textOut (c .before .before .text .given .1))
+returns c = rw (c .no-refusal .ensures, c .before .before .text .given .1) refl
 
 returns-2 : tie.Need-returns-2
-returns-2 c = ap refused (c .flat-refusal .ensures) ∙ sym (ap textOut (c .before .before .text2 .given .1))
+returns-2 c = rw (c .flat-refusal .ensures, c .before .before .text2 .given .1) refl
 
 pub flat-text-spec : {M : Type 1} → statement M
 flat-text-spec =

@@ -3,23 +3,26 @@ use borrow.Author.Needs.{needs}
 use mathlib.Core.Path.{sym, ap, _∙_}
 use Rattle.local_format.specs.Scan.{text}
 use Rattle.local_format.specs.Maps.{scannedOut}
+use Rattle.exports.specs.Maps.{flatScan}
 use Rattle.exports.proofs.utf8.falgnust_scan.Statement.{statement}
 use Rattle.exports.proofs.utf8.falgnust_scan.Tie as tie
 
 returns : tie.Need-returns
 returns c =
-    ap (text (c .before .before .scanned .given .0 .0)) (sym (c .if1 .taken))
+    ap flatScan
+    (ap (text (c .before .before .scanned .given .0 .0)) (sym (c .if1 .taken))
     ∙ sym (ap scannedOut (c .before .before .scanned .given .1))
-    ∙ c .before .before .before .before .scan .ensures
+    ∙ c .before .before .before .before .scan .ensures)
 
 returns-2 : tie.Need-returns-2
 returns-2 c =
-    ap (text (c .before .before .scanned .given .0 .0)) (sym (c .if1 .left))
+    ap flatScan
+    (ap (text (c .before .before .scanned .given .0 .0)) (sym (c .if1 .left))
     ∙ sym (ap scannedOut (c .before .before .scanned .given .1))
-    ∙ c .before .before .before .before .scan .ensures
+    ∙ c .before .before .before .before .scan .ensures)
 
 returns-3 : tie.Need-returns-3
-returns-3 c = sym (ap scannedOut (c .enum-told .given .1)) ∙ c .before .before .scan .ensures
+returns-3 c = ap flatScan (sym (ap scannedOut (c .enum-told .given .1)) ∙ c .before .before .scan .ensures)
 
 pub falgnust-scan-spec : {M : Type 1} → statement M
 falgnust-scan-spec =

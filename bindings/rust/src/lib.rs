@@ -1,0 +1,38 @@
+//! Evidence sections and function tables of SemCode, decoded by functions that are proved to give the answers of their definitions.
+//!
+//! The modules [`evr0`] and [`semcode_decode`] take the places of those of the same names in skulmakov-oss/Semantic: the same
+//! functions, types, fields and messages, so that a caller changes a path and nothing else. Behind them stands the static library that
+//! `rt staticlib exports` writes; nothing here parses a byte.
+//!
+//! ```
+//! use falgnust::evr0::decode_evr0_section;
+//!
+//! let mut file = b"EVR0\x5c\x00\x00\x00".to_vec(); // a payload of 92 bytes
+//! file.extend([1, 0, 0, 0]); // schema, flags
+//! file.extend([0; 32 + 32 + 2]); // two digests, epoch
+//! file.extend(b"\x01\x00a\x01\x00b"); // policy, issuer
+//! file.extend([0; 4 * 4]); // no propositions, proofs, witnesses, parents
+//!
+//! let mut cursor = 0;
+//! let section = decode_evr0_section(&file, &mut cursor).unwrap();
+//! assert_eq!(section.policy_namespace, "a");
+//! assert_eq!(cursor, 100);
+//!
+//! file[8] = 2;
+//! let error = decode_evr0_section(&file, &mut 0).unwrap_err();
+//! assert_eq!(error.to_string(), "unsupported EVR0 schema at 10");
+//! assert_eq!(error.number(), Some(10));
+//! ```
+
+#![deny(unsafe_code, unsafe_op_in_unsafe_fn)]
+#![warn(missing_docs)]
+
+#[allow(unsafe_code)]
+pub mod calls;
+pub mod evr0;
+#[allow(unsafe_code)]
+pub mod raw;
+pub mod semcode_decode;
+
+mod messages;
+mod read;

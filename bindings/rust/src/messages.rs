@@ -1,0 +1,91 @@
+//! Document 01's numbers and the messages of skulmakov-oss/Semantic.
+
+/// Those of 31 and 36 go on with the count.
+const MESSAGES: [(u8, &str); 60] = [
+    (1, "missing mandatory EVR0 section"),
+    (2, "EVR0 length truncated"),
+    (3, "EVR0 payload exceeds bounded section budget or is empty"),
+    (4, "EVR0 payload truncated"),
+    (5, "EVR0 truncated field"),
+    (6, "EVR0 empty or overlong text field"),
+    (7, "EVR0 invalid UTF-8"),
+    (8, "EVR0 control character in text field"),
+    (9, "EVR0 nonzero reserved bytes"),
+    (10, "unsupported EVR0 schema"),
+    (11, "EVR0 flags must be zero"),
+    (12, "EVR0 table count exceeds limit"),
+    (13, "EVR0 count exceeds remaining payload"),
+    (14, "EVR0 allocation budget exceeded"),
+    (15, "EVR0 work budget exceeded"),
+    (16, "EVR0 proposition table not strictly ordered"),
+    (17, "EVR0 proof identity or order invalid"),
+    (18, "EVR0 witness or parent ranges are not contiguous"),
+    (19, "EVR0 proof range exceeds table"),
+    (20, "EVR0 unknown proof rule"),
+    (21, "EVR0 invalid proof rule shape"),
+    (22, "EVR0 witness or parent table not fully owned"),
+    (23, "EVR0 witness identity, polarity or source span invalid"),
+    (24, "EVR0 payload has trailing bytes"),
+    (25, "EVR0 invalid or noncanonical parent reference"),
+    (26, "EVR0 parent identity or authority mismatch"),
+    (27, "EVR0 derivation depth limit exceeded"),
+    (28, "EVR0 witness and proof proposition mismatch"),
+    (29, "EVR0 witness polarity contradicts rule"),
+    (30, "missing string table header"),
+    (31, "too many strings in function: "),
+    (32, "missing string length"),
+    (33, "string too long in function string table"),
+    (34, "invalid utf8 in string table"),
+    (35, "missing debug symbol count"),
+    (36, "too many debug symbols: "),
+    (37, "missing debug pc"),
+    (38, "missing debug line"),
+    (39, "missing debug col"),
+    (40, "missing ownership path count"),
+    (41, "missing ownership event kind"),
+    (42, "missing borrow activation mode"),
+    (43, "missing borrow executable anchor"),
+    (44, "unrecognized borrow activation mode"),
+    (45, "missing write execution mode"),
+    (46, "missing write executable anchor"),
+    (47, "unrecognized write execution mode"),
+    (48, "missing ownership path root"),
+    (49, "missing ownership path component count"),
+    (50, "missing ownership path component kind"),
+    (51, "missing ownership tuple index"),
+    (52, "missing ownership field symbol"),
+    (
+        53,
+        "Write(AdtPayload) is not an admitted ownership path under any header revision",
+    ),
+    (
+        54,
+        "Borrow(AdtPayload) requires a header at or above SEMCODE_ADT_BORROW_OWNERSHIP_MIN_REVISION",
+    ),
+    (55, "missing ownership adt payload variant"),
+    (56, "missing ownership adt payload index"),
+    (
+        57,
+        "SequenceIndexStatic requires a header at or above SEMCODE_SEQUENCE_OWNERSHIP_MIN_REVISION",
+    ),
+    (58, "missing ownership sequence index"),
+    (59, "unsupported ownership path component kind"),
+    (60, "unsupported ownership event kind"),
+];
+
+/// The message of a number; that of 31 and 36 up to the count.
+pub fn message(number: u8) -> &'static str {
+    MESSAGES
+        .iter()
+        .find(|(known, _)| *known == number)
+        .unwrap_or_else(|| panic!("no decoder refuses with {number} here"))
+        .1
+}
+
+/// The number of a message.
+pub fn number(message: &str) -> Option<u8> {
+    MESSAGES
+        .iter()
+        .find(|(_, text)| message == *text || text.ends_with(": ") && message.starts_with(text))
+        .map(|(number, _)| *number)
+}

@@ -1,0 +1,21 @@
+//! The C functions of crates/exports, as they are: each is proved there to give the answer of a definition. Nothing checks these
+//! declarations against the Rattle source, so they keep to its order and names.
+//!
+//! A slice is a pointer and a length. A pointer has to be valid for its length, and a table that is lent (`*mut`) may overlap neither
+//! another one nor the bytes. An answer is a flat struct: `accepted`, then a refusal that is all zeros where `accepted` holds, then values
+//! that are all zeros where it does not. After a refusal every lent table is zeros, whole; otherwise entries past a count are zeros.
+//!
+//! [`calls`](crate::calls) has the same functions on slices, without `unsafe`.
+
+mod block;
+mod record;
+mod section;
+mod text;
+
+pub use block::*;
+pub use record::*;
+pub use section::*;
+pub use text::*;
+
+/// A function that reads at a place of some bytes.
+pub type AtPlace<T> = unsafe extern "C" fn(bytes: *const u8, len: usize, at: usize) -> T;

@@ -1,0 +1,176 @@
+//! Function tables, in the place of the original's `semcode_decode`: the strings, DBG0 and OWN0 of a function's block, without its
+//! signature.
+//!
+//! Added beside the original: [`DecodeError::number`], [`DecodeError::offset`], `Display` and `Error` for [`DecodeError`], and the
+//! records by number: [`string_number`], [`symbol_number`], [`path_number`], [`component_number`].
+
+use crate::calls;
+use crate::raw;
+
+mod error;
+mod number;
+mod records;
+mod tables;
+
+pub use error::DecodeError;
+pub use number::*;
+use tables::{Starts, lend};
+
+/// The most bytes of a string.
+pub const MAX_STRING_LEN: usize = 1024;
+/// The most strings of a block.
+pub const MAX_STRINGS_PER_FUNCTION: usize = 256;
+/// The most debug symbols of a block.
+pub const MAX_DEBUG_SYMBOLS_PER_FUNCTION: usize = 8192;
+
+/// A debug symbol.
+#[derive(Debug, Clone, PartialEq, Eq)]
+pub struct DecodedDebugSymbol {
+    /// Its place in the instructions.
+    pub pc: usize,
+    /// Its line.
+    pub line: u32,
+    /// Its column.
+    pub col: u16,
+}
+
+/// One step of a path.
+#[derive(Debug, Clone, PartialEq, Eq)]
+pub enum DecodedAccessPathComponent {
+    /// Into a tuple.
+    TupleIndex(u16),
+    /// Into a field.
+    FieldSymbol(u32),
+    /// Into a variant.
+    AdtPayload {
+        /// The variant.
+        variant: u32,
+        /// Its part.
+        index: u16,
+    },
+    /// Into a sequence.
+    SequenceIndexStatic(u32),
+}
+
+/// When a borrow begins.
+#[derive(Debug, Clone, Copy, PartialEq, Eq)]
+pub enum DecodedBorrowActivation {
+    /// On entry.
+    FrameEntry,
+    /// At a store.
+    StoreVarSite(u32),
+}
+
+/// Where a write is done.
+#[derive(Debug, Clone, Copy, PartialEq, Eq)]
+pub enum DecodedWriteExecution {
+    /// At a store.
+    StoreVarSite(u32),
+    /// At the making of a record.
+    MakeRecordSite(u32),
+}
+
+/// A path that a function borrows or writes.
+#[derive(Debug, Clone, PartialEq, Eq)]
+pub struct DecodedAccessPath {
+    /// Its root.
+    pub root_symbol_id: u32,
+    /// Its components.
+    pub components: Vec<DecodedAccessPathComponent>,
+    /// Of a borrow from revision 21 on.
+    pub activation: Option<DecodedBorrowActivation>,
+    /// Of a write from revision 21 on.
+    pub write_execution: Option<DecodedWriteExecution>,
+}
+
+/// The tables of a block. Places are places in the block.
+#[derive(Debug, Clone, PartialEq, Eq)]
+pub struct StringTableDebugOwnershipParse {
+    /// The strings.
+    pub strings: Vec<String>,
+    /// The debug symbols.
+    pub debug_symbols: Vec<DecodedDebugSymbol>,
+    /// The paths that are borrowed, in the block's order.
+    pub borrowed_paths: Vec<DecodedAccessPath>,
+    /// The paths that are written, in the block's order.
+    pub write_paths: Vec<DecodedAccessPath>,
+    /// Whether OWN0 was found.
+    pub has_ownership_section: bool,
+    /// Whether DBG0 was found.
+    pub has_debug_section: bool,
+    /// The place after the strings.
+    pub string_table_end_offset: usize,
+    /// The place after OWN0's paths, or where they would be.
+    pub instr_start_offset: usize,
+}
+
+/// Decodes the tables of a function's block, which stands at `base_offset` in its file.
+///
+/// ```
+/// use falgnust::semcode_decode::{DecodeError, parse_string_table_debug_and_ownership};
+///
+/// let block = parse_string_table_debug_and_ownership(1000, b"\x01\x00\x02\x00hi\x07", 22).unwrap();
+/// assert_eq!(block.strings, ["hi"]);
+/// assert_eq!(block.instr_start_offset, 6);
+///
+/// let error = parse_string_table_debug_and_ownership(1000, b"\x01\x01", 22).unwrap_err();
+/// assert_eq!((error.number(), error.offset()), (Some(31), Some(1002)));
+/// assert_eq!(error.to_string(), "too many strings in function: 257 (max 256) at 1002");
+/// assert!(matches!(error, DecodeError::ResourceLimit { .. }));
+/// ```
+pub fn parse_string_table_debug_and_ownership(
+    base_offset: usize,
+    code: &[u8],
+    header_rev: u16,
+) -> Result<StringTableDebugOwnershipParse, DecodeError> {
+    let block = Block::new(base_offset, code, header_rev);
+    let decoded = block.decode();
+    if !decoded.answer.accepted {
+        return Err(block.error(decoded.answer.refusal));
+    }
+    Ok(block.records(&decoded))
+}
+
+/// What is decoded.
+struct Block<'a> {
+    base_offset: usize,
+    code: &'a [u8],
+    header_rev: u16,
+}
+
+impl<'a> Block<'a> {
+    fn new(base_offset: usize, code: &'a [u8], header_rev: u16) -> Self {
+        Block {
+            base_offset,
+            code,
+            header_rev,
+        }
+    }
+
+    fn decode(&self) -> Decoded {
+        lend(self.code, |rooms| {
+            let mut symbols = rooms.symbols();
+            let mut starts = rooms.starts();
+            let answer = calls::parse_string_table_debug_and_ownership(
+                self.base_offset,
+                self.code,
+                self.header_rev,
+                &mut symbols,
+                starts.lent(),
+            );
+            let decoded = Decoded {
+                answer,
+                symbols,
+                starts,
+            };
+            (decoded, answer.refusal)
+        })
+    }
+}
+
+/// The decoder's answer, and the tables after it.
+struct Decoded {
+    answer: raw::Block,
+    symbols: Vec<raw::DebugSymbol>,
+    starts: Starts,
+}

@@ -1,0 +1,44 @@
+-- Meets its contract: the witness is read at the place, its digests beside the answer.
+use borrow.Author.Needs.{needs}
+use Prim.Native.Nat.{ℕ}
+use mathlib.Core.Path.{_≡_, refl, ap, _∙_}
+use mathlib.Core.List.{List}
+use lib.ListN.{drop}
+use Rattle.local_format.proofs.OutLaws.{told}
+use Rattle.evr0_section.specs.Rows.{Sized}
+use Rattle.evr0_section.specs.Witness.{WitnessRecord, witnessOf}
+use Rattle.evr0_head.specs.Maps.{Beside}
+use Rattle.evr0_records.specs.Maps.{witnessIn, witnessOut}
+use Rattle.evr0_records.specs.Maps as records
+use Rattle.evr0_read.specs.Entry.{placedWitness}
+use Rattle.evr0_read.specs.Maps.{witnessBeside}
+use Rattle.evr0_read.proofs.EntryLaws.{record-refused, record-found, beside-answer, refused-beside}
+use Rattle.evr0_read.proofs.cell.witness_at.Statement.{statement}
+use Rattle.evr0_read.proofs.cell.witness_at.Tie as tie
+
+module _ (c : tie.After-read-witness) where
+  abbrev start : tie.Start
+  start = c .before .before .before
+
+  at-place : witnessOut (c .read-witness .result) ≡ records.witnessBeside (witnessOf 4 (drop (start .args .at) (start .args .payload .now)))
+  at-place = c .read-witness .ensures ∙ ap (λ (s : List ℕ). records.witnessBeside (witnessOf 4 s)) (c .before .tail .ensures)
+
+  answered : witnessIn (c .read-witness .result .«file_digest») (c .read-witness .result .«origin_digest») (c .read-witness .result .answer)
+      ≡ witnessOf 4 (drop (start .args .at) (start .args .payload .now))
+  answered = ap (λ (b : Beside (Sized WitnessRecord)). b .answer) at-place ∙ beside-answer _
+
+returns : tie.Need-returns
+returns c =
+    let q = c .before .before .before .before .before in
+    ap witnessBeside (record-found (witnessOf 4) placedWitness _ _ (told (witnessIn _ _) (answered q) (c .before .answer .given .1)) refl)
+
+returns-2 : tie.Need-returns-2
+returns-2 c =
+    let q = c .before .before .before .before .before in
+    let e = told (witnessIn (q .read-witness .result .«file_digest») (q .read-witness .result .«origin_digest»)) (answered q) (c .before .answer2 .given .1) in
+    refused-beside _ (at-place q) e ∙ ap witnessBeside (record-refused (witnessOf 4) placedWitness _ _ e)
+
+pub witness-at-spec : {M : Type 1} → statement M
+witness-at-spec =
+    tie.close
+    (tie.spec (λ c κs. search needs) (λ c κs. search needs) (λ c. search needs) (λ c. search needs) returns returns-2)

@@ -1,0 +1,83 @@
+-- Meets its contract: a refusal is moved by the base and both tables are cleared; else they are cleared past the counts.
+use mathlib.Core.Path.{ap, sym, _∙_}
+use Prim.Native.Nat.{ℕ}
+use mathlib.Core.List.{[]}
+use lib.ListN.{length}
+use Rattle.local_format.specs.Refusal.{Refusal}
+use Rattle.local_format.specs.Out.{Out, refused, atOffset, held}
+use Rattle.local_format.specs.Maps.{refusalOf}
+use Rattle.local_format.proofs.OutLaws.{told}
+use Rattle.lent_table.specs.Lent.{lent}
+use Rattle.semcode_decode.specs.declared.decode.Parse.{Parse}
+use Rattle.semcode_decode.specs.Block.{Block, blockOf}
+use Rattle.semcode_decode.specs.Layout.{stringStarts, pathStarts, roomsOf}
+use Rattle.semcode_decode.specs.Maps.{parseOut}
+use Rattle.semcode_decode.proofs.BlockLaws.{layout-refused}
+use Rattle.lent_table.proofs.Laws.{front-lent}
+use Rattle.semcode_decode.proofs.LentLaws.{accepted}
+use borrow.Author.Needs.{needs}
+use Rattle.semcode_decode.proofs.decode.parse_block.Statement.{
+  statement,
+}
+use Rattle.semcode_decode.proofs.decode.parse_block.Tie as tie
+
+-- the block with places in it
+abbrev block : tie.After-parse-tables → Out Block
+block pt =
+    let a = pt .before .before .before .before .before .before .args in
+    blockOf (a .header-rev) (roomsOf (a .strings .now) (a .symbols) (a .paths .now)) (a .code .now)
+
+returns : tie.Need-returns
+returns c =
+    let p = c .before in
+    let c2 = p .before .before .before in
+    let c1 = c2 .before .before .before .before in
+    let k = c1 .before .before in
+    let pt = k .before .before .before .before .before .before in
+    let a = pt .before .before .before .before .before .before .args in
+    let b = layout-refused (block pt) (told parseOut (pt .parse-tables .ensures .0) (k .enum-told .given .1)) in
+    let q = p .parse-refusal .ensures ∙ ap (λ (x : Parse). refusalOf (parseOut x)) (k .enum-told .given .1) in
+    rw b (
+      ap refused (c .based .ensures) ∙ ap (λ (r : Refusal). refused (atOffset r (held (a .base-offset) (r .offset)))) q,
+      (
+        c1 .clear .ensures ∙ ap (λ (n : ℕ). lent n []) (pt .parse-tables .kept .1 .1 .1 .0),
+        c2 .clear2 .ensures ∙ ap (λ (n : ℕ). lent n []) (pt .parse-tables .kept .1 .1 .1 .1 .0),
+      ),
+    )
+
+returns-2 : tie.Need-returns-2
+returns-2 c =
+    let f2 = c .before .before in
+    let f1 = f2 .before .before .before .before in
+    let k = f1 .before .before .before in
+    let pt = k .before .before .before .before .before .before in
+    let a = pt .before .before .before .before .before .before .args in
+    let w = accepted (a .base-offset) (block pt) (sym (ap parseOut (k .answer .given .1)) ∙ pt .parse-tables .ensures .0) in
+    let strings = front-lent (k .answer .given .0 .0 .«string_count») (length (a .strings .now)) (pt .parse-tables .last .1 .1 .1 .0) (stringStarts (block pt)) (pt .parse-tables .kept .1 .1 .1 .0) (w .3) (pt .parse-tables .ensures .1 .0) in
+    let paths = front-lent (k .answer .given .0 .0 .«path_count») (length (a .paths .now)) (pt .parse-tables .last .1 .1 .1 .1 .0) (pathStarts (block pt)) (pt .parse-tables .kept .1 .1 .1 .1 .0) (w .4) (pt .parse-tables .ensures .1 .1) in (
+      w .0,
+      (
+        f1 .clear-from .ensures ∙ strings ∙ ap (lent (length (a .strings .now))) (w .1),
+        f2 .clear-from2 .ensures ∙ paths ∙ ap (lent (length (a .paths .now))) (w .2),
+      ),
+    )
+
+pub parse-block-spec : {M : Type 1} → statement M
+parse-block-spec =
+    tie.close
+    (tie.spec
+    (λ c κs. search needs)
+    (λ c. search needs)
+    (λ c. search needs)
+    (λ c κs. search needs)
+    (λ c κs. search needs)
+    (λ c κs. search needs)
+    (λ c κs. search needs)
+    (λ c. search needs)
+    (λ c. search needs)
+    returns
+    (λ c κs. search needs)
+    (λ c κs. search needs)
+    (λ c. search needs)
+    (λ c. search needs)
+    returns-2)

@@ -1,0 +1,127 @@
+// The debug symbols of a block in a lent list of records. Three functions take the list: one stores a record, one fills the list,
+// and the top decodes the block and fills it.
+use local_format::field::le16;
+use local_format::field::le32;
+use semcode_decode::decode::Parse;
+use semcode_decode::decode::parse_block;
+ghost use mathlib.Core.Path.{_≡_};
+ghost use mathlib.Core.List.{map};
+ghost use Prim.Native.Nat.{_-_, _*_, _≤_, _<_};
+ghost use lib.ListN.{length, getD, set};
+ghost use Rattle.lent_table.specs.Lent.{lent};
+ghost use Rattle.semcode_records.specs.Records.{records};
+ghost use Rattle.semcode_records.specs.Symbol.{symbolAt};
+ghost use Rattle.semcode_decode.specs.Block.{decodeBlock};
+ghost use Rattle.semcode_decode.specs.Layout.{layout, stringStarts, pathStarts, roomsOf};
+ghost use Rattle.semcode_decode.specs.Maps.{parseOut};
+ghost use Rattle.semcode_symbols.specs.Symbols.{noSymbol, symbolsIn, blockSymbols, lentSymbols, symbolCount, symbolsStart};
+ghost use Rattle.semcode_symbols.specs.Maps.{symbolIs};
+
+#[repr(C)]
+pub struct DebugSymbol {
+    pub pc: usize,
+    pub line: u32,
+    pub col: u16,
+}
+
+// ---- What the core says of the symbols
+
+fn symbol_count(answer: Parse) -> usize
+    ensures { λ r. ⌜ r ≡ symbolCount (parseOut answer) ⌝ }
+{
+    match answer {
+        Parse::Whole(parsed) => parsed.debug_symbol_count,
+        Parse::Refused(_) => 0,
+    }
+}
+
+fn symbols_start(answer: Parse) -> usize
+    ensures { λ r. ⌜ r ≡ symbolsStart (parseOut answer) ⌝ }
+{
+    match answer {
+        Parse::Whole(parsed) => parsed.debug_symbols_start,
+        Parse::Refused(_) => 0,
+    }
+}
+
+// Symbol `i` of so many from a place on; zeros past them.
+fn symbol_at(code: &[u8], at: usize, count: usize, i: usize) -> DebugSymbol
+    requires { ⌜ 10 * count ≤ length (now code) - at ⌝ }
+    ensures { λ r.
+        ⌜ symbolIs r ≡ getD (symbolsIn (records (symbolAt (now (code .entry))) count at)) i noSymbol ⌝ }
+{
+    if i < count {
+        let p = at + 10 * i;
+        let pc = le32(code[p], code[p + 1], code[p + 2], code[p + 3]);
+        let line = le32(code[p + 4], code[p + 5], code[p + 6], code[p + 7]);
+        let col = le16(code[p + 8], code[p + 9]);
+        DebugSymbol {
+            pc: pc as usize,
+            line,
+            col,
+        }
+    } else {
+        DebugSymbol {
+            pc: 0,
+            line: 0,
+            col: 0,
+        }
+    }
+}
+
+// ---- The list
+
+fn store_symbol(symbols: &mut [DebugSymbol], i: usize, pc: usize, line: u32, col: u16)
+    requires { ⌜ i < length (now symbols) ⌝ }
+    ensures { λ _.
+        ⌜ now (symbols .exit) ≡ set (now (symbols .entry)) i (record { pc = pc; line = line; col = col }) ⌝ }
+{
+    symbols[i] = DebugSymbol { pc, line, col };
+}
+
+// So many symbols from a place on, then zeros.
+fn fill_symbols(symbols: &mut [DebugSymbol], code: &[u8], at: usize, count: usize)
+    requires { ⌜ (10 * count ≤ length (now code) - at) × (count ≤ length (now symbols)) ⌝ }
+    ensures { λ _.
+        ⌜ map symbolIs (now (symbols .exit)) ≡
+        lentSymbols (length (now (symbols .entry))) (symbolsIn (records (symbolAt (now (code .entry))) count at)) ⌝ }
+{
+    let mut i = 0;
+    while i < symbols.len() {
+        let v = symbol_at(code, at, count, i);
+        store_symbol(symbols, i, v.pc, v.line, v.col);
+        i += 1;
+    }
+}
+
+// A block at a base: string starts and path starts go to two lent tables, the symbols to a lent list.
+pub fn parse_string_table_debug_and_ownership(
+    base_offset: usize,
+    code: &[u8],
+    header_rev: u16,
+    symbols: &mut [DebugSymbol],
+    strings: &mut [u64],
+    paths: &mut [u64],
+) -> Parse
+    ensures { λ r.
+        ⌜ parseOut r ≡
+        layout (decodeBlock «base_offset» «header_rev» (roomsOf (now (strings .entry)) (length (now (symbols .entry))) (now (paths .entry))) (now (code .entry))) ⌝ }
+    ensures { λ r.
+        ⌜ now (strings .exit) ≡
+        lent (length (now (strings .entry)))
+        (stringStarts (decodeBlock «base_offset» «header_rev» (roomsOf (now (strings .entry)) (length (now (symbols .entry))) (now (paths .entry))) (now (code .entry)))) ⌝ }
+    ensures { λ r.
+        ⌜ now (paths .exit) ≡
+        lent (length (now (paths .entry)))
+        (pathStarts (decodeBlock «base_offset» «header_rev» (roomsOf (now (strings .entry)) (length (now (symbols .entry))) (now (paths .entry))) (now (code .entry)))) ⌝ }
+    ensures { λ r.
+        ⌜ map symbolIs (now (symbols .exit)) ≡
+        lentSymbols (length (now (symbols .entry)))
+        (blockSymbols (decodeBlock «base_offset» «header_rev» (roomsOf (now (strings .entry)) (length (now (symbols .entry))) (now (paths .entry))) (now (code .entry)))) ⌝ }
+{
+    let answer = parse_block(base_offset, code, header_rev, symbols.len(), strings, paths);
+    let at = symbols_start(answer);
+    let count = symbol_count(answer);
+    fill_symbols(symbols, code, at, count);
+    answer
+}

@@ -1,0 +1,394 @@
+/* Decoders of EVR0 evidence sections and of SemCode function blocks, proved, as C functions.
+ *
+ * Link target/staticlib/libexports.a, which `rt staticlib exports` writes (x86-64 Linux). The functions of crates/exports/src are
+ * declared here in full; each has there, as its contract, the definition that its answer is proved to equal. They allocate nothing, keep
+ * nothing between calls, write to the lent tables alone, and may be called from several threads.
+ *
+ * What a caller owes, since nothing checks it:
+ *   - a pointer is not null and is valid for the length after it, also where that is 0;
+ *   - a lent table overlaps neither another lent table nor the bytes.
+ *
+ * What a caller gets: an answer that is accepted, with zeros in its refusal; or refused, with the kind, number and offset of document 01
+ * (docs/01-scope.md) and zeros in the other fields, but for a section's cursor. After a refusal each table that was lent is zeros, whole;
+ * else the entries past a count are zeros. */
+#ifndef FALGNUST_H
+#define FALGNUST_H
+
+#include <stdbool.h>
+#include <stddef.h>
+#include <stdint.h>
+
+#ifdef __cplusplus
+extern "C" {
+#define FALGNUST_ASSERT static_assert
+#else
+#define FALGNUST_ASSERT _Static_assert
+#endif
+
+/* Layouts: the size of each struct below is that of the struct in crates/exports/src. */
+#define FALGNUST_SIZE(type, size) FALGNUST_ASSERT(sizeof(type) == (size), #type " has another layout")
+
+FALGNUST_ASSERT(sizeof(size_t) == 8, "the library is for 64 bits");
+
+/* ---- Refusals ---- */
+
+/* The kinds, in document 01's order. */
+enum {
+    FALGNUST_INVALID = 0,
+    FALGNUST_LIMIT = 1,
+    FALGNUST_STRINGS = 2,
+    FALGNUST_DEBUG = 3,
+    FALGNUST_OWNERSHIP = 4,
+    FALGNUST_ADDED = 5
+};
+
+typedef struct FalgnustRefusal {
+    uint8_t kind;
+    uint8_t number; /* 1 to 62; 0 in an accepted answer */
+    size_t offset;
+} FalgnustRefusal;
+FALGNUST_SIZE(FalgnustRefusal, 16);
+
+/* ---- Evidence sections ----
+ *
+ * The three lent tables take the start of each proposition record in the payload, the start of each proof record, and each proof's depth.
+ * A table that is shorter than its count is refused with 61. Tables of (bytes_len - cursor) / 15 propositions and (bytes_len - cursor) / 35
+ * proofs and depths are never too short, nor are tables of 65536 each.
+ *
+ * The payload of an accepted section is bytes[cursor + 8] to bytes[section.cursor - 1]. */
+
+typedef struct FalgnustSection {
+    bool accepted;
+    FalgnustRefusal refusal; /* its offset is a place in the bytes */
+    uint8_t source_set[32];
+    uint8_t compiler_contract[32];
+    uint16_t epoch;
+    size_t policy_at; /* places in the payload of the policy's and the issuer's length: falgnust_read_text reads each */
+    size_t issuer_at;
+    size_t propositions; /* the four counts */
+    size_t proofs;
+    size_t witnesses;
+    size_t parents;
+    size_t cursor; /* after the section; after a refusal, the cursor that was brought */
+} FalgnustSection;
+FALGNUST_SIZE(FalgnustSection, 152);
+
+/* Decodes the section at a cursor. */
+FalgnustSection falgnust_decode_evr0_section(
+    const uint8_t *bytes, size_t bytes_len, size_t cursor,
+    uint64_t *propositions, size_t propositions_len,
+    uint64_t *proofs, size_t proofs_len,
+    uint64_t *depths, size_t depths_len);
+
+/* A text of a record: its place in the payload, its bytes (UTF-8 without control characters), its characters, the place after it. */
+typedef struct FalgnustSpan {
+    size_t start;
+    size_t len;
+    size_t chars;
+    size_t next;
+} FalgnustSpan;
+FALGNUST_SIZE(FalgnustSpan, 32);
+
+/* In each record, start is its place in the payload. */
+
+typedef struct FalgnustProposition {
+    bool accepted;
+    FalgnustRefusal refusal;
+    size_t start;
+    FalgnustSpan kind;
+    uint32_t ast_owner_id;
+    uint32_t semantic_scope_id;
+    uint32_t type_obligation_id;
+} FalgnustProposition;
+FALGNUST_SIZE(FalgnustProposition, 80);
+
+typedef struct FalgnustProof {
+    bool accepted;
+    FalgnustRefusal refusal;
+    size_t start;
+    uint32_t proof_id;
+    uint32_t proposition_index;
+    FalgnustSpan rule_id;
+    uint32_t authority_context;
+    uint32_t witness_first; /* a witness number */
+    uint32_t witness_count;
+    uint32_t parent_first; /* a parent cell's number */
+    uint32_t parent_count;
+    uint8_t authorized_operation;
+} FalgnustProof;
+FALGNUST_SIZE(FalgnustProof, 96);
+
+typedef struct FalgnustWitness {
+    bool accepted;
+    FalgnustRefusal refusal;
+    size_t start;
+    uint8_t file_digest[32];
+    uint8_t origin_digest[32];
+    uint32_t witness_id;
+    uint32_t proposition_index;
+    uint8_t polarity;
+    uint32_t source_start;
+    uint32_t source_end;
+} FalgnustWitness;
+FALGNUST_SIZE(FalgnustWitness, 120);
+
+typedef struct FalgnustParent {
+    bool accepted;
+    FalgnustRefusal refusal;
+    size_t start;
+    uint32_t proof_id; /* the parent's number */
+} FalgnustParent;
+FALGNUST_SIZE(FalgnustParent, 40);
+
+/* A record at a place of a payload: a proposition at an entry of the table of propositions, a proof at one of proofs, a witness and a
+ * parent cell at the places below. This is how to read all records of a section that was decoded once. A place where no such record
+ * stands gives whatever its bytes say, or a refusal (5 to 9) whose offset counts from that place. */
+FalgnustProposition falgnust_read_proposition(const uint8_t *payload, size_t payload_len, size_t at);
+FalgnustProof falgnust_read_proof(const uint8_t *payload, size_t payload_len, size_t at);
+FalgnustWitness falgnust_read_witness(const uint8_t *payload, size_t payload_len, size_t at);
+FalgnustParent falgnust_read_parent(const uint8_t *payload, size_t payload_len, size_t at);
+
+/* The place of a witness and of a parent cell in a payload of len bytes, by the counts of its section; 0, where no record stands, for a
+ * number that is not below its count. */
+size_t falgnust_witness_place(size_t len, size_t witnesses, size_t parents, uint32_t number);
+size_t falgnust_parent_place(size_t len, size_t parents, uint32_t number);
+
+/* A record by its number. Each call decodes the section anew first, with the refusals and the tables of falgnust_decode_evr0_section; a
+ * number that is not below its count is then refused with 62 at 0. */
+FalgnustProposition falgnust_proposition_number(
+    const uint8_t *bytes, size_t bytes_len, size_t cursor, uint32_t number,
+    uint64_t *propositions, size_t propositions_len,
+    uint64_t *proofs, size_t proofs_len,
+    uint64_t *depths, size_t depths_len);
+FalgnustProof falgnust_proof_number(
+    const uint8_t *bytes, size_t bytes_len, size_t cursor, uint32_t number,
+    uint64_t *propositions, size_t propositions_len,
+    uint64_t *proofs, size_t proofs_len,
+    uint64_t *depths, size_t depths_len);
+FalgnustWitness falgnust_witness_number(
+    const uint8_t *bytes, size_t bytes_len, size_t cursor, uint32_t number,
+    uint64_t *propositions, size_t propositions_len,
+    uint64_t *proofs, size_t proofs_len,
+    uint64_t *depths, size_t depths_len);
+FalgnustParent falgnust_parent_number(
+    const uint8_t *bytes, size_t bytes_len, size_t cursor, uint32_t number,
+    uint64_t *propositions, size_t propositions_len,
+    uint64_t *proofs, size_t proofs_len,
+    uint64_t *depths, size_t depths_len);
+
+/* The way down from a proof, always to the first parent, with a limit on the moves: the witness at its end and the moves made; or spent,
+ * where as many moves as the limit were made and the proof reached has a parent. An accepted section has no way of more than 255 moves. */
+typedef struct FalgnustWayDown {
+    bool accepted;
+    FalgnustRefusal refusal;
+    bool spent;
+    uint32_t witness; /* where it is not spent: a witness number */
+    uint64_t moves;   /* where it is not spent */
+    uint32_t proof;   /* where it is spent: the proof reached */
+} FalgnustWayDown;
+FALGNUST_SIZE(FalgnustWayDown, 48);
+
+/* Decodes anew, and 62, as above. */
+FalgnustWayDown falgnust_way_down(
+    const uint8_t *bytes, size_t bytes_len, size_t cursor, uint32_t from, uint64_t limit,
+    uint64_t *propositions, size_t propositions_len,
+    uint64_t *proofs, size_t proofs_len,
+    uint64_t *depths, size_t depths_len);
+
+/* Whether some proof of a proposition has operation 1. */
+typedef struct FalgnustAuthorised {
+    bool accepted;
+    FalgnustRefusal refusal;
+    bool authorised;
+} FalgnustAuthorised;
+FALGNUST_SIZE(FalgnustAuthorised, 32);
+
+/* Decodes anew, and 62, as above. */
+FalgnustAuthorised falgnust_authorised(
+    const uint8_t *bytes, size_t bytes_len, size_t cursor, uint32_t proposition,
+    uint64_t *propositions, size_t propositions_len,
+    uint64_t *proofs, size_t proofs_len,
+    uint64_t *depths, size_t depths_len);
+
+/* ---- Function blocks ----
+ *
+ * A lent list takes the debug symbols, and two lent tables take the place in the block of each string's length and of each path's event
+ * kind. One that is shorter than its count is refused with 61; 8192 symbols, 256 strings and 65535 paths are never too few. Offsets are
+ * base_offset plus the place in the block, held at the largest 64-bit number; the fields of an accepted answer are places in the block. */
+
+typedef struct FalgnustDebugSymbol {
+    size_t pc;
+    uint32_t line;
+    uint16_t col;
+} FalgnustDebugSymbol;
+FALGNUST_SIZE(FalgnustDebugSymbol, 16);
+
+typedef struct FalgnustBlock {
+    bool accepted;
+    FalgnustRefusal refusal;
+    bool has_debug_section;
+    bool has_ownership_section;
+    size_t string_count;
+    size_t string_table_end_offset;
+    size_t debug_symbol_count;
+    size_t debug_symbols_start;
+    size_t path_count;
+    size_t instr_start_offset;
+} FalgnustBlock;
+FALGNUST_SIZE(FalgnustBlock, 80);
+
+/* Decodes a block's strings, DBG0 and OWN0 tables. */
+FalgnustBlock falgnust_parse_string_table_debug_and_ownership(
+    size_t base_offset, const uint8_t *code, size_t code_len, uint16_t header_rev,
+    FalgnustDebugSymbol *symbols, size_t symbols_len,
+    uint64_t *strings, size_t strings_len,
+    uint64_t *paths, size_t paths_len);
+
+/* In each record of a block, next is the place after it. */
+
+typedef struct FalgnustText {
+    bool accepted;
+    FalgnustRefusal refusal;
+    size_t start; /* of its bytes */
+    size_t len;
+    size_t chars;
+    size_t next;
+} FalgnustText;
+FALGNUST_SIZE(FalgnustText, 56);
+
+typedef struct FalgnustSymbol {
+    bool accepted;
+    FalgnustRefusal refusal;
+    size_t pc;
+    uint32_t line;
+    uint16_t col;
+    size_t next;
+} FalgnustSymbol;
+FALGNUST_SIZE(FalgnustSymbol, 48);
+
+/* A borrow, 0 to 2, or a write, 3 to 5. */
+enum {
+    FALGNUST_BORROW = 0,                /* without activation: below revision 21 */
+    FALGNUST_BORROW_FRAME_ENTRY = 1,
+    FALGNUST_BORROW_STORE_SITE = 2,
+    FALGNUST_WRITE = 3,                 /* without execution: below revision 21 */
+    FALGNUST_WRITE_STORE_SITE = 4,
+    FALGNUST_WRITE_RECORD_SITE = 5
+};
+
+typedef struct FalgnustEvent {
+    uint8_t event;
+    uint32_t site; /* of 2, 4 and 5; else 0 */
+} FalgnustEvent;
+FALGNUST_SIZE(FalgnustEvent, 8);
+
+typedef struct FalgnustPath {
+    bool accepted;
+    FalgnustRefusal refusal;
+    FalgnustEvent event;
+    uint32_t root_symbol_id;
+    uint16_t component_count;
+    size_t components_start;
+    size_t next;
+} FalgnustPath;
+FALGNUST_SIZE(FalgnustPath, 56);
+
+/* Kinds of a component, as the format's byte. */
+enum {
+    FALGNUST_TUPLE_INDEX = 0,
+    FALGNUST_FIELD_SYMBOL = 1,
+    FALGNUST_ADT_PAYLOAD = 2, /* first is the variant, second its index */
+    FALGNUST_SEQUENCE_INDEX = 3
+};
+
+typedef struct FalgnustParts {
+    uint8_t kind;
+    uint32_t first;
+    uint16_t second; /* of FALGNUST_ADT_PAYLOAD; else 0 */
+} FalgnustParts;
+FALGNUST_SIZE(FalgnustParts, 12);
+
+typedef struct FalgnustComponent {
+    bool accepted;
+    FalgnustRefusal refusal;
+    FalgnustParts component;
+    size_t next;
+} FalgnustComponent;
+FALGNUST_SIZE(FalgnustComponent, 48);
+
+/* A record at a place of a block that was decoded once: a string at an entry of the table of strings, a path at one of paths, symbol i at
+ * debug_symbols_start + 10 * i, a path's components one after the other from components_start on. kind is the path's first byte, 0 for a
+ * borrow and 1 for a write. The offset of a refusal is the place in the block, without a base. */
+FalgnustText falgnust_read_string(const uint8_t *code, size_t code_len, size_t at);
+FalgnustSymbol falgnust_read_debug_symbol(const uint8_t *code, size_t code_len, size_t at);
+FalgnustPath falgnust_read_path(const uint8_t *code, size_t code_len, size_t at, uint16_t header_rev);
+FalgnustComponent falgnust_read_component(const uint8_t *code, size_t code_len, size_t at, uint16_t header_rev, uint8_t kind);
+
+/* A record by its number. Each call decodes the block anew first, with the refusals and the tables of the block's decoder and room for 8192
+ * symbols; a number that is not below its count is then refused with 62 at 0. */
+FalgnustText falgnust_string_number(
+    size_t base_offset, const uint8_t *code, size_t code_len, uint16_t header_rev, size_t number,
+    uint64_t *strings, size_t strings_len,
+    uint64_t *paths, size_t paths_len);
+FalgnustSymbol falgnust_symbol_number(
+    size_t base_offset, const uint8_t *code, size_t code_len, uint16_t header_rev, size_t number,
+    uint64_t *strings, size_t strings_len,
+    uint64_t *paths, size_t paths_len);
+FalgnustPath falgnust_path_number(
+    size_t base_offset, const uint8_t *code, size_t code_len, uint16_t header_rev, size_t number,
+    uint64_t *strings, size_t strings_len,
+    uint64_t *paths, size_t paths_len);
+/* Component `component` of path `number`. */
+FalgnustComponent falgnust_component_number(
+    size_t base_offset, const uint8_t *code, size_t code_len, uint16_t header_rev, size_t number, size_t component,
+    uint64_t *strings, size_t strings_len,
+    uint64_t *paths, size_t paths_len);
+
+/* ---- Texts and fields ---- */
+
+/* A text of a section (a 2-byte length and 1 to 4096 bytes of UTF-8 without control characters) at a place; refusals 5 to 8. */
+FalgnustText falgnust_read_text(const uint8_t *bytes, size_t bytes_len, size_t at);
+
+/* The rest is there to compare the readers with the Rust's one by one; a caller needs none of it. */
+
+/* A field of 1, 2 or 4 bytes, little-endian, and the place after it; where it passes the end, zeros. */
+typedef struct FalgnustField {
+    bool whole;
+    uint32_t value;
+    size_t next;
+} FalgnustField;
+FALGNUST_SIZE(FalgnustField, 16);
+
+FalgnustField falgnust_read_u8(const uint8_t *bytes, size_t bytes_len, size_t at);
+FalgnustField falgnust_read_u16_le(const uint8_t *bytes, size_t bytes_len, size_t at);
+FalgnustField falgnust_read_u32_le(const uint8_t *bytes, size_t bytes_len, size_t at);
+
+/* Whether the bytes of a tag stand at a place. */
+bool falgnust_tag_at(const uint8_t *bytes, size_t bytes_len, size_t at, const uint8_t *tag, size_t tag_len);
+
+/* 0: not UTF-8; 1: UTF-8 without control characters; 2: UTF-8 with one. chars counts the characters, of 1 and 2. */
+typedef struct FalgnustScanned {
+    uint8_t answer;
+    size_t chars;
+} FalgnustScanned;
+FALGNUST_SIZE(FalgnustScanned, 16);
+
+FalgnustScanned falgnust_scan(const uint8_t *bytes, size_t bytes_len);
+
+/* len bytes at a place: whether they are there, are UTF-8, hold a control character; their characters, and the place after them. */
+typedef struct FalgnustUtf8 {
+    bool whole;
+    bool text;
+    bool control;
+    size_t chars;
+    size_t next;
+} FalgnustUtf8;
+FALGNUST_SIZE(FalgnustUtf8, 24);
+
+FalgnustUtf8 falgnust_read_utf8(const uint8_t *bytes, size_t bytes_len, size_t at, size_t len);
+
+#ifdef __cplusplus
+}
+#endif
+
+#endif

@@ -1,0 +1,267 @@
+//! What is asked of a section by number: records of the Rust's vectors, the way down and authorised by plain lines over them, 62 past
+//! their end, and the section's own refusal where it has one. Each is asked of a C function, whose lent tables are looked at, and of the
+//! crate that callers link.
+
+use crate::block_compare::{OLD, lent};
+use crate::section_binding::{self as binding, Told, rust_told, told};
+use crate::section_expected::{self as expected, Down, Record};
+use crate::tally::{Tally, hex};
+use answers::Answer;
+use answers::refusal::{Kind, Refusal};
+use answers::section::Section;
+use falgnust::calls::{self, SectionTables};
+use falgnust::evr0;
+use inputs::cases::SectionCase;
+use oracle::evr0::{DecodedEvr0, decode_evr0_section};
+use std::fmt::Debug;
+
+const NOT_THERE: Refusal = Refusal {
+    kind: Kind::Added,
+    number: 62,
+    offset: 0,
+};
+
+/// A section and the Rust's answer.
+struct Asked<'a> {
+    file: &'a [u8],
+    cursor: usize,
+    rust: &'a Answer<(Section, DecodedEvr0)>,
+}
+
+pub fn compare(tally: &mut Tally, case: &SectionCase, rust: &Answer<(Section, DecodedEvr0)>) {
+    let SectionCase { ref file, cursor } = *case;
+    let asked = Asked { file, cursor, rust };
+    let numbers = match rust {
+        Ok((section, _)) => section.head.counts.map(numbers),
+        Err(_) => std::array::from_fn(|_| vec![0]),
+    };
+    for number in &numbers[0] {
+        asked.proposition(tally, *number);
+        asked.authorised(tally, *number);
+    }
+    for number in &numbers[1] {
+        asked.proof(tally, *number);
+        for limit in asked.limits(*number) {
+            asked.way_down(tally, *number, limit);
+        }
+    }
+    for number in &numbers[2] {
+        asked.witness(tally, *number);
+    }
+    for number in &numbers[3] {
+        asked.parent(tally, *number);
+    }
+}
+
+/// All numbers of a small table and some of a large one, and some that it does not have.
+fn numbers(count: usize) -> Vec<u32> {
+    let count = count as u32;
+    let mut all: Vec<u32> = match count {
+        0..=12 => (0..count).collect(),
+        _ => vec![0, 1, count / 2, count - 2, count - 1],
+    };
+    all.extend([count, count + 1, count + 70_000, u32::MAX]);
+    all
+}
+
+impl Asked<'_> {
+    /// The Rust's value, 62 where it has none, or the section's refusal.
+    fn value<T>(&self, of: impl FnOnce(&Section, &DecodedEvr0) -> Option<T>) -> Answer<T> {
+        let (section, decoded) = self.rust.as_ref().map_err(|refusal| *refusal)?;
+        of(section, decoded).ok_or(NOT_THERE)
+    }
+
+    fn proposition(&self, tally: &mut Tally, number: u32) {
+        let value = self.value(|section, decoded| {
+            let record = decoded.propositions.get(number as usize)?.clone();
+            Some((section.tables.propositions[number as usize], record))
+        });
+        let name = "proposition by number";
+        let raw = expected::raw_proposition(value.clone());
+        self.same(tally, name, &value, raw, |lent| {
+            calls::proposition_number(self.file, self.cursor, number, lent)
+        });
+        let port = evr0::proposition_number(self.file, self.cursor, number);
+        let port = port.map(|found| found.map(binding::proposition));
+        self.same_told(tally, name, value.map(record), port);
+    }
+
+    fn proof(&self, tally: &mut Tally, number: u32) {
+        let value = self.value(|section, decoded| {
+            let record = decoded.proofs.get(number as usize)?.clone();
+            Some((section.tables.proofs[number as usize], record))
+        });
+        let name = "proof by number";
+        let raw = expected::raw_proof(value.clone());
+        self.same(tally, name, &value, raw, |lent| {
+            calls::proof_number(self.file, self.cursor, number, lent)
+        });
+        let port = evr0::proof_number(self.file, self.cursor, number);
+        let port = port.map(|found| found.map(binding::proof));
+        self.same_told(tally, name, value.map(record), port);
+    }
+
+    /// Witnesses and parent cells are the last tables of a section, whose cursor follows them.
+    fn witness(&self, tally: &mut Tally, number: u32) {
+        let value = self.value(|section, decoded| {
+            let record = decoded.witnesses.get(number as usize)?.clone();
+            let after = 84 * (decoded.witnesses.len() - number as usize);
+            let payload = section.cursor - self.cursor - 8;
+            let start = payload - 4 * decoded.parents.len() - after;
+            Some((start as u64, record))
+        });
+        let name = "witness by number";
+        let raw = expected::raw_witness(value.clone());
+        self.same(tally, name, &value, raw, |lent| {
+            calls::witness_number(self.file, self.cursor, number, lent)
+        });
+        let port = evr0::witness_number(self.file, self.cursor, number);
+        let port = port.map(|found| found.map(binding::witness));
+        self.same_told(tally, name, value.map(record), port);
+    }
+
+    fn parent(&self, tally: &mut Tally, number: u32) {
+        let value = self.value(|section, decoded| {
+            let record = *decoded.parents.get(number as usize)?;
+            let after = 4 * (decoded.parents.len() - number as usize);
+            let payload = section.cursor - self.cursor - 8;
+            Some(((payload - after) as u64, record))
+        });
+        let name = "parent by number";
+        let raw = expected::raw_parent(value);
+        self.same(tally, name, &value, raw, |lent| {
+            calls::parent_number(self.file, self.cursor, number, lent)
+        });
+        let port = evr0::parent_number(self.file, self.cursor, number);
+        self.same_told(tally, name, value.map(record), port);
+    }
+
+    fn authorised(&self, tally: &mut Tally, number: u32) {
+        let value = self.value(|section, decoded| {
+            let there = (number as usize) < section.head.counts[0];
+            there.then(|| expected::authorised(decoded, number))
+        });
+        let name = "authorised";
+        let raw = expected::raw_authorised(value);
+        self.same(tally, name, &value, raw, |lent| {
+            calls::authorised(self.file, self.cursor, number, lent)
+        });
+        let port = evr0::authorised(self.file, self.cursor, number);
+        self.same_told(tally, name, value, port);
+    }
+
+    fn way_down(&self, tally: &mut Tally, number: u32, limit: u64) {
+        let value = self.value(|section, decoded| {
+            let there = (number as usize) < section.head.counts[1];
+            there.then(|| expected::way_down(decoded, number, limit))
+        });
+        let name = match value {
+            Ok(Down::Spent(_)) => "way down, spent",
+            _ => "way down",
+        };
+        let raw = expected::raw_way_down(value);
+        self.same(tally, name, &value, raw, |lent| {
+            calls::way_down(self.file, self.cursor, number, limit, lent)
+        });
+        let port = evr0::way_down(self.file, self.cursor, number, limit);
+        let port = port.map(|found| {
+            found.map(|way| match way {
+                evr0::WayDown::Witness { witness, moves } => Down::Witness(witness, moves),
+                evr0::WayDown::Spent { proof } => Down::Spent(proof),
+            })
+        });
+        self.same_told(tally, name, value, port);
+    }
+
+    /// Limits below, at and above the moves that the way down takes.
+    fn limits(&self, number: u32) -> Vec<u64> {
+        let whole = self.value(|section, decoded| {
+            let there = (number as usize) < section.head.counts[1];
+            there.then(|| expected::way_down(decoded, number, u64::MAX))
+        });
+        let moves = match whole {
+            Ok(Down::Witness(_, moves)) => moves,
+            _ => 0,
+        };
+        let mut limits = vec![0, 1, moves.saturating_sub(1), moves, moves + 1, u64::MAX];
+        limits.sort();
+        limits.dedup();
+        limits
+    }
+
+    /// A C function's answer, and the tables after it: starts and depths, or zeros where it refuses.
+    fn same<T, R: PartialEq + Debug>(
+        &self,
+        tally: &mut Tally,
+        name: &'static str,
+        value: &Answer<T>,
+        expected: R,
+        call: impl FnOnce(SectionTables) -> R,
+    ) {
+        let rooms = self.rooms();
+        let mut tables = rooms.map(|room| vec![OLD; room]);
+        let [propositions, proofs, depths] = &mut tables;
+        let answer = call(SectionTables {
+            propositions,
+            proofs,
+            depths,
+        });
+        let entries = match (self.rust, value) {
+            (Ok((s, _)), Ok(_)) => [
+                &s.tables.propositions[..],
+                &s.tables.proofs[..],
+                &s.tables.depths[..],
+            ],
+            _ => [&[][..]; 3],
+        };
+        let after: [Vec<u64>; 3] = std::array::from_fn(|i| lent(entries[i], rooms[i]));
+        tally.input(match (self.rust, value) {
+            (Err(refusal), _) => (refusal.number, "by number in a refused section"),
+            (_, Err(refusal)) => (refusal.number, name),
+            _ => (0, name),
+        });
+        tally.same(&(expected, after), &(answer, tables), || self.what(name));
+    }
+
+    /// What the crate answers.
+    fn same_told<T: PartialEq + Debug>(
+        &self,
+        tally: &mut Tally,
+        name: &'static str,
+        value: Answer<T>,
+        port: Result<Option<T>, evr0::Evr0Error>,
+    ) {
+        let rust: Told<Option<T>> = match value {
+            Ok(value) => Ok(Some(value)),
+            Err(NOT_THERE) => Ok(None),
+            Err(_) => {
+                rust_told(decode_evr0_section(self.file, &mut self.cursor.clone()).map(|_| None))
+            }
+        };
+        tally.same(&rust, &told(port), || {
+            format!("the binding, {}", self.what(name))
+        });
+    }
+
+    /// Room for what the section has and one more; for a refused section as much as its bytes can hold.
+    fn rooms(&self) -> [usize; 3] {
+        match self.rust {
+            Ok((s, _)) => {
+                let [propositions, proofs, ..] = s.head.counts;
+                [propositions + 1, proofs + 1, proofs + 1]
+            }
+            Err(_) => {
+                let length = self.file.len();
+                [length / 15, length / 35, length / 35]
+            }
+        }
+    }
+
+    fn what(&self, name: &str) -> String {
+        format!("{name}, cursor {}, {}", self.cursor, hex(self.file))
+    }
+}
+
+fn record<T>((_, record): Record<T>) -> T {
+    record
+}

@@ -1,0 +1,63 @@
+//! What a fuzzed input means: two bytes that choose, then the file or the block.
+//!
+//! The first byte: 0 a section in a file, 1 a payload, whose tag and length are put before it, 2 a block, 3 nothing. The second: in its
+//! low two bits a cursor or a base (0; 1; 1,000; 20 below 2^64), and above them a revision.
+
+use inputs::block::REVISIONS;
+use inputs::cases::{BlockCase, SectionCase};
+
+pub enum Case {
+    Section(SectionCase),
+    Block(BlockCase),
+}
+
+const PLACES: [usize; 4] = [0, 1, 1000, usize::MAX - 20];
+
+/// The case that some bytes stand for.
+pub fn case(data: &[u8]) -> Option<Case> {
+    let [kind, choice, rest @ ..] = data else {
+        return None;
+    };
+    let place = PLACES[(choice & 3) as usize];
+    match kind % 4 {
+        0 => Some(Case::Section(SectionCase {
+            file: rest.to_vec(),
+            cursor: place,
+        })),
+        1 => {
+            let length = u32::try_from(rest.len()).ok()?;
+            let mut file = vec![b'.'; place.min(1)];
+            file.extend(b"EVR0");
+            file.extend(length.to_le_bytes());
+            file.extend(rest);
+            Some(Case::Section(SectionCase {
+                file,
+                cursor: place.min(1),
+            }))
+        }
+        2 => Some(Case::Block(BlockCase {
+            code: rest.to_vec(),
+            base: place,
+            revision: REVISIONS[(choice >> 2) as usize % REVISIONS.len()],
+        })),
+        _ => None,
+    }
+}
+
+/// The bytes that stand for a case, at cursor or base 0.
+pub fn bytes(case: &Case) -> Vec<u8> {
+    match case {
+        Case::Section(SectionCase { file, cursor }) => match file.get(*cursor..) {
+            Some([b'E', b'V', b'R', b'0', _, _, _, _, payload @ ..]) => joined([1, 0], payload),
+            _ => joined([0, 0], file),
+        },
+        Case::Block(BlockCase { code, revision, .. }) => {
+            let place = REVISIONS.iter().position(|known| known == revision);
+            joined([2, (place.unwrap_or(0) as u8) << 2], code)
+        }
+    }
+}
+
+fn joined(choice: [u8; 2], rest: &[u8]) -> Vec<u8> {
+    [&choice[..], rest].concat()
+}

@@ -1,0 +1,43 @@
+//! What libFuzzer calls. A difference from the Rust, or a panic on either side, ends the program.
+
+mod input;
+mod mutate;
+
+pub use input::{Case, bytes, case};
+
+use differential::tally::Tally;
+use differential::{block_compare, block_numbers, section_compare, section_numbers};
+
+/// Tries one input.
+///
+/// # Safety
+///
+/// `data` points to `size` bytes.
+#[unsafe(no_mangle)]
+pub unsafe extern "C" fn LLVMFuzzerTestOneInput(data: *const u8, size: usize) -> i32 {
+    let data = match size {
+        0 => &[],
+        _ => unsafe { std::slice::from_raw_parts(data, size) },
+    };
+    if let Some(case) = case(data) {
+        compare(&case);
+    }
+    0
+}
+
+fn compare(case: &Case) {
+    let mut tally = Tally::new("fuzz");
+    match case {
+        Case::Section(case) => {
+            let rust = oracle::section::section(&case.file, case.cursor);
+            section_compare::compare(&mut tally, case);
+            section_numbers::compare(&mut tally, case, &rust);
+        }
+        Case::Block(case) => {
+            let rust = oracle::block::block(&case.code, case.base, case.revision);
+            block_compare::compare(&mut tally, case);
+            block_numbers::compare(&mut tally, case, &rust, block_compare::rooms(case));
+        }
+    }
+    assert_eq!(tally.differences(), 0, "differences from the Rust");
+}

@@ -1,0 +1,39 @@
+//! Mutation: libFuzzer's own, and now and then a new section or block with a fault or two, which changes of bytes would not find.
+
+use crate::input::{Case, bytes};
+use inputs::cases;
+use inputs::random::Random;
+
+unsafe extern "C" {
+    fn LLVMFuzzerMutate(data: *mut u8, size: usize, max_size: usize) -> usize;
+}
+
+/// One in so many mutations makes a new input.
+const NEW: usize = 64;
+
+/// Changes an input in place, and gives its new size.
+///
+/// # Safety
+///
+/// `data` points to `max_size` bytes, of which the first `size` are the input.
+#[unsafe(no_mangle)]
+pub unsafe extern "C" fn LLVMFuzzerCustomMutator(
+    data: *mut u8,
+    size: usize,
+    max_size: usize,
+    seed: u32,
+) -> usize {
+    let mut r = Random::new(seed.into());
+    if r.one_in(NEW) {
+        let case = match r.below(2) {
+            0 => Case::Section(cases::section(&mut r)),
+            _ => Case::Block(cases::block(&mut r)),
+        };
+        let new = bytes(&case);
+        if new.len() <= max_size {
+            unsafe { std::slice::from_raw_parts_mut(data, new.len()) }.copy_from_slice(&new);
+            return new.len();
+        }
+    }
+    unsafe { LLVMFuzzerMutate(data, size, max_size) }
+}
