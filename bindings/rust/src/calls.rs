@@ -26,46 +26,55 @@ fn at_place<T>(read: AtPlace<T>, bytes: &[u8], at: usize) -> T {
 }
 
 /// A field of 1 byte.
+#[inline]
 pub fn read_u8(bytes: &[u8], at: usize) -> Field {
     at_place(falgnust_read_u8, bytes, at)
 }
 
 /// A field of 2 bytes.
+#[inline]
 pub fn read_u16_le(bytes: &[u8], at: usize) -> Field {
     at_place(falgnust_read_u16_le, bytes, at)
 }
 
 /// A field of 4 bytes.
+#[inline]
 pub fn read_u32_le(bytes: &[u8], at: usize) -> Field {
     at_place(falgnust_read_u32_le, bytes, at)
 }
 
 /// Whether a fixed byte string stands at a place.
+#[inline]
 pub fn tag_at(bytes: &[u8], at: usize, tag: &[u8]) -> bool {
     unsafe { falgnust_tag_at(bytes.as_ptr(), bytes.len(), at, tag.as_ptr(), tag.len()) }
 }
 
 /// What bytes are.
+#[inline]
 pub fn scan(bytes: &[u8]) -> Scanned {
     unsafe { falgnust_scan(bytes.as_ptr(), bytes.len()) }
 }
 
 /// What so many bytes at a place are.
+#[inline]
 pub fn read_utf8(bytes: &[u8], at: usize, len: usize) -> Utf8 {
     unsafe { falgnust_read_utf8(bytes.as_ptr(), bytes.len(), at, len) }
 }
 
 /// A text of a section.
+#[inline]
 pub fn read_text(bytes: &[u8], at: usize) -> Text {
     at_place(falgnust_read_text, bytes, at)
 }
 
 /// A string of a block.
+#[inline]
 pub fn read_string(bytes: &[u8], at: usize) -> Text {
     at_place(falgnust_read_string, bytes, at)
 }
 
 /// The section at a cursor.
+#[inline]
 pub fn decode_evr0_section(bytes: &[u8], cursor: usize, lent: SectionTables) -> Section {
     unsafe {
         falgnust_decode_evr0_section(
@@ -106,6 +115,7 @@ fn of_section<T>(
 }
 
 /// A proposition of the section at a cursor.
+#[inline]
 pub fn proposition_number(
     bytes: &[u8],
     cursor: usize,
@@ -116,21 +126,25 @@ pub fn proposition_number(
 }
 
 /// A proof of the section at a cursor.
+#[inline]
 pub fn proof_number(bytes: &[u8], cursor: usize, number: u32, lent: SectionTables) -> Proof {
     of_section(falgnust_proof_number, bytes, cursor, number, lent)
 }
 
 /// A witness of the section at a cursor.
+#[inline]
 pub fn witness_number(bytes: &[u8], cursor: usize, number: u32, lent: SectionTables) -> Witness {
     of_section(falgnust_witness_number, bytes, cursor, number, lent)
 }
 
 /// A parent cell of the section at a cursor.
+#[inline]
 pub fn parent_number(bytes: &[u8], cursor: usize, number: u32, lent: SectionTables) -> Parent {
     of_section(falgnust_parent_number, bytes, cursor, number, lent)
 }
 
 /// Whether a proposition of the section at a cursor is authorised.
+#[inline]
 pub fn authorised(
     bytes: &[u8],
     cursor: usize,
@@ -141,6 +155,7 @@ pub fn authorised(
 }
 
 /// The way down from a proof of the section at a cursor, with at most `limit` moves.
+#[inline]
 pub fn way_down(
     bytes: &[u8],
     cursor: usize,
@@ -166,36 +181,43 @@ pub fn way_down(
 }
 
 /// The proposition at a place of a payload.
+#[inline]
 pub fn read_proposition(payload: &[u8], at: usize) -> Proposition {
     at_place(falgnust_read_proposition, payload, at)
 }
 
 /// The proof at a place of a payload.
+#[inline]
 pub fn read_proof(payload: &[u8], at: usize) -> Proof {
     at_place(falgnust_read_proof, payload, at)
 }
 
 /// The witness at a place of a payload.
+#[inline]
 pub fn read_witness(payload: &[u8], at: usize) -> Witness {
     at_place(falgnust_read_witness, payload, at)
 }
 
 /// The parent cell at a place of a payload.
+#[inline]
 pub fn read_parent(payload: &[u8], at: usize) -> Parent {
     at_place(falgnust_read_parent, payload, at)
 }
 
 /// Where a witness stands in a payload of `len` bytes.
+#[inline]
 pub fn witness_place(len: usize, witnesses: usize, parents: usize, number: u32) -> usize {
     unsafe { falgnust_witness_place(len, witnesses, parents, number) }
 }
 
 /// Where a parent cell stands in a payload of `len` bytes.
+#[inline]
 pub fn parent_place(len: usize, parents: usize, number: u32) -> usize {
     unsafe { falgnust_parent_place(len, parents, number) }
 }
 
 /// A block. Its debug symbols go to a list that is lent, too.
+#[inline]
 pub fn parse_string_table_debug_and_ownership(
     base_offset: usize,
     code: &[u8],
@@ -243,6 +265,7 @@ fn of_block<T>(
 }
 
 /// A string of a block.
+#[inline]
 pub fn string_number(
     base_offset: usize,
     code: &[u8],
@@ -261,6 +284,7 @@ pub fn string_number(
 }
 
 /// A debug symbol of a block.
+#[inline]
 pub fn symbol_number(
     base_offset: usize,
     code: &[u8],
@@ -279,6 +303,7 @@ pub fn symbol_number(
 }
 
 /// A path of a block.
+#[inline]
 pub fn path_number(
     base_offset: usize,
     code: &[u8],
@@ -297,6 +322,7 @@ pub fn path_number(
 }
 
 /// A component of a path of a block.
+#[inline]
 pub fn component_number(
     base_offset: usize,
     code: &[u8],
@@ -322,16 +348,19 @@ pub fn component_number(
 }
 
 /// The debug symbol at a place of a block.
+#[inline]
 pub fn read_debug_symbol(code: &[u8], at: usize) -> Symbol {
     at_place(falgnust_read_debug_symbol, code, at)
 }
 
 /// The path at a place of a block.
+#[inline]
 pub fn read_path(code: &[u8], at: usize, header_rev: u16) -> Path {
     unsafe { falgnust_read_path(code.as_ptr(), code.len(), at, header_rev) }
 }
 
 /// The component at a place of a path with this event kind (0 borrow, 1 write).
+#[inline]
 pub fn read_component(code: &[u8], at: usize, header_rev: u16, kind: u8) -> Component {
     unsafe { falgnust_read_component(code.as_ptr(), code.len(), at, header_rev, kind) }
 }

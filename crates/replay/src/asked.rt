@@ -1,4 +1,8 @@
 // What an entry of the list asks: a decoder, the input, and the lengths of the lent tables.
+ghost use mathlib.Core.Path.{_≡_};
+ghost use Prim.Native.Nat.{_+_, _*_};
+ghost use Rattle.replay.specs.AskedAt.{askedAt};
+ghost use Rattle.replay.specs.Maps.{readOut};
 use local_format::field::U8;
 use local_format::field::U16;
 use local_format::field::U32;
@@ -20,12 +24,16 @@ pub enum Read {
     Cut,
 }
 
-fn joined(low: u32, high: u32) -> usize {
+fn joined(low: u32, high: u32) -> usize
+    ensures { λ r. ⌜ r ≡ low + 4294967296 * high ⌝ }
+{
     (low as usize) + 4294967296 * (high as usize)
 }
 
 // Decoder (1 byte), revision (2), cursor or base (8), three lengths (2 each), the input's length (4), and the input.
-pub fn read_asked(list: &[u8], at: usize) -> Read {
+pub fn read_asked(list: &[u8], at: usize) -> Read
+    ensures { λ r. ⌜ readOut r ≡ askedAt (now (list .entry)) at ⌝ }
+{
     let one = local_format::field::read_u8(list, at);
     let U8::Value {
         value: decoder,

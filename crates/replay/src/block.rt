@@ -1,11 +1,21 @@
 // A block of the list: decoded, and every part of the answer compared.
+ghost use mathlib.Core.Path.{_≡_};
+ghost use lib.ListN.{length};
+ghost use Rattle.semcode_records.specs.Symbol.{symbolAt};
+ghost use Rattle.semcode_decode.specs.Block.{decodeBlock};
+ghost use Rattle.semcode_decode.specs.Layout.{roomsOf};
+ghost use Rattle.semcode_decode.specs.Maps.{layoutIs, parseOut};
+ghost use Rattle.replay.specs.ToldBlock.{wholeHeld, symbolHeld, symbolsHeld, startsHeld, parseHeld, blockHeld};
+ghost use Rattle.replay.specs.Maps.{heldOut};
 use crate::held::Held;
 use semcode_decode::decode::Parse;
 use semcode_decode::decode::StringTableDebugOwnershipParse;
 use semcode_records::symbol::Symbol;
 
 // Number 0, both tags, the counts and the places.
-fn whole(list: &[u8], held: Held, block: StringTableDebugOwnershipParse) -> Held {
+fn whole(list: &[u8], held: Held, block: StringTableDebugOwnershipParse) -> Held
+    ensures { λ r. ⌜ heldOut r ≡ wholeHeld (now (list .entry)) (heldOut held) (layoutIs block) ⌝ }
+{
     let numbered = crate::held::number(list, held, 0);
     let debug = crate::held::flag(list, numbered, block.has_debug_section);
     let ownership = crate::held::flag(list, debug, block.has_ownership_section);
@@ -18,7 +28,9 @@ fn whole(list: &[u8], held: Held, block: StringTableDebugOwnershipParse) -> Held
 }
 
 // The symbol at `at`: pc, line and column. One that is cut is not the same.
-fn symbol(list: &[u8], held: Held, code: &[u8], at: usize) -> Held {
+fn symbol(list: &[u8], held: Held, code: &[u8], at: usize) -> Held
+    ensures { λ r. ⌜ heldOut r ≡ symbolHeld (now (list .entry)) (heldOut held) (symbolAt (now (code .entry)) at) ⌝ }
+{
     let read = semcode_records::symbol::read_debug_symbol(code, at);
     let Symbol::Whole { symbol: s, next: _ } = read else {
         return Held {
@@ -32,7 +44,9 @@ fn symbol(list: &[u8], held: Held, code: &[u8], at: usize) -> Held {
 }
 
 // So many symbols, one after the other from `start` on.
-fn symbols(list: &[u8], held: Held, code: &[u8], start: usize, count: usize) -> Held {
+fn symbols(list: &[u8], held: Held, code: &[u8], start: usize, count: usize) -> Held
+    ensures { λ r. ⌜ heldOut r ≡ symbolsHeld (now (list .entry)) (now (code .entry)) count (heldOut held) start ⌝ }
+{
     let mut so_far = held;
     let mut at = start;
     let mut i: usize = 0;
@@ -51,7 +65,9 @@ fn strings_and_paths(
     string_count: usize,
     paths: &[u64],
     path_count: usize,
-) -> Held {
+) -> Held
+    ensures { λ r. ⌜ heldOut r ≡ startsHeld (now (list .entry)) (heldOut held) (now (strings .entry)) «string_count» (now (paths .entry)) «path_count» ⌝ }
+{
     let placed = crate::held::table(list, held, strings, string_count);
     crate::held::table(list, placed, paths, path_count)
 }
@@ -64,7 +80,9 @@ fn answer(
     parsed: Parse,
     strings: &[u64],
     paths: &[u64],
-) -> Held {
+) -> Held
+    ensures { λ r. ⌜ heldOut r ≡ parseHeld (now (list .entry)) at (now (input .entry)) (now (strings .entry)) (now (paths .entry)) (parseOut parsed) ⌝ }
+{
     let start = Held { at, same: true };
     match parsed {
         Parse::Refused(refused) => {
@@ -92,7 +110,24 @@ fn answer(
     }
 }
 
-// The whole answer to a block at a base and a revision, with room for so many symbols and with tables that held something before.
+// The whole answer to a block at a base and a revision, with room for so many symbols, which stands in the list from `at` on.
+fn parsed(
+    list: &[u8],
+    at: usize,
+    input: &[u8],
+    base: usize,
+    revision: u16,
+    room: usize,
+    strings: &mut [u64],
+    paths: &mut [u64],
+) -> Held
+    ensures { λ r. ⌜ heldOut r ≡ blockHeld (now (list .entry)) at (now (input .entry)) (length (now (strings .entry))) (length (now (paths .entry))) (decodeBlock base revision (roomsOf (now (strings .entry)) room (now (paths .entry))) (now (input .entry))) ⌝ }
+{
+    let parsed = semcode_decode::decode::parse_block(base, input, revision, room, strings, paths);
+    answer(list, at, input, parsed, strings, paths)
+}
+
+// The same, with tables that held something before.
 pub fn block(
     list: &[u8],
     at: usize,
@@ -102,9 +137,10 @@ pub fn block(
     room: usize,
     strings: &mut [u64],
     paths: &mut [u64],
-) -> Held {
+) -> Held
+    ensures { λ r. ⌜ heldOut r ≡ blockHeld (now (list .entry)) at (now (input .entry)) (length (now (strings .entry))) (length (now (paths .entry))) (decodeBlock base revision (roomsOf (now (strings .entry)) room (now (paths .entry))) (now (input .entry))) ⌝ }
+{
     crate::section::old(strings);
     crate::section::old(paths);
-    let parsed = semcode_decode::decode::parse_block(base, input, revision, room, strings, paths);
-    answer(list, at, input, parsed, strings, paths)
+    parsed(list, at, input, base, revision, room, strings, paths)
 }

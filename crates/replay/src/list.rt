@@ -1,6 +1,10 @@
 // The entries of a page of the list, one after the other.
 ghost use mathlib.Core.Path.{_≡_};
 ghost use Prim.Native.Nat.{min};
+ghost use lib.ListN.{length};
+ghost use Rattle.local_format.specs.Text.{bytesAt};
+ghost use Rattle.replay.specs.Replayed.{askedSection, askedBlock, entryAt, isEntry, none, replayed};
+ghost use Rattle.replay.specs.Maps.{heldOut, askedOut, tablesOf, tallyOut};
 use crate::asked::Asked;
 use crate::asked::Read;
 use crate::held::Held;
@@ -27,22 +31,39 @@ fn least(a: usize, b: usize) -> usize
     if a < b { a } else { b }
 }
 
+// The bytes of the list that an entry asks about.
+fn input(list: &[u8], asked: Asked) -> &[u8]
+    ensures { λ r. ⌜ now r ≡ bytesAt (now (list .entry)) (asked .start) (asked .len) ⌝ }
+{
+    evr0_head::span::bytes_of(
+        list,
+        Span {
+            start: asked.start,
+            len: asked.len,
+            chars: 0,
+            next: 0,
+        },
+    )
+}
+
 fn section(
     list: &[u8],
     asked: Asked,
-    input: &[u8],
     first: &mut [u64],
     second: &mut [u64],
     third: &mut [u64],
-) -> Held {
+) -> Held
+    ensures { λ r. ⌜ heldOut r ≡ askedSection (now (list .entry)) (length (now (first .entry))) (length (now (second .entry))) (length (now (third .entry))) (askedOut asked) ⌝ }
+{
     let at = local_format::refusal::diag_offset(asked.start, asked.len);
+    let part = input(list, asked);
     let a = least(asked.first, first.len());
     let b = least(asked.second, second.len());
     let c = least(asked.third, third.len());
     crate::section::section(
         list,
         at,
-        input,
+        part,
         asked.origin,
         &mut first[..a],
         &mut second[..b],
@@ -50,14 +71,17 @@ fn section(
     )
 }
 
-fn block(list: &[u8], asked: Asked, input: &[u8], first: &mut [u64], third: &mut [u64]) -> Held {
+fn block(list: &[u8], asked: Asked, first: &mut [u64], third: &mut [u64]) -> Held
+    ensures { λ r. ⌜ heldOut r ≡ askedBlock (now (list .entry)) (length (now (first .entry))) (length (now (third .entry))) (askedOut asked) ⌝ }
+{
     let at = local_format::refusal::diag_offset(asked.start, asked.len);
+    let part = input(list, asked);
     let a = least(asked.first, first.len());
     let c = least(asked.third, third.len());
     crate::block::block(
         list,
         at,
-        input,
+        part,
         asked.origin,
         asked.revision,
         asked.second,
@@ -67,7 +91,9 @@ fn block(list: &[u8], asked: Asked, input: &[u8], first: &mut [u64], third: &mut
 }
 
 // The entry at `at`. One that is cut is not the same, and nothing follows it.
-fn entry(list: &[u8], at: usize, first: &mut [u64], second: &mut [u64], third: &mut [u64]) -> Held {
+fn entry(list: &[u8], at: usize, first: &mut [u64], second: &mut [u64], third: &mut [u64]) -> Held
+    ensures { λ r. ⌜ heldOut r ≡ entryAt (now (list .entry)) (tablesOf (length (now (first .entry))) (length (now (second .entry))) (length (now (third .entry)))) at ⌝ }
+{
     let read = crate::asked::read_asked(list, at);
     let Read::Asked(asked) = read else {
         return Held {
@@ -75,23 +101,16 @@ fn entry(list: &[u8], at: usize, first: &mut [u64], second: &mut [u64], third: &
             same: false,
         };
     };
-    let input = evr0_head::span::bytes_of(
-        list,
-        Span {
-            start: asked.start,
-            len: asked.len,
-            chars: 0,
-            next: 0,
-        },
-    );
     if asked.decoder == 0 {
-        return section(list, asked, input, first, second, third);
+        return section(list, asked, first, second, third);
     }
-    block(list, asked, input, first, third)
+    block(list, asked, first, third)
 }
 
 // Whether an entry stands at `at`.
-fn next_entry(list: &[u8], at: usize) -> bool {
+fn next_entry(list: &[u8], at: usize) -> bool
+    ensures { λ r. ⌜ r ≡ isEntry (now (list .entry)) at ⌝ }
+{
     if list.len() <= at {
         return false;
     }
@@ -99,7 +118,9 @@ fn next_entry(list: &[u8], at: usize) -> bool {
 }
 
 // No list has more entries than bytes.
-pub fn replay(list: &[u8], first: &mut [u64], second: &mut [u64], third: &mut [u64]) -> Tally {
+pub fn replay(list: &[u8], first: &mut [u64], second: &mut [u64], third: &mut [u64]) -> Tally
+    ensures { λ r. ⌜ tallyOut r ≡ replayed (length (now (list .entry))) (now (list .entry)) (tablesOf (length (now (first .entry))) (length (now (second .entry))) (length (now (third .entry)))) 0 none ⌝ }
+{
     let mut at: usize = 0;
     let mut same: usize = 0;
     let mut others: usize = 0;

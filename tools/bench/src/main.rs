@@ -77,5 +77,5 @@ fn once(name: &str, side: &str, count: &str) {
     let count: u64 = count.parse().expect("a number");
     let plan = rows::all().into_iter().find(|plan| plan.name == name);
     let row = (plan.expect("a row's name").make)();
-    println!("{}", row.sum(side, count));
+    std::hint::black_box(row.sum(side, count));
 }

@@ -9,6 +9,7 @@ use falgnust::raw;
 pub use falgnust::raw::DebugSymbol;
 
 /// The symbols go to the lent list, the starts to the lent tables.
+#[inline]
 pub fn parse_string_table_debug_and_ownership(
     base_offset: usize,
     code: &[u8],
@@ -36,6 +37,7 @@ pub fn parse_string_table_debug_and_ownership(
 }
 
 /// The symbol at a place, and the place after it.
+#[inline]
 pub fn read_debug_symbol(code: &[u8], at: usize) -> Answer<(Symbol, usize)> {
     symbol(calls::read_debug_symbol(code, at))
 }
@@ -62,6 +64,7 @@ pub struct Head {
     pub next: usize,
 }
 
+#[inline]
 pub fn read_path(code: &[u8], at: usize, header_rev: u16) -> Answer<Head> {
     path(calls::read_path(code, at, header_rev))
 }
@@ -90,6 +93,7 @@ pub(crate) fn path(p: raw::Path) -> Answer<Head> {
 }
 
 /// The component at a place of a path with this event kind, and the place after it.
+#[inline]
 pub fn read_component(
     code: &[u8],
     at: usize,

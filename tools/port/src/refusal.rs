@@ -3,6 +3,7 @@
 use answers::refusal::{Kind, Refusal};
 use falgnust::raw;
 
+#[inline]
 pub fn answer(r: raw::Refusal) -> Refusal {
     Refusal {
         kind: Kind::ALL[r.kind as usize],

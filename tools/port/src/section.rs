@@ -6,6 +6,7 @@ use answers::section::Head;
 use falgnust::calls::{self, SectionTables};
 
 /// The answer, and the cursor after the call. Starts and depths go to the lent tables.
+#[inline]
 pub fn decode_evr0_section(
     bytes: &[u8],
     cursor: usize,

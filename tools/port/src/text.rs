@@ -18,10 +18,12 @@ pub(crate) fn answer(t: Text) -> Answer<Span> {
     })
 }
 
+#[inline]
 pub fn read_text(bytes: &[u8], at: usize) -> Answer<Span> {
     answer(calls::read_text(bytes, at))
 }
 
+#[inline]
 pub fn read_string(bytes: &[u8], at: usize) -> Answer<Span> {
     answer(calls::read_string(bytes, at))
 }

@@ -4,6 +4,7 @@ use answers::text::Scanned;
 use falgnust::calls;
 
 /// None where the bytes are not UTF-8.
+#[inline]
 pub fn scan(bytes: &[u8]) -> Option<Scanned> {
     let s = calls::scan(bytes);
     (s.answer != 0).then_some(Scanned {
@@ -13,6 +14,7 @@ pub fn scan(bytes: &[u8]) -> Option<Scanned> {
 }
 
 /// None where the bytes pass the end.
+#[inline]
 pub fn read_utf8(bytes: &[u8], at: usize, len: usize) -> Option<(Option<Scanned>, usize)> {
     let u = calls::read_utf8(bytes, at, len);
     let scanned = u.text.then_some(Scanned {

@@ -1,8 +1,10 @@
--- Meets its contract. A part of a table is as long as the lesser of the length asked for and its own.
+-- Meets its contract: a part of a table is as long as the lesser of the length asked for and its own.
 use borrow.Author.Needs.{needs}
 use native.Mathlib.Omega.{arith}
-use mathlib.Core.Path.{sym}
+use mathlib.Core.Path.{sym, _∙_}
 use lib.Seq.{length-take-le}
+use Rattle.replay.specs.Maps.{askedOut}
+use Rattle.replay.proofs.ToldLaws.{block-asked}
 use Rattle.replay.proofs.list.block.Statement.{statement}
 use Rattle.replay.proofs.list.block.Tie as tie
 
@@ -12,10 +14,18 @@ slice-aggregate-block c = sym (length-take-le (c .before .before .least .result)
 slice-aggregate-block-2 : tie.Need-slice-aggregate-block-2
 slice-aggregate-block-2 c = sym (length-take-le (c .before .before .least2 .result) (c .before .before .before .before .before .before .before .before .before .args .third .now) (omega arith))
 
+returns : tie.Need-returns
+returns c =
+    let a = c .before .before .before .before .before .before .before .before .before .before .before .before .before .before .args in
+    let f = length-take-le (c .before .before .before .before .before .before .before .before .least .result) (a .first .now) (omega arith) ∙ c .before .before .before .before .before .before .before .before .least .ensures in
+    let h = length-take-le (c .before .before .before .before .before .before .before .least2 .result) (a .third .now) (omega arith) ∙ c .before .before .before .before .before .before .before .least2 .ensures in
+    block-asked _ (askedOut (a .asked)) _ _ _ (c .before .before .before .before .before .before .before .before .before .before .diag-offset .ensures) (c .before .before .before .before .before .before .before .before .before .input .ensures) _ _ _ _ f h (c .before .before .before .before .block .ensures)
+
 pub block-spec : {M : Type 1} → statement M
 block-spec =
     tie.close
     (tie.spec
+    (λ c κs. search needs)
     (λ c κs. search needs)
     (λ c κs. search needs)
     (λ c κs. search needs)
@@ -26,4 +36,4 @@ block-spec =
     (λ c κs. search needs)
     (λ c. search needs)
     (λ c. search needs)
-    (λ c. search needs))
+    returns)
