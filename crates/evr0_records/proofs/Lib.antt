@@ -1,2 +1,3 @@
 pub mod OrderLaws
 pub mod ProofLaws
+pub mod ZerosLaws

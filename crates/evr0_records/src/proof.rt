@@ -1,9 +1,11 @@
 // Proof records and their checks.
 ghost use mathlib.Core.Path.{_≡_};
+ghost use Prim.Native.Nat.{_+_, _≤_};
+ghost use lib.ListN.{length, getD};
 ghost use Rattle.local_format.specs.Out.{refuse};
 ghost use Rattle.derivation.specs.Rule.{fourRules};
-ghost use Rattle.evr0_section.specs.Proof.{proofOf, hasNumbers, checkProof};
-ghost use Rattle.evr0_head.specs.Maps.{countsOut};
+ghost use Rattle.evr0_section.specs.Proof.{zerosAt, proofOf, hasNumbers, checkProof};
+ghost use Rattle.evr0_head.specs.Maps.{countsOut, placeOut};
 ghost use Rattle.evr0_records.specs.Checks.{isNext, isContiguous, endsWithin};
 ghost use Rattle.evr0_records.specs.Maps.{unownedOut, ruleOut, proofRecord, proofOut, settledOut};
 use crate::rule::Named;
@@ -52,6 +54,21 @@ fn cut(at: usize) -> ProofRead
     ensures { λ r. ⌜ proofOut r ≡ refuse 5 at ⌝ }
 {
     ProofRead::Refused(local_format::refusal::refuse(5, at))
+}
+
+// The three reserved bytes after the byte `first` at `at`, read with it as one field of four.
+fn zeros_after(bytes: &[u8], first: u8, at: usize, zeros_at: usize) -> Place
+    requires { ⌜ (first ≡ getD (now bytes) at 0) × («zeros_at» ≡ at + 1) × (at + 1 ≤ length (now bytes)) ⌝ }
+    ensures { λ r. ⌜ placeOut r ≡ zerosAt (now (bytes .entry)) «zeros_at» ⌝ }
+{
+    let four = local_format::field::read_u32_le(bytes, at);
+    let U32::Value { value, next } = four else {
+        return Place::Refused(local_format::refusal::refuse(5, zeros_at));
+    };
+    if value != first as u32 {
+        return Place::Refused(local_format::refusal::refuse(9, next));
+    }
+    Place::Next(next)
 }
 
 // The proof at the front of `tail`.
@@ -132,7 +149,7 @@ pub fn read_proof(tail: &[u8]) -> ProofRead
     else {
         return cut(operation_at);
     };
-    let zeros = evr0_head::place::read_zeros(tail, zeros_at);
+    let zeros = zeros_after(tail, authorized_operation, operation_at, zeros_at);
     let Place::Next(size) = zeros else {
         return ProofRead::Refused(evr0_head::place::place_refusal(zeros));
     };

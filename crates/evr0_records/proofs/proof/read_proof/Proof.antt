@@ -1,5 +1,8 @@
 -- Each return is the definition with what its fields and its text were found to be.
+use mathlib.Core.Path.{sym, _∙_}
 use borrow.Author.Needs.{needs}
+use Rattle.local_format.specs.Maps.{u8Out}
+use Rattle.local_format.proofs.FieldLaws.{field-told, field-ok, le-1}
 use Rattle.evr0_section.specs.Proof.{proofOf}
 use Rattle.evr0_records.proofs.proof.read_proof.Statement.{statement}
 use Rattle.evr0_records.proofs.proof.read_proof.Tie as tie
@@ -238,6 +241,13 @@ returns-9 c =
       c .before .enum-told9 .given .1,
     )
 
+zeros-after-requires : tie.Need-zeros-after-requires
+zeros-after-requires c κs =
+    let o = c .before in
+    let t = o .before .before in
+    let x = field-ok 5 1 _ _ (field-told u8Out 5 _ (t .read-u8 .ensures) (o .operation .given .1)) in
+    (x .2 ∙ sym (le-1 _ _), x .0, x .1)
+
 returns-10 : tie.Need-returns-10
 unfolding proofOf
 returns-10 c =
@@ -280,7 +290,7 @@ returns-10 c =
       p9 .parents .given .1,
       ← p7 .read-u8 .ensures,
       p5 .operation .given .1,
-      ← p3 .read-zeros .ensures,
+      ← p3 .zeros-after .ensures,
       c .before .enum-told10 .given .1,
     )
 
@@ -325,7 +335,7 @@ returns-11 c =
       p9 .parents .given .1,
       ← p7 .read-u8 .ensures,
       p5 .operation .given .1,
-      ← p3 .read-zeros .ensures,
+      ← p3 .zeros-after .ensures,
       c .before .zeros .given .1,
     )
 
@@ -378,7 +388,7 @@ read-proof-spec =
     (λ c. search needs)
     (λ c κs. search needs)
     returns-9
-    (λ c κs. search needs)
+    zeros-after-requires
     (λ c. search needs)
     (λ c. search needs)
     (λ c κs. search needs)
