@@ -8,6 +8,7 @@ use lib.ListN.{length, take, length-map}
 use Rattle.local_format.specs.Out.{Out, ok, refuse, _>>=_}
 use Rattle.local_format.specs.Number.{numbered}
 use Rattle.local_format.proofs.OutLaws.{on-ok, on-refused}
+use Rattle.local_format.proofs.NumberLaws.{not-there, is-there}
 use Rattle.lent_table.specs.Lent.{lent}
 use Rattle.derivation.specs.Rule.{fourRules}
 use Rattle.derivation.specs.Down.{Down, wayDown, authorised}
@@ -19,7 +20,6 @@ use Rattle.evr0.specs.Maps.{startsOf}
 use Rattle.evr0_read.specs.Ask.{wayDownFrom, authorisedNumber}
 use Rattle.evr0_read.specs.Asked.{Decoded, valueIn}
 use Rattle.evr0_read.specs.Held.{Held}
-use Rattle.evr0_read.proofs.FoundLaws.{is-found, not-found}
 use Rattle.evr0_read.proofs.NumberedLaws.{parents-at}
 use Rattle.evr0_read.proofs.AskLaws.{Told, told-of, facts, payload, payload-read, front, picked}
 
@@ -38,19 +38,19 @@ isAuthorised k y = do
 module _ {x : Out Section} {d : Section} (is : x ≡ ok d) (k : ℕ) where
   pub way-there : (limit : ℕ) → k < length (d .tables .proofs .entries) → ok (wayDown (sectionOf (d .tables)) limit k) ≡ valueIn (λ v. v) (wayDownFrom limit k x)
   unfolding wayDownFrom
-  way-there limit h = picked (λ v. v) (wayFrom limit k) x (ok _) is (on-ok _ (is-found k (d .tables .proofs .entries) h .1))
+  way-there limit h = picked (λ v. v) (wayFrom limit k) x (ok _) is (on-ok _ (is-there k (d .tables .proofs .entries) h .1))
 
   pub way-gone : (limit : ℕ) → length (d .tables .proofs .entries) ≤ k → refuse 62 0 ≡ valueIn (λ v. v) (wayDownFrom limit k x)
   unfolding wayDownFrom
-  way-gone limit h = picked (λ v. v) (wayFrom limit k) x (refuse 62 0) is (on-refused _ (not-found k (d .tables .proofs .entries) h))
+  way-gone limit h = picked (λ v. v) (wayFrom limit k) x (refuse 62 0) is (on-refused _ (not-there k (d .tables .proofs .entries) h))
 
   pub authorised-there : k < length (d .tables .propositions .entries) → ok (authorised (sectionOf (d .tables)) k) ≡ valueIn (λ v. v) (authorisedNumber k x)
   unfolding authorisedNumber
-  authorised-there h = picked (λ v. v) (isAuthorised k) x (ok _) is (on-ok _ (is-found k (d .tables .propositions .entries) h .1))
+  authorised-there h = picked (λ v. v) (isAuthorised k) x (ok _) is (on-ok _ (is-there k (d .tables .propositions .entries) h .1))
 
   pub authorised-gone : length (d .tables .propositions .entries) ≤ k → refuse 62 0 ≡ valueIn (λ v. v) (authorisedNumber k x)
   unfolding authorisedNumber
-  authorised-gone h = picked (λ v. v) (isAuthorised k) x (refuse 62 0) is (on-refused _ (not-found k (d .tables .propositions .entries) h))
+  authorised-gone h = picked (λ v. v) (isAuthorised k) x (refuse 62 0) is (on-refused _ (not-there k (d .tables .propositions .entries) h))
 
 module _ (s : List ℕ) (cursor : ℕ) {d : answer.Answer} {x : Out Section} (decoding : Decoded s cursor d x) {a : answer.Accepted} (is : d .outcome ≡ ok a) where
   abbrev told : Told x (d .cursor) (a .counts)

@@ -1,33 +1,14 @@
 -- The record of a number stands at the start of that number: along the trace of a table that was read.
-use Prim.Native.Nat.{ℕ, zero, suc, _+_, _*_, _≤_, _<_}
-use mathlib.Core.Path.{_≡_, refl, ap}
-use mathlib.Core.List.{List, [], _∷_, map}
+use Prim.Native.Nat.{ℕ, zero, suc, _+_, _*_, _<_}
+use mathlib.Core.Path.{_≡_, refl}
+use mathlib.Core.List.{List}
 use native.Mathlib.Omega.{arith}
-use lib.ListN.{length, getD, drop}
-use Rattle.local_format.specs.Out.{Out, ok, refuse}
-use Rattle.local_format.proofs.OutLaws.{never, ok-same}
+use lib.ListN.{getD, drop}
+use Rattle.local_format.specs.Out.{Out, ok}
 use Rattle.local_format.specs.Number.{numbered}
 use Rattle.evr0_section.specs.Rows.{Row, Entry}
 use Rattle.evr0_section.proofs.RowsLaws.{Trace, none, more}
 use Rattle.evr0.specs.Maps.{startsOf}
-
-pub not-found : {A : Type 0} (i : ℕ) (es : List (Entry A)) → length es ≤ i → numbered i es ≡ refuse 62 0
-unfolding numbered
-not-found i [] h = refl
-not-found zero (e ∷ es) h = absurd (omega arith)
-not-found (suc i) (e ∷ es) h = not-found i es (omega arith)
-
-pub is-found : {A : Type 0} (i : ℕ) (es : List (Entry A)) → i < length es → (e : Entry A) × (numbered i es ≡ ok e)
-unfolding numbered
-is-found i [] h = absurd (omega arith)
-is-found zero (e ∷ es) h = (e, refl)
-is-found (suc i) (e ∷ es) h = is-found i es (omega arith)
-
-pub found-map : {A B : Type 0} (f : Entry A → B) (d : B) (es : List (Entry A)) (i : ℕ) {e : Entry A} → numbered i es ≡ ok e → getD (map f es) i d ≡ f e
-unfolding numbered
-found-map f d [] i e = absurd (never e)
-found-map f d (x ∷ es) zero e = ap f (ok-same e)
-found-map f d (x ∷ es) (suc i) e = found-map f d es i e
 
 module _ {A S : Type 0} (row : S → List ℕ → Out (Row A S)) (p : List ℕ) where
   -- the i-th entry, and the row that was read at its start

@@ -11,6 +11,7 @@ use Rattle.local_format.specs.Field.{le, fieldAt, whole}
 use Rattle.local_format.specs.Text.{sectionField}
 use Rattle.local_format.proofs.OutLaws.{never, ok-same, bind-ok}
 use Rattle.local_format.proofs.FieldLaws.{field-ok, is-whole, le-drop}
+use Rattle.local_format.proofs.NumberLaws.{there-map}
 use Rattle.derivation.specs.Rule.{Rule, fourRules}
 use Rattle.derivation.specs.Section.{Proof, Checked, noProof, proofAt, parentAt, proofTotal, parentTotal}
 use Rattle.derivation.specs.Walk.{stay}
@@ -27,7 +28,7 @@ use Rattle.evr0_section.proofs.RowsLaws.{trace, trace-length}
 use Rattle.evr0_section.proofs.CheckedTables.{Steps, steps, tables-checked}
 use Rattle.evr0.specs.Maps.{startsOf}
 use Rattle.evr0_read.specs.Held.{Held, proofIn}
-use Rattle.evr0_read.proofs.FoundLaws.{Found, trace-found, found-map, fixed-start}
+use Rattle.evr0_read.proofs.FoundLaws.{Found, trace-found, fixed-start}
 
 -- the proof of a record and its rule
 abbrev pub proofOfRecord : ProofRecord → Rule → Proof
@@ -71,7 +72,7 @@ module _ (p starts : List ℕ) (d : Section) (held : Held p starts d) where
         b .proof,
         f .entry .item .rule,
         rw (lt-ltb k (length starts) h, start) (b .read),
-        found-map proofItem noProof es k (f .found) ∙ ap (λ (x : ProofRecord). proofOfRecord x (f .entry .item .rule)) (sym same),
+        there-map proofItem noProof es k (f .found) ∙ ap (λ (x : ProofRecord). proofOfRecord x (f .entry .item .rule)) (sym same),
       )
 
   pub proof-there : (k : ℕ) {r : Refusal} → k < length starts → proofIn p starts k ≡ refused r → ⊥
@@ -108,6 +109,6 @@ module _ (p starts : List ℕ) (d : Section) (held : Held p starts d) where
       let k = parent-cell (f .state) (drop (getD (startsOf es) c 0) p) (f .read) (f .reads) in
       let start : getD (startsOf es) c 0 ≡ at + 4 * c = fixed-start parentRow p 4 (λ u s r e. parent-cell u s r e .0) w c l in
       let value : getD (map parentItem es) c 0 ≡ le 4 (drop at p) (4 * c) =
-      found-map parentItem 0 es c (f .found) ∙ sym (f .item) ∙ k .1 ∙ le-drop 4 p (getD (startsOf es) c 0) 0 ∙ ap (le 4 p) (omega (arith, start)) ∙ sym (le-drop 4 p at (4 * c)) in
+      there-map parentItem 0 es c (f .found) ∙ sym (f .item) ∙ k .1 ∙ le-drop 4 p (getD (startsOf es) c 0) 0 ∙ ap (le 4 p) (omega (arith, start)) ∙ sym (le-drop 4 p at (4 * c)) in
       let room : 4 ≤ length (drop at p) - 4 * c = rw length-drop (omega (arith, start, k .2, length-drop (getD (startsOf es) c 0) p)) in
       sym (is-whole 4 (drop at p) (4 * c) (getD (map parentItem es) c 0) room (omega arith) value)

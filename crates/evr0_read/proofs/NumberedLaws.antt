@@ -10,6 +10,7 @@ use borrow.Author.Tests.{ltb-true, ltb-false}
 use Rattle.local_format.specs.Out.{Out, ok, refused, _>>=_}
 use Rattle.local_format.specs.Number.{numbered}
 use Rattle.local_format.proofs.OutLaws.{bind-ok, checked-ok, ok-same}
+use Rattle.local_format.proofs.NumberLaws.{not-there, there-map}
 use Rattle.derivation.specs.Rule.{Rule}
 use Rattle.evr0_section.specs.Rows.{Sized, Row, Entry}
 use Rattle.evr0_section.specs.Head.{Counts, Room}
@@ -24,7 +25,7 @@ use Rattle.evr0_section.proofs.RowsLaws.{Trace, trace, trace-length}
 use Rattle.evr0.specs.Maps.{startsOf}
 use Rattle.evr0_read.specs.Entry.{shown, shownProposition, shownProof, placedProposition, placedProof, placedWitness, placedParent, recordAt, entryAt}
 use Rattle.evr0_read.specs.Place.{witnessPlace, parentPlace}
-use Rattle.evr0_read.proofs.FoundLaws.{not-found, found-map, trace-found, fixed-size, fixed-start}
+use Rattle.evr0_read.proofs.FoundLaws.{trace-found, fixed-size, fixed-start}
 use Rattle.evr0_read.proofs.HeldLaws.{parent-cell}
 use Rattle.evr0_read.proofs.EntryLaws.{record-found, entry-none, entry-there}
 use Rattle.evr0_read.proofs.PlaceLaws.{witness-there, parent-there}
@@ -53,7 +54,7 @@ module _ {A S X B : Type 0} (row : S → List ℕ → Out (Row A S)) (read : Lis
       let start = getD (startsOf es) k 0 in
       let b = behind (x .state) (drop start p) (x .read) (x .reads) in
       sym (record-found read place p start (b .1) (sym (b .2 start)))
-      ∙ ap₂ showing (found-map (λ e. e .start) 0 es k (x .found)) (x .item)
+      ∙ ap₂ showing (there-map (λ e. e .start) 0 es k (x .found)) (x .item)
       ∙ ap (shownIn f) (sym (x .found))
 
   pub entry-numbered : (start k : ℕ) → (k < n → start ≡ getD (startsOf es) k 0) → entryAt read place p n start k ≡ shownIn f (numbered k es)
@@ -63,7 +64,7 @@ module _ {A S X B : Type 0} (row : S → List ℕ → Out (Row A S)) (read : Lis
       go true e =
           let l : k < n = ltb-true k n e in
           sym (entry-there read place p start n k l) ∙ ap (recordAt read place p) (h l) ∙ record-numbered k l
-      go false e = sym (entry-none read place p start n k (ltb-false k n e)) ∙ ap (shownIn f) (sym (not-found k es (omega (arith, ltb-false k n e, trace-length row p w))))
+      go false e = sym (entry-none read place p start n k (ltb-false k n e)) ∙ ap (shownIn f) (sym (not-there k es (omega (arith, ltb-false k n e, trace-length row p w))))
 
 -- ---- The records behind the rows
 

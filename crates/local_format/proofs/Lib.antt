@@ -7,3 +7,4 @@ pub mod ScanLaws
 pub mod CharLaws
 pub mod TextLaws
 pub mod Encoding
+pub mod NumberLaws

@@ -7,7 +7,7 @@ use mathlib.Core.List.{List, [], _∷_}
 use lib.Dec.{leb}
 use lib.ListN.{length, getD}
 use borrow.Author.Tests.{leb-true, leb-false}
-use Rattle.local_format.specs.Out.{Out, ok, refuse, _>>=_, _>>_}
+use Rattle.local_format.specs.Out.{Out, ok, _>>=_, _>>_}
 use Rattle.local_format.specs.Field.{field}
 use Rattle.local_format.specs.Tag.{tagAt, dbg0, own0}
 use Rattle.local_format.specs.Text.{Span}
@@ -30,12 +30,6 @@ pub record There {A : Type 0} (read : ℕ → Out (Taken A)) (at i : ℕ) (t : T
   pub start : getD (startsOf t) i 0 ≡ entry .start
   pub again : read (entry .start) ≡ taken (entry .value) (entry .next)
   pub passed : ends (records read i at) ≡ ok (entry .start)
-
-pub not-there : {A : Type 0} (i : ℕ) (es : List (Entry A)) → length es ≤ i → numbered i es ≡ refuse 62 0
-unfolding numbered
-not-there i [] h = refl
-not-there zero (e ∷ es) h = absurd (omega arith)
-not-there (suc i) (e ∷ es) h = not-there i es (omega arith)
 
 module _ {A : Type 0} (read : ℕ → Out (Taken A)) where
   -- a table with a first record

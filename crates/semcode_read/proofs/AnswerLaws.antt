@@ -9,6 +9,7 @@ use Rattle.local_format.specs.Out.{Out, ok, refused, refuse}
 use Rattle.local_format.specs.Text.{stringAt}
 use Rattle.local_format.specs.Number.{numbered, choose}
 use Rattle.local_format.proofs.OutLaws.{based-ok}
+use Rattle.local_format.proofs.NumberLaws.{not-there}
 use Rattle.lent_table.specs.Lent.{lent}
 use Rattle.semcode_records.specs.Records.{Entry}
 use Rattle.semcode_records.specs.Symbol.{symbolAt}
@@ -16,7 +17,6 @@ use Rattle.semcode_records.specs.Path.{headAt}
 use Rattle.semcode_decode.specs.Block.{Rooms, Block, blockOf}
 use Rattle.semcode_decode.specs.Layout.{Layout, layoutOf, layout, stringStarts, pathStarts, roomsOf}
 use Rattle.semcode_decode.specs.Number.{decodeAnew, stringNumber, symbolNumber, pathNumber, takenIn, textIn, headIn}
-use Rattle.semcode_decode.proofs.ReadLaws.{not-there}
 use Rattle.semcode_read.specs.After.{Lent}
 use Rattle.semcode_read.proofs.NumberLaws.{tables-kept, lent-entry, block-refused, not-picked, layout-ok, string-found, symbol-found, path-found}
 

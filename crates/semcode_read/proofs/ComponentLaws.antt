@@ -11,13 +11,14 @@ use Rattle.local_format.specs.Refusal.{Refusal}
 use Rattle.local_format.specs.Out.{Out, ok, refused, refuse, _>>=_}
 use Rattle.local_format.specs.Number.{numbered}
 use Rattle.local_format.proofs.OutLaws.{never, refused-same, ok-same, on-ok}
+use Rattle.local_format.proofs.NumberLaws.{not-there}
 use Rattle.semcode_records.specs.Records.{Taken, taken, Entry}
 use Rattle.semcode_records.specs.Component.{Component, componentAt}
 use Rattle.semcode_records.specs.Path.{Path, kindOfEvent, pathAt, Head, headOf}
 use Rattle.semcode_records.proofs.PathLaws.{path-components}
 use Rattle.semcode_decode.specs.Block.{Rooms, Block, blockOf}
 use Rattle.semcode_decode.specs.Number.{Asked, pathNumber, componentNumber, blockIn, takenIn, headIn}
-use Rattle.semcode_decode.proofs.ReadLaws.{there, not-there, tables-read}
+use Rattle.semcode_decode.proofs.ReadLaws.{there, tables-read}
 use Rattle.semcode_read.specs.After.{componentAfter}
 
 within : {A : Type 0} (n : ℕ) (es : List (Entry A)) {e : Entry A} → numbered n es ≡ ok e → n < length es
