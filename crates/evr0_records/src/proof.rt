@@ -3,10 +3,11 @@ ghost use mathlib.Core.Path.{_≡_};
 ghost use Prim.Native.Nat.{_+_, _≤_};
 ghost use lib.ListN.{length, getD};
 ghost use Rattle.local_format.specs.Out.{refuse};
+ghost use Rattle.local_format.specs.Field.{le};
 ghost use Rattle.derivation.specs.Rule.{fourRules};
 ghost use Rattle.evr0_section.specs.Proof.{zerosAt, proofOf, hasNumbers, checkProof};
-ghost use Rattle.evr0_head.specs.Maps.{countsOut, placeOut};
-ghost use Rattle.evr0_records.specs.Checks.{isNext, isContiguous, endsWithin};
+ghost use Rattle.evr0_head.specs.Maps.{countsOut, placeOut, spanOut};
+ghost use Rattle.evr0_records.specs.Checks.{restOf, isNext, isContiguous, endsWithin};
 ghost use Rattle.evr0_records.specs.Maps.{unownedOut, ruleOut, proofRecord, proofOut, settledOut};
 use crate::rule::Named;
 use crate::rule::Rule;
@@ -71,43 +72,58 @@ fn zeros_after(bytes: &[u8], first: u8, at: usize, zeros_at: usize) -> Place
     Place::Next(next)
 }
 
-// The proof at the front of `tail`.
-pub fn read_proof(tail: &[u8]) -> ProofRead
-    ensures { λ r. ⌜ proofOut r ≡ proofOf (now (tail .entry)) ⌝ }
+// The field of four bytes at a place.
+fn four_at(bytes: &[u8], at: usize) -> u32
+    requires { ⌜ at + 4 ≤ length (now bytes) ⌝ }
+    ensures { λ r. ⌜ r ≡ le 4 (now (bytes .entry)) at ⌝ }
 {
-    let number = local_format::field::read_u32_le(tail, 0);
-    let U32::Value {
-        value: proof_id,
-        next: proposition_at,
-    } = number
-    else {
-        return cut(0);
-    };
-    let proposition = local_format::field::read_u32_le(tail, proposition_at);
-    let U32::Value {
-        value: proposition_index,
-        next: rule_at,
-    } = proposition
-    else {
-        return cut(proposition_at);
-    };
-    let rule = local_format::text::read_text(tail, rule_at);
-    let Text::Whole {
-        start,
-        len,
-        chars,
-        next: authority_at,
-    } = rule
-    else {
-        return ProofRead::Refused(local_format::text::text_refusal(rule));
-    };
-    let authority = local_format::field::read_u32_le(tail, authority_at);
+    local_format::field::le32(bytes[at], bytes[at + 1], bytes[at + 2], bytes[at + 3])
+}
+
+// What follows a proof's rule where all 24 bytes of it are there.
+fn read_whole_rest(tail: &[u8], proof_id: u32, proposition_index: u32, rule_id: Span) -> ProofRead
+    requires { ⌜ «rule_id» .next + 24 ≤ length (now tail) ⌝ }
+    ensures { λ r. ⌜ proofOut r ≡ restOf (now (tail .entry)) «proof_id» «proposition_index» (spanOut «rule_id») ⌝ }
+{
+    let at = rule_id.next;
+    let authority_context = four_at(tail, at);
+    let witness_first = four_at(tail, at + 4);
+    let witness_count = four_at(tail, at + 8);
+    let parent_first = four_at(tail, at + 12);
+    let parent_count = four_at(tail, at + 16);
+    let authorized_operation = tail[at + 20];
+    let last = four_at(tail, at + 20);
+    let size = at + 24;
+    if last != local_format::field::le32(authorized_operation, 0, 0, 0) {
+        return ProofRead::Refused(local_format::refusal::refuse(9, size));
+    }
+    ProofRead::Read {
+        proof: Proof {
+            proof_id: ProofNumber(proof_id),
+            proposition_index: PropositionIndex(proposition_index),
+            rule_id,
+            authority_context,
+            witness_first: WitnessNumber(witness_first),
+            witness_count,
+            parent_first,
+            parent_count,
+            authorized_operation,
+        },
+        size,
+    }
+}
+
+// What follows a proof's rule, field by field.
+fn read_rest(tail: &[u8], proof_id: u32, proposition_index: u32, rule_id: Span) -> ProofRead
+    ensures { λ r. ⌜ proofOut r ≡ restOf (now (tail .entry)) «proof_id» «proposition_index» (spanOut «rule_id») ⌝ }
+{
+    let authority = local_format::field::read_u32_le(tail, rule_id.next);
     let U32::Value {
         value: authority_context,
         next: witness_first_at,
     } = authority
     else {
-        return cut(authority_at);
+        return cut(rule_id.next);
     };
     let first_witness = local_format::field::read_u32_le(tail, witness_first_at);
     let U32::Value {
@@ -157,12 +173,7 @@ pub fn read_proof(tail: &[u8]) -> ProofRead
         proof: Proof {
             proof_id: ProofNumber(proof_id),
             proposition_index: PropositionIndex(proposition_index),
-            rule_id: Span {
-                start,
-                len,
-                chars,
-                next: authority_at,
-            },
+            rule_id,
             authority_context,
             witness_first: WitnessNumber(witness_first),
             witness_count,
@@ -172,6 +183,48 @@ pub fn read_proof(tail: &[u8]) -> ProofRead
         },
         size,
     }
+}
+
+// The proof at the front of `tail`.
+pub fn read_proof(tail: &[u8]) -> ProofRead
+    ensures { λ r. ⌜ proofOut r ≡ proofOf (now (tail .entry)) ⌝ }
+{
+    let number = local_format::field::read_u32_le(tail, 0);
+    let U32::Value {
+        value: proof_id,
+        next: proposition_at,
+    } = number
+    else {
+        return cut(0);
+    };
+    let proposition = local_format::field::read_u32_le(tail, proposition_at);
+    let U32::Value {
+        value: proposition_index,
+        next: rule_at,
+    } = proposition
+    else {
+        return cut(proposition_at);
+    };
+    let rule = local_format::text::read_text(tail, rule_at);
+    let Text::Whole {
+        start,
+        len,
+        chars,
+        next: authority_at,
+    } = rule
+    else {
+        return ProofRead::Refused(local_format::text::text_refusal(rule));
+    };
+    let rule_id = Span {
+        start,
+        len,
+        chars,
+        next: authority_at,
+    };
+    if tail.len() - authority_at < 24 {
+        return read_rest(tail, proof_id, proposition_index, rule_id);
+    }
+    read_whole_rest(tail, proof_id, proposition_index, rule_id)
 }
 
 fn unsettled(number: u8) -> Settled

@@ -1,8 +1,8 @@
--- Each return is the definition with what its fields and its text were found to be.
-use mathlib.Core.Path.{sym, _∙_}
+-- Each return is the definition with what its fields and its text were found to be; after the text, what is left of it.
 use borrow.Author.Needs.{needs}
-use Rattle.local_format.specs.Maps.{u8Out}
-use Rattle.local_format.proofs.FieldLaws.{field-told, field-ok, le-1}
+use Rattle.local_format.specs.Maps.{textOut}
+use Rattle.local_format.proofs.OutLaws.{told}
+use Rattle.local_format.proofs.TextLaws.{text-ok}
 use Rattle.evr0_section.specs.Proof.{proofOf}
 use Rattle.evr0_records.proofs.proof.read_proof.Statement.{statement}
 use Rattle.evr0_records.proofs.proof.read_proof.Tie as tie
@@ -49,6 +49,12 @@ returns-3 c =
       c .before .enum-told3 .given .1,
     )
 
+sub-if1 : tie.Need-sub-if1
+sub-if1 c =
+    let o = c .before in
+    let t = o .before .before in
+    text-ok _ _ (told textOut (t .read-text .ensures) (o .rule .given .1)) .4
+
 returns-4 : tie.Need-returns-4
 unfolding proofOf
 returns-4 c =
@@ -58,17 +64,14 @@ returns-4 c =
     let p9 = p7 .before .before in
     let p11 = p9 .before .before in
     let p13 = p11 .before .before in
-    let p15 = p13 .before .before in
     rw (
-      c .cut3 .ensures,
-      ← p15 .read-u32-le .ensures,
-      p13 .number .given .1,
-      ← p11 .read-u32-le2 .ensures,
-      p9 .proposition .given .1,
-      ← p7 .read-text .ensures,
-      p5 .rule .given .1,
-      ← p3 .read-u32-le3 .ensures,
-      c .before .enum-told4 .given .1,
+      c .read-rest .ensures,
+      ← p13 .read-u32-le .ensures,
+      p11 .number .given .1,
+      ← p9 .read-u32-le2 .ensures,
+      p7 .proposition .given .1,
+      ← p5 .read-text .ensures,
+      p3 .rule .given .1,
     )
 
 returns-5 : tie.Need-returns-5
@@ -80,263 +83,14 @@ returns-5 c =
     let p9 = p7 .before .before in
     let p11 = p9 .before .before in
     let p13 = p11 .before .before in
-    let p15 = p13 .before .before in
-    let p17 = p15 .before .before in
-    let p19 = p17 .before .before in
     rw (
-      c .cut4 .ensures,
-      ← p19 .read-u32-le .ensures,
-      p17 .number .given .1,
-      ← p15 .read-u32-le2 .ensures,
-      p13 .proposition .given .1,
-      ← p11 .read-text .ensures,
-      p9 .rule .given .1,
-      ← p7 .read-u32-le3 .ensures,
-      p5 .authority .given .1,
-      ← p3 .read-u32-le4 .ensures,
-      c .before .enum-told5 .given .1,
-    )
-
-returns-6 : tie.Need-returns-6
-unfolding proofOf
-returns-6 c =
-    let p3 = c .before .before .before in
-    let p5 = p3 .before .before in
-    let p7 = p5 .before .before in
-    let p9 = p7 .before .before in
-    let p11 = p9 .before .before in
-    let p13 = p11 .before .before in
-    let p15 = p13 .before .before in
-    let p17 = p15 .before .before in
-    let p19 = p17 .before .before in
-    let p21 = p19 .before .before in
-    let p23 = p21 .before .before in
-    rw (
-      c .cut5 .ensures,
-      ← p23 .read-u32-le .ensures,
-      p21 .number .given .1,
-      ← p19 .read-u32-le2 .ensures,
-      p17 .proposition .given .1,
-      ← p15 .read-text .ensures,
-      p13 .rule .given .1,
-      ← p11 .read-u32-le3 .ensures,
-      p9 .authority .given .1,
-      ← p7 .read-u32-le4 .ensures,
-      p5 .first-witness .given .1,
-      ← p3 .read-u32-le5 .ensures,
-      c .before .enum-told6 .given .1,
-    )
-
-returns-7 : tie.Need-returns-7
-unfolding proofOf
-returns-7 c =
-    let p3 = c .before .before .before in
-    let p5 = p3 .before .before in
-    let p7 = p5 .before .before in
-    let p9 = p7 .before .before in
-    let p11 = p9 .before .before in
-    let p13 = p11 .before .before in
-    let p15 = p13 .before .before in
-    let p17 = p15 .before .before in
-    let p19 = p17 .before .before in
-    let p21 = p19 .before .before in
-    let p23 = p21 .before .before in
-    let p25 = p23 .before .before in
-    let p27 = p25 .before .before in
-    rw (
-      c .cut6 .ensures,
-      ← p27 .read-u32-le .ensures,
-      p25 .number .given .1,
-      ← p23 .read-u32-le2 .ensures,
-      p21 .proposition .given .1,
-      ← p19 .read-text .ensures,
-      p17 .rule .given .1,
-      ← p15 .read-u32-le3 .ensures,
-      p13 .authority .given .1,
-      ← p11 .read-u32-le4 .ensures,
-      p9 .first-witness .given .1,
-      ← p7 .read-u32-le5 .ensures,
-      p5 .witnesses .given .1,
-      ← p3 .read-u32-le6 .ensures,
-      c .before .enum-told7 .given .1,
-    )
-
-returns-8 : tie.Need-returns-8
-unfolding proofOf
-returns-8 c =
-    let p3 = c .before .before .before in
-    let p5 = p3 .before .before in
-    let p7 = p5 .before .before in
-    let p9 = p7 .before .before in
-    let p11 = p9 .before .before in
-    let p13 = p11 .before .before in
-    let p15 = p13 .before .before in
-    let p17 = p15 .before .before in
-    let p19 = p17 .before .before in
-    let p21 = p19 .before .before in
-    let p23 = p21 .before .before in
-    let p25 = p23 .before .before in
-    let p27 = p25 .before .before in
-    let p29 = p27 .before .before in
-    let p31 = p29 .before .before in
-    rw (
-      c .cut7 .ensures,
-      ← p31 .read-u32-le .ensures,
-      p29 .number .given .1,
-      ← p27 .read-u32-le2 .ensures,
-      p25 .proposition .given .1,
-      ← p23 .read-text .ensures,
-      p21 .rule .given .1,
-      ← p19 .read-u32-le3 .ensures,
-      p17 .authority .given .1,
-      ← p15 .read-u32-le4 .ensures,
-      p13 .first-witness .given .1,
-      ← p11 .read-u32-le5 .ensures,
-      p9 .witnesses .given .1,
-      ← p7 .read-u32-le6 .ensures,
-      p5 .first-parent .given .1,
-      ← p3 .read-u32-le7 .ensures,
-      c .before .enum-told8 .given .1,
-    )
-
-returns-9 : tie.Need-returns-9
-unfolding proofOf
-returns-9 c =
-    let p3 = c .before .before .before in
-    let p5 = p3 .before .before in
-    let p7 = p5 .before .before in
-    let p9 = p7 .before .before in
-    let p11 = p9 .before .before in
-    let p13 = p11 .before .before in
-    let p15 = p13 .before .before in
-    let p17 = p15 .before .before in
-    let p19 = p17 .before .before in
-    let p21 = p19 .before .before in
-    let p23 = p21 .before .before in
-    let p25 = p23 .before .before in
-    let p27 = p25 .before .before in
-    let p29 = p27 .before .before in
-    let p31 = p29 .before .before in
-    let p33 = p31 .before .before in
-    let p35 = p33 .before .before in
-    rw (
-      c .cut8 .ensures,
-      ← p35 .read-u32-le .ensures,
-      p33 .number .given .1,
-      ← p31 .read-u32-le2 .ensures,
-      p29 .proposition .given .1,
-      ← p27 .read-text .ensures,
-      p25 .rule .given .1,
-      ← p23 .read-u32-le3 .ensures,
-      p21 .authority .given .1,
-      ← p19 .read-u32-le4 .ensures,
-      p17 .first-witness .given .1,
-      ← p15 .read-u32-le5 .ensures,
-      p13 .witnesses .given .1,
-      ← p11 .read-u32-le6 .ensures,
-      p9 .first-parent .given .1,
-      ← p7 .read-u32-le7 .ensures,
-      p5 .parents .given .1,
-      ← p3 .read-u8 .ensures,
-      c .before .enum-told9 .given .1,
-    )
-
-zeros-after-requires : tie.Need-zeros-after-requires
-zeros-after-requires c κs =
-    let o = c .before in
-    let t = o .before .before in
-    let x = field-ok 5 1 _ _ (field-told u8Out 5 _ (t .read-u8 .ensures) (o .operation .given .1)) in
-    (x .2 ∙ sym (le-1 _ _), x .0, x .1)
-
-returns-10 : tie.Need-returns-10
-unfolding proofOf
-returns-10 c =
-    let p3 = c .before .before .before in
-    let p5 = p3 .before .before in
-    let p7 = p5 .before .before in
-    let p9 = p7 .before .before in
-    let p11 = p9 .before .before in
-    let p13 = p11 .before .before in
-    let p15 = p13 .before .before in
-    let p17 = p15 .before .before in
-    let p19 = p17 .before .before in
-    let p21 = p19 .before .before in
-    let p23 = p21 .before .before in
-    let p25 = p23 .before .before in
-    let p27 = p25 .before .before in
-    let p29 = p27 .before .before in
-    let p31 = p29 .before .before in
-    let p33 = p31 .before .before in
-    let p35 = p33 .before .before in
-    let p37 = p35 .before .before in
-    let p39 = p37 .before .before in
-    rw (
-      c .place-refusal .ensures,
-      ← p39 .read-u32-le .ensures,
-      p37 .number .given .1,
-      ← p35 .read-u32-le2 .ensures,
-      p33 .proposition .given .1,
-      ← p31 .read-text .ensures,
-      p29 .rule .given .1,
-      ← p27 .read-u32-le3 .ensures,
-      p25 .authority .given .1,
-      ← p23 .read-u32-le4 .ensures,
-      p21 .first-witness .given .1,
-      ← p19 .read-u32-le5 .ensures,
-      p17 .witnesses .given .1,
-      ← p15 .read-u32-le6 .ensures,
-      p13 .first-parent .given .1,
-      ← p11 .read-u32-le7 .ensures,
-      p9 .parents .given .1,
-      ← p7 .read-u8 .ensures,
-      p5 .operation .given .1,
-      ← p3 .zeros-after .ensures,
-      c .before .enum-told10 .given .1,
-    )
-
-returns-11 : tie.Need-returns-11
-unfolding proofOf
-returns-11 c =
-    let p3 = c .before .before .before in
-    let p5 = p3 .before .before in
-    let p7 = p5 .before .before in
-    let p9 = p7 .before .before in
-    let p11 = p9 .before .before in
-    let p13 = p11 .before .before in
-    let p15 = p13 .before .before in
-    let p17 = p15 .before .before in
-    let p19 = p17 .before .before in
-    let p21 = p19 .before .before in
-    let p23 = p21 .before .before in
-    let p25 = p23 .before .before in
-    let p27 = p25 .before .before in
-    let p29 = p27 .before .before in
-    let p31 = p29 .before .before in
-    let p33 = p31 .before .before in
-    let p35 = p33 .before .before in
-    let p37 = p35 .before .before in
-    let p39 = p37 .before .before in
-    rw (
-      ← p39 .read-u32-le .ensures,
-      p37 .number .given .1,
-      ← p35 .read-u32-le2 .ensures,
-      p33 .proposition .given .1,
-      ← p31 .read-text .ensures,
-      p29 .rule .given .1,
-      ← p27 .read-u32-le3 .ensures,
-      p25 .authority .given .1,
-      ← p23 .read-u32-le4 .ensures,
-      p21 .first-witness .given .1,
-      ← p19 .read-u32-le5 .ensures,
-      p17 .witnesses .given .1,
-      ← p15 .read-u32-le6 .ensures,
-      p13 .first-parent .given .1,
-      ← p11 .read-u32-le7 .ensures,
-      p9 .parents .given .1,
-      ← p7 .read-u8 .ensures,
-      p5 .operation .given .1,
-      ← p3 .zeros-after .ensures,
-      c .before .zeros .given .1,
+      c .read-whole-rest .ensures,
+      ← p13 .read-u32-le .ensures,
+      p11 .number .given .1,
+      ← p9 .read-u32-le2 .ensures,
+      p7 .proposition .given .1,
+      ← p5 .read-text .ensures,
+      p3 .rule .given .1,
     )
 
 pub read-proof-spec : {M : Type 1} → statement M
@@ -358,39 +112,8 @@ read-proof-spec =
     (λ c. search needs)
     (λ c κs. search needs)
     returns-3
-    (λ c κs. search needs)
-    (λ c. search needs)
-    (λ c. search needs)
+    sub-if1
     (λ c κs. search needs)
     returns-4
     (λ c κs. search needs)
-    (λ c. search needs)
-    (λ c. search needs)
-    (λ c κs. search needs)
-    returns-5
-    (λ c κs. search needs)
-    (λ c. search needs)
-    (λ c. search needs)
-    (λ c κs. search needs)
-    returns-6
-    (λ c κs. search needs)
-    (λ c. search needs)
-    (λ c. search needs)
-    (λ c κs. search needs)
-    returns-7
-    (λ c κs. search needs)
-    (λ c. search needs)
-    (λ c. search needs)
-    (λ c κs. search needs)
-    returns-8
-    (λ c κs. search needs)
-    (λ c. search needs)
-    (λ c. search needs)
-    (λ c κs. search needs)
-    returns-9
-    zeros-after-requires
-    (λ c. search needs)
-    (λ c. search needs)
-    (λ c κs. search needs)
-    returns-10
-    returns-11)
+    returns-5)
