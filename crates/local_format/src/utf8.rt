@@ -188,12 +188,15 @@ fn all_printable(bytes: &[u8]) -> bool
     high <= 0x5e
 }
 
-// Whether the last byte, if there is one, is ASCII: text of another script most often ends in a character of its own. It only chooses the
-// way, so that nothing has to be known of the answer.
-fn ends_in_ascii(bytes: &[u8]) -> bool {
+// Whether the first and the last byte, if there are any, are ASCII: text of another script most often begins or ends in a character of its
+// own. It only chooses the way, so that nothing has to be known of the answer.
+fn ascii_at_both_ends(bytes: &[u8]) -> bool {
     let n = bytes.len();
     if n < 1 {
         return true;
+    }
+    if bytes[0] > 0x7f {
+        return false;
     }
     bytes[n - 1] <= 0x7f
 }
@@ -202,7 +205,7 @@ fn ends_in_ascii(bytes: &[u8]) -> bool {
 pub fn scan(bytes: &[u8]) -> Scanned
     ensures { λ r. ⌜ scannedOut r ≡ scanOf (decode (now (bytes .entry))) ⌝ }
 {
-    if ends_in_ascii(bytes) {
+    if ascii_at_both_ends(bytes) {
         if all_printable(bytes) {
             return Scanned::Text {
                 chars: bytes.len(),
