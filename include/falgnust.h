@@ -1,6 +1,6 @@
 /* Decoders of EVR0 evidence sections and of SemCode function blocks, proved, as C functions.
  *
- * Link target/staticlib/libexports.a, which `rt staticlib exports` writes (x86-64 Linux). The functions of crates/exports/src are
+ * Link target/staticlib/libfalgnust.a, which `rt staticlib falgnust` writes (x86-64 Linux). The functions of crates/falgnust/src are
  * declared here in full; each has there, as its contract, the definition that its answer is proved to equal. They allocate nothing, keep
  * nothing between calls, write to the lent tables alone, and may be called from several threads.
  *
@@ -25,7 +25,7 @@ extern "C" {
 #define FALGNUST_ASSERT _Static_assert
 #endif
 
-/* Layouts: the size of each struct below is that of the struct in crates/exports/src. */
+/* Layouts: the size of each struct below is that of the struct in crates/falgnust/src. */
 #define FALGNUST_SIZE(type, size) FALGNUST_ASSERT(sizeof(type) == (size), #type " has another layout")
 
 FALGNUST_ASSERT(sizeof(size_t) == 8, "the library is for 64 bits");

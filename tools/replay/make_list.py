@@ -1,13 +1,13 @@
 #!/usr/bin/env python3
-"""Writes the list that the program `replay` replays: inputs with the Rust's answers.
+"""Writes the list that the program `test_replay` replays: inputs with the Rust's answers.
 
     tools/replay/make_list.py RUST_FOLDER
 
 RUST_FOLDER is a checkout of skulmakov-oss/Semantic at commit a38c216cab. The inputs and the answers come from tools/sample: so many small
 ones for each refusal number and condition, accepted ones, and its fixed inputs, which are every cut and one change of each byte of a few
 inputs and the run-only cases of document 01. The seed is fixed, so that a second run writes the same list.
-Writes crates/replay/stdin and crates/replay/stdout. An entry of the list is what crates/replay/src/asked.rt reads, and then the answer
-in the order in which crates/replay/src/section.rt and block.rt hold it against theirs: numbers of 4 bytes (offsets and cursors of 8),
+Writes crates/test_replay/stdin and crates/test_replay/stdout. An entry of the list is what crates/test_replay/src/asked.rt reads, and then the answer
+in the order in which crates/test_replay/src/section.rt and block.rt hold it against theirs: numbers of 4 bytes (offsets and cursors of 8),
 digests as they are, and the entries of the lent tables, which are lent a few entries longer than they need to be. The list is one of
 pages of 65,536 bytes, each of whole entries, filled up with bytes 255.
 """
@@ -115,7 +115,7 @@ def main():
     if len(sys.argv) != 2:
         sys.exit(__doc__)
     entries = [entry(line) for words in SAMPLES for line in sample(words).splitlines()]
-    folder = os.path.join(TOP, "crates", "replay")
+    folder = os.path.join(TOP, "crates", "test_replay")
     with open(os.path.join(folder, "stdin"), "wb") as out:
         out.write(paged(entries))
     with open(os.path.join(folder, "stdout"), "w") as out:

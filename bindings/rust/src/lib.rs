@@ -2,7 +2,7 @@
 //!
 //! The modules [`evr0`] and [`semcode_decode`] take the places of those of the same names in skulmakov-oss/Semantic: the same
 //! functions, types, fields and messages, so that a caller changes a path and nothing else. Behind them stands the static library that
-//! `rt staticlib exports` writes; nothing here parses a byte.
+//! `rt staticlib falgnust` writes; nothing here parses a byte.
 //!
 //! ```
 //! use falgnust::evr0::decode_evr0_section;

@@ -1,4 +1,4 @@
-//! The C functions of crates/exports, as they are: each is proved there to give the answer of a definition. Nothing checks these
+//! The C functions of crates/falgnust, as they are: each is proved there to give the answer of a definition. Nothing checks these
 //! declarations against the Rattle source, so they keep to its order and names.
 //!
 //! A slice is a pointer and a length. A pointer has to be valid for its length, and a table that is lent (`*mut`) may overlap neither

@@ -16,7 +16,7 @@ use Rattle.local_format.proofs.FieldLaws.{field-ok}
 use Rattle.derivation.specs.Rule.{fourRules}
 use Rattle.evr0_section.specs.Head.{Room}
 use Rattle.evr0_section.specs.Section.{frameAt, sectionIn, sectionAt, decodeSection}
-use Rattle.evr0_bounds.proofs.SectionWithin.{four-within}
+use Rattle.evr0_section.proofs.SectionWithin.{four-within}
 use Rattle.evr0_read.proofs.AcceptedLaws.{frame-place}
 
 cut-within : (n number at : ℕ) (f : Field) → at ≤ n → RefusesWithin n (orCut number at f)

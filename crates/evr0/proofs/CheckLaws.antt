@@ -23,7 +23,7 @@ use Rattle.evr0_head.specs.Checks.{Limited, checkedHead}
 use Rattle.evr0_head.specs.declared.check.Checked.{Checked}
 use Rattle.evr0_head.specs.declared.check.Checked.the-variants as checked
 use Rattle.evr0_head.proofs.HeadLaws.{limited}
-use Rattle.evr0_bounds.proofs.SectionWithin.{head-end}
+use Rattle.evr0_section.proofs.SectionWithin.{head-end}
 use Rattle.evr0.specs.Maps.{startsOf}
 use Rattle.evr0.specs.View.{Layout, TablesThere, view}
 use Rattle.evr0.specs.PassMaps.{filled}

@@ -18,7 +18,7 @@ use Rattle.evr0_section.specs.Section.{Tables, Section, Frame, frameAt, section
 use Rattle.evr0_section.specs.Proposition.{propositionRow}
 use Rattle.evr0_section.proofs.RowsLaws.{trace, trace-length}
 use Rattle.evr0_section.proofs.CheckedTables.{Steps, steps, tables-checked}
-use Rattle.evr0_bounds.proofs.SectionWithin.{four-within}
+use Rattle.evr0_section.proofs.SectionWithin.{four-within}
 use Rattle.evr0.specs.Maps.{startsOf}
 use Rattle.evr0.specs.Answer.{Accepted, Answer, answerOf, propositionStarts, proofStarts, proofDepths}
 use Rattle.evr0.proofs.ViewOf.{starts-total}

@@ -9,5 +9,6 @@ pub mod Demand
 pub mod RecordLaws
 pub mod Progress
 pub mod Inside
+pub mod SectionWithin
 pub mod Computed
 pub mod Specimens

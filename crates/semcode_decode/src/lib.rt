@@ -1,3 +1,3 @@
 // The string, DBG0 and OWN0 tables of a function's block.
 pub mod decode;
-pub mod table;
+mod table;

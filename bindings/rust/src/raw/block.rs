@@ -1,4 +1,4 @@
-//! Blocks: crates/exports/src/{block,record,number}.rt
+//! Blocks: crates/falgnust/src/{block,record,number}.rt
 
 use super::{Refusal, Text};
 

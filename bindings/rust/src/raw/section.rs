@@ -1,4 +1,4 @@
-//! Sections, and what is asked of one by number: crates/exports/src/section.rt
+//! Sections, and what is asked of one by number: crates/falgnust/src/section.rt
 
 use super::{Parent, Proof, Proposition, Refusal, Witness};
 

@@ -1,4 +1,4 @@
-//! Fields, fixed byte strings and texts: crates/exports/src/{refusal,field,tag,utf8,text}.rt
+//! Fields, fixed byte strings and texts: crates/falgnust/src/{refusal,field,tag,utf8,text}.rt
 
 /// A refusal: its kind in document 01's order (0 Invalid, 1 Limit, 2 Strings, 3 Debug, 4 Ownership, 5 Added), its number there (0 where
 /// nothing is refused) and its offset.

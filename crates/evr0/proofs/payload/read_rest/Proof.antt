@@ -11,7 +11,7 @@ use Rattle.local_format.proofs.OutLaws.{told}
 use Rattle.evr0_section.specs.Rows.{Rows, rows}
 use Rattle.evr0_section.specs.Witness.{WitnessRecord, witnessRow, parentRow}
 use Rattle.evr0_section.proofs.Inside.{witnessRowIn}
-use Rattle.evr0_bounds.proofs.SectionWithin.{rows-end}
+use Rattle.evr0_section.proofs.SectionWithin.{rows-end}
 use Rattle.evr0_head.specs.Maps.{countsOut}
 use Rattle.evr0.specs.Maps.{tableOut}
 use Rattle.evr0.specs.PayloadMaps.{parentsIn}

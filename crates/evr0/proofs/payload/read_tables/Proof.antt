@@ -16,7 +16,7 @@ use Rattle.evr0_section.specs.Rows.{Rows, rows}
 use Rattle.evr0_section.specs.Proposition.{Proposition, Before, first, propositionRow}
 use Rattle.evr0_section.specs.Proof.{Settled, Unowned, proofRow}
 use Rattle.evr0_section.proofs.Inside.{propositionRowIn, proofRowIn}
-use Rattle.evr0_bounds.proofs.SectionWithin.{rows-end}
+use Rattle.evr0_section.proofs.SectionWithin.{rows-end}
 use Rattle.evr0_head.specs.Maps.{countsOut}
 use Rattle.evr0_records.specs.Maps.{unownedOut}
 use Rattle.evr0.specs.Maps.{tableOut, proofTableOut, startsIn, noneOwned}

@@ -1,1 +1,0 @@
-// Theorems only: the refusals of an evidence section's payload stand within it.

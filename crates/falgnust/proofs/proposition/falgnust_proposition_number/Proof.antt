@@ -1,0 +1,22 @@
+-- The flat struct holds what `proposition_number` answers, and the tables are as it left them.
+use borrow.Author.Needs.{needs}
+use mathlib.Core.Path.{ap, _∙_}
+use Rattle.falgnust.specs.EntryMaps.{flatProposition}
+use Rattle.falgnust.proofs.proposition.falgnust_proposition_number.Statement.{statement}
+use Rattle.falgnust.proofs.proposition.falgnust_proposition_number.Tie as tie
+
+returns : tie.Need-returns
+returns c =
+    let read = c .before .before .before .before .before .before .before .proposition-number .ensures in
+    (c .flat-proposition .ensures ∙ ap flatProposition (read .0), read .1)
+
+pub falgnust-proposition-number-spec : {M : Type 1} → statement M
+falgnust-proposition-number-spec =
+    tie.close
+    (tie.spec
+    (λ c κs. search needs)
+    (λ c κs. search needs)
+    (λ c. search needs)
+    (λ c. search needs)
+    (λ c. search needs)
+    returns)

@@ -1,0 +1,12 @@
+-- The flat struct holds what `read_text` answers.
+use borrow.Author.Needs.{needs}
+use mathlib.Core.Path.{ap, _∙_}
+use Rattle.falgnust.specs.Maps.{flatText}
+use Rattle.falgnust.proofs.text.falgnust_read_text.Statement.{statement}
+use Rattle.falgnust.proofs.text.falgnust_read_text.Tie as tie
+
+returns : tie.Need-returns
+returns c = c .flat-text .ensures ∙ ap flatText (c .before .read-text .ensures)
+
+pub falgnust-read-text-spec : {M : Type 1} → statement M
+falgnust-read-text-spec = tie.close (tie.spec (λ c κs. search needs) (λ c κs. search needs) returns)

@@ -1,0 +1,44 @@
+-- The flat struct of a section, with what the decoder answers.
+use Prim.Native.Nat.{ℕ}
+use mathlib.Core.Bool.{true, false}
+use mathlib.Core.List.{List}
+use Rattle.local_format.specs.Out.{Out, ok, refused}
+use Rattle.evr0.specs.Answer.{Accepted, Answer}
+use Rattle.falgnust.specs.Maps.{flatRefusal, noRefusal}
+use Rattle.falgnust.specs.declared.section.Section.{Section}
+
+-- with the digests and the cursor that stand beside the outcome
+abbrev pub flatOutcome : List ℕ → List ℕ → ℕ → Out Accepted → Section
+flatOutcome source contract cursor (ok given) =
+    record {
+      accepted = true;
+      refusal = noRefusal;
+      «source_set» = source;
+      «compiler_contract» = contract;
+      epoch = given .epoch;
+      «policy_at» = given .policyAt;
+      «issuer_at» = given .issuerAt;
+      propositions = given .counts .propositions;
+      proofs = given .counts .proofs;
+      witnesses = given .counts .witnesses;
+      parents = given .counts .parents;
+      cursor = cursor;
+    }
+flatOutcome source contract cursor (refused r) =
+    record {
+      accepted = false;
+      refusal = flatRefusal r;
+      «source_set» = source;
+      «compiler_contract» = contract;
+      epoch = 0;
+      «policy_at» = 0;
+      «issuer_at» = 0;
+      propositions = 0;
+      proofs = 0;
+      witnesses = 0;
+      parents = 0;
+      cursor = cursor;
+    }
+
+abbrev pub flatSection : Answer → Section
+flatSection a = flatOutcome (a .sourceSet) (a .compilerContract) (a .cursor) (a .outcome)

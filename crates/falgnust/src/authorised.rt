@@ -1,0 +1,64 @@
+// Whether a proposition of a section, which is decoded anew, is authorised.
+ghost use mathlib.Core.Path.{_≡_};
+ghost use Rattle.evr0_read.specs.Ask.{authorisedNumber};
+ghost use Rattle.evr0_read.specs.Asked.{decodeAnew, valueIn, Lent};
+ghost use Rattle.evr0_read.specs.Maps.{authorisedOut};
+ghost use Rattle.falgnust.specs.EntryMaps.{flatAuthorised};
+use crate::refusal::Refusal;
+use crate::refusal::flat_refusal;
+use crate::refusal::no_refusal;
+use evr0_head::number::PropositionIndex;
+use evr0_read::authorised::AuthorisedAnswer;
+use evr0_read::authorised::authorised;
+
+#[repr(C)]
+pub struct Authorised {
+    pub accepted: bool,
+    pub refusal: Refusal,
+    pub authorised: bool,
+}
+
+fn flat_authorised(answer: AuthorisedAnswer) -> Authorised
+    ensures { λ r. ⌜ r ≡ flatAuthorised (authorisedOut answer) ⌝ }
+{
+    match answer {
+        AuthorisedAnswer::Answer(authorised) => Authorised {
+            accepted: true,
+            refusal: no_refusal(),
+            authorised,
+        },
+        AuthorisedAnswer::Refused(refused) => Authorised {
+            accepted: false,
+            refusal: flat_refusal(refused),
+            authorised: false,
+        },
+    }
+}
+
+#[no_mangle]
+pub extern "C" fn falgnust_authorised(
+    bytes: &[u8],
+    cursor: usize,
+    proposition: u32,
+    propositions: &mut [u64],
+    proofs: &mut [u64],
+    depths: &mut [u64],
+) -> Authorised
+    ensures { λ r.
+        ⌜ r ≡
+        flatAuthorised (valueIn (λ v. v) (authorisedNumber proposition (decodeAnew (now (bytes .entry)) cursor (now (propositions .entry)) (now (proofs .entry)) (now (depths .entry))))) ⌝ }
+    ensures { λ r.
+        ⌜ Lent (authorisedNumber proposition (decodeAnew (now (bytes .entry)) cursor (now (propositions .entry)) (now (proofs .entry)) (now (depths .entry))))
+        (now (propositions .entry)) (now (proofs .entry)) (now (depths .entry))
+        (now (propositions .exit)) (now (proofs .exit)) (now (depths .exit)) ⌝ }
+{
+    let answer = authorised(
+        bytes,
+        cursor,
+        PropositionIndex(proposition),
+        propositions,
+        proofs,
+        depths,
+    );
+    flat_authorised(answer)
+}

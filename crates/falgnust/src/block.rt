@@ -1,0 +1,99 @@
+// A function's block: its result, with string starts and path starts in two lent tables and the debug symbols in a lent list.
+ghost use mathlib.Core.Path.{_≡_};
+ghost use mathlib.Core.List.{map};
+ghost use lib.ListN.{length};
+ghost use Rattle.lent_table.specs.Lent.{lent};
+ghost use Rattle.semcode_decode.specs.Block.{decodeBlock};
+ghost use Rattle.semcode_decode.specs.Layout.{layout, stringStarts, pathStarts, roomsOf};
+ghost use Rattle.semcode_decode.specs.Maps.{parseOut};
+ghost use Rattle.semcode_symbols.specs.Symbols.{blockSymbols, lentSymbols};
+ghost use Rattle.semcode_symbols.specs.Maps.{symbolIs};
+ghost use Rattle.falgnust.specs.BlockMaps.{flatBlock};
+use crate::refusal::Refusal;
+use crate::refusal::flat_refusal;
+use crate::refusal::no_refusal;
+use semcode_decode::decode::Parse;
+use semcode_symbols::DebugSymbol;
+use semcode_symbols::parse_string_table_debug_and_ownership;
+
+// Counts, whether each tag was found, and places in the block; or a refusal, with zeros beside it.
+#[repr(C)]
+pub struct Block {
+    pub accepted: bool,
+    pub refusal: Refusal,
+    pub has_debug_section: bool,
+    pub has_ownership_section: bool,
+    pub string_count: usize,
+    pub string_table_end_offset: usize,
+    pub debug_symbol_count: usize,
+    pub debug_symbols_start: usize,
+    pub path_count: usize,
+    pub instr_start_offset: usize,
+}
+
+fn flat_block(parse: Parse) -> Block
+    ensures { λ r. ⌜ r ≡ flatBlock (parseOut parse) ⌝ }
+{
+    match parse {
+        Parse::Whole(parsed) => Block {
+            accepted: true,
+            refusal: no_refusal(),
+            has_debug_section: parsed.has_debug_section,
+            has_ownership_section: parsed.has_ownership_section,
+            string_count: parsed.string_count,
+            string_table_end_offset: parsed.string_table_end_offset,
+            debug_symbol_count: parsed.debug_symbol_count,
+            debug_symbols_start: parsed.debug_symbols_start,
+            path_count: parsed.path_count,
+            instr_start_offset: parsed.instr_start_offset,
+        },
+        Parse::Refused(refused) => Block {
+            accepted: false,
+            refusal: flat_refusal(refused),
+            has_debug_section: false,
+            has_ownership_section: false,
+            string_count: 0,
+            string_table_end_offset: 0,
+            debug_symbol_count: 0,
+            debug_symbols_start: 0,
+            path_count: 0,
+            instr_start_offset: 0,
+        },
+    }
+}
+
+#[no_mangle]
+pub extern "C" fn falgnust_parse_string_table_debug_and_ownership(
+    base_offset: usize,
+    code: &[u8],
+    header_rev: u16,
+    symbols: &mut [DebugSymbol],
+    strings: &mut [u64],
+    paths: &mut [u64],
+) -> Block
+    ensures { λ r.
+        ⌜ r ≡
+        flatBlock (layout (decodeBlock «base_offset» «header_rev» (roomsOf (now (strings .entry)) (length (now (symbols .entry))) (now (paths .entry))) (now (code .entry)))) ⌝ }
+    ensures { λ r.
+        ⌜ now (strings .exit) ≡
+        lent (length (now (strings .entry)))
+        (stringStarts (decodeBlock «base_offset» «header_rev» (roomsOf (now (strings .entry)) (length (now (symbols .entry))) (now (paths .entry))) (now (code .entry)))) ⌝ }
+    ensures { λ r.
+        ⌜ now (paths .exit) ≡
+        lent (length (now (paths .entry)))
+        (pathStarts (decodeBlock «base_offset» «header_rev» (roomsOf (now (strings .entry)) (length (now (symbols .entry))) (now (paths .entry))) (now (code .entry)))) ⌝ }
+    ensures { λ r.
+        ⌜ map symbolIs (now (symbols .exit)) ≡
+        lentSymbols (length (now (symbols .entry)))
+        (blockSymbols (decodeBlock «base_offset» «header_rev» (roomsOf (now (strings .entry)) (length (now (symbols .entry))) (now (paths .entry))) (now (code .entry)))) ⌝ }
+{
+    let parse = parse_string_table_debug_and_ownership(
+        base_offset,
+        code,
+        header_rev,
+        symbols,
+        strings,
+        paths,
+    );
+    flat_block(parse)
+}

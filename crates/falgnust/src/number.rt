@@ -1,0 +1,128 @@
+// The records of a block by number. Each decodes the block anew first.
+ghost use mathlib.Core.Path.{_≡_};
+ghost use Rattle.semcode_decode.specs.Number.{
+  decodeAnew,
+  stringNumber,
+  symbolNumber,
+  pathNumber,
+  componentNumber,
+  takenIn,
+  textIn,
+  headIn,
+};
+ghost use Rattle.semcode_read.specs.After.{Lent};
+ghost use Rattle.falgnust.specs.Maps.{flatText};
+ghost use Rattle.falgnust.specs.BlockMaps.{flatSymbol, flatPath, flatComponent};
+use crate::record::Component;
+use crate::record::Path;
+use crate::record::Symbol;
+use crate::record::flat_component;
+use crate::record::flat_path;
+use crate::record::flat_symbol;
+use crate::text::Text;
+use crate::text::flat_text;
+use semcode_read::component_number;
+use semcode_read::path_number;
+use semcode_read::string_number;
+use semcode_read::symbol_number;
+
+#[no_mangle]
+pub extern "C" fn falgnust_string_number(
+    base_offset: usize,
+    code: &[u8],
+    header_rev: u16,
+    number: usize,
+    strings: &mut [u64],
+    paths: &mut [u64],
+) -> Text
+    ensures { λ r.
+        ⌜ r ≡
+        flatText (textIn (stringNumber number (decodeAnew «base_offset» «header_rev» (now (strings .entry)) (now (paths .entry)) (now (code .entry))))) ⌝ }
+    ensures { λ r.
+        ⌜ Lent (stringNumber number (decodeAnew «base_offset» «header_rev» (now (strings .entry)) (now (paths .entry)) (now (code .entry))))
+        (now (strings .entry))
+        (now (paths .entry))
+        (now (strings .exit))
+        (now (paths .exit)) ⌝ }
+{
+    let read = string_number(base_offset, code, header_rev, number, strings, paths);
+    flat_text(read)
+}
+
+#[no_mangle]
+pub extern "C" fn falgnust_symbol_number(
+    base_offset: usize,
+    code: &[u8],
+    header_rev: u16,
+    number: usize,
+    strings: &mut [u64],
+    paths: &mut [u64],
+) -> Symbol
+    ensures { λ r.
+        ⌜ r ≡
+        flatSymbol (takenIn (symbolNumber number (decodeAnew «base_offset» «header_rev» (now (strings .entry)) (now (paths .entry)) (now (code .entry))))) ⌝ }
+    ensures { λ r.
+        ⌜ Lent (symbolNumber number (decodeAnew «base_offset» «header_rev» (now (strings .entry)) (now (paths .entry)) (now (code .entry))))
+        (now (strings .entry))
+        (now (paths .entry))
+        (now (strings .exit))
+        (now (paths .exit)) ⌝ }
+{
+    let read = symbol_number(base_offset, code, header_rev, number, strings, paths);
+    flat_symbol(read)
+}
+
+#[no_mangle]
+pub extern "C" fn falgnust_path_number(
+    base_offset: usize,
+    code: &[u8],
+    header_rev: u16,
+    number: usize,
+    strings: &mut [u64],
+    paths: &mut [u64],
+) -> Path
+    ensures { λ r.
+        ⌜ r ≡
+        flatPath (headIn (pathNumber number (decodeAnew «base_offset» «header_rev» (now (strings .entry)) (now (paths .entry)) (now (code .entry))))) ⌝ }
+    ensures { λ r.
+        ⌜ Lent (pathNumber number (decodeAnew «base_offset» «header_rev» (now (strings .entry)) (now (paths .entry)) (now (code .entry))))
+        (now (strings .entry))
+        (now (paths .entry))
+        (now (strings .exit))
+        (now (paths .exit)) ⌝ }
+{
+    let read = path_number(base_offset, code, header_rev, number, strings, paths);
+    flat_path(read)
+}
+
+#[no_mangle]
+pub extern "C" fn falgnust_component_number(
+    base_offset: usize,
+    code: &[u8],
+    header_rev: u16,
+    number: usize,
+    component: usize,
+    strings: &mut [u64],
+    paths: &mut [u64],
+) -> Component
+    ensures { λ r.
+        ⌜ r ≡
+        flatComponent (takenIn (componentNumber number component (decodeAnew «base_offset» «header_rev» (now (strings .entry)) (now (paths .entry)) (now (code .entry))))) ⌝ }
+    ensures { λ r.
+        ⌜ Lent (componentNumber number component (decodeAnew «base_offset» «header_rev» (now (strings .entry)) (now (paths .entry)) (now (code .entry))))
+        (now (strings .entry))
+        (now (paths .entry))
+        (now (strings .exit))
+        (now (paths .exit)) ⌝ }
+{
+    let read = component_number(
+        base_offset,
+        code,
+        header_rev,
+        number,
+        component,
+        strings,
+        paths,
+    );
+    flat_component(read)
+}

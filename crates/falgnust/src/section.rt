@@ -1,0 +1,99 @@
+// An evidence section: what is given of it, with proposition starts, proof starts and depths in three lent tables.
+ghost use mathlib.Core.Path.{_≡_};
+ghost use lib.ListN.{length};
+ghost use Rattle.lent_table.specs.Lent.{lent};
+ghost use Rattle.evr0.specs.Answer.{answerOf, propositionStarts, proofStarts, proofDepths};
+ghost use Rattle.evr0.specs.AnswerMaps.{answerOut};
+ghost use Rattle.evr0_read.specs.Asked.{decodeAnew};
+ghost use Rattle.falgnust.specs.SectionMaps.{flatSection};
+use crate::refusal::Refusal;
+use crate::refusal::flat_refusal;
+use crate::refusal::no_refusal;
+use evr0::section::DecodedEvr0;
+use evr0::section::Outcome;
+use evr0::section::decode_evr0_section;
+
+// The digests, the epoch, the places in the payload of both namespaces' lengths, and the counts; or a refusal, with zeros beside it. The
+// cursor is the one that was brought where the section is refused.
+#[repr(C)]
+pub struct Section {
+    pub accepted: bool,
+    pub refusal: Refusal,
+    pub source_set: [u8; 32],
+    pub compiler_contract: [u8; 32],
+    pub epoch: u16,
+    pub policy_at: usize,
+    pub issuer_at: usize,
+    pub propositions: usize,
+    pub proofs: usize,
+    pub witnesses: usize,
+    pub parents: usize,
+    pub cursor: usize,
+}
+
+fn flat_section(decoded: DecodedEvr0) -> Section
+    ensures { λ r. ⌜ r ≡ flatSection (answerOut decoded) ⌝ }
+{
+    let source_set = decoded.source_set;
+    let compiler_contract = decoded.compiler_contract;
+    let cursor = decoded.cursor;
+    let outcome = decoded.outcome;
+    match outcome {
+        Outcome::Accepted(given) => Section {
+            accepted: true,
+            refusal: no_refusal(),
+            source_set,
+            compiler_contract,
+            epoch: given.epoch,
+            policy_at: given.policy_namespace,
+            issuer_at: given.issuer_namespace,
+            propositions: given.counts.propositions,
+            proofs: given.counts.proofs,
+            witnesses: given.counts.witnesses,
+            parents: given.counts.parents,
+            cursor,
+        },
+        Outcome::Refused(refused) => Section {
+            accepted: false,
+            refusal: flat_refusal(refused),
+            source_set,
+            compiler_contract,
+            epoch: 0,
+            policy_at: 0,
+            issuer_at: 0,
+            propositions: 0,
+            proofs: 0,
+            witnesses: 0,
+            parents: 0,
+            cursor,
+        },
+    }
+}
+
+#[no_mangle]
+pub extern "C" fn falgnust_decode_evr0_section(
+    bytes: &[u8],
+    cursor: usize,
+    propositions: &mut [u64],
+    proofs: &mut [u64],
+    depths: &mut [u64],
+) -> Section
+    ensures { λ r.
+        ⌜ r ≡
+        flatSection (answerOf cursor (decodeAnew (now (bytes .entry)) cursor (now (propositions .entry)) (now (proofs .entry)) (now (depths .entry)))) ⌝ }
+    ensures { λ r.
+        ⌜ now (propositions .exit) ≡
+        lent (length (now (propositions .entry)))
+        (propositionStarts (decodeAnew (now (bytes .entry)) cursor (now (propositions .entry)) (now (proofs .entry)) (now (depths .entry)))) ⌝ }
+    ensures { λ r.
+        ⌜ now (proofs .exit) ≡
+        lent (length (now (proofs .entry)))
+        (proofStarts (decodeAnew (now (bytes .entry)) cursor (now (propositions .entry)) (now (proofs .entry)) (now (depths .entry)))) ⌝ }
+    ensures { λ r.
+        ⌜ now (depths .exit) ≡
+        lent (length (now (depths .entry)))
+        (proofDepths (decodeAnew (now (bytes .entry)) cursor (now (propositions .entry)) (now (proofs .entry)) (now (depths .entry)))) ⌝ }
+{
+    let decoded = decode_evr0_section(bytes, cursor, propositions, proofs, depths);
+    flat_section(decoded)
+}

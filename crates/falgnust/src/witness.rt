@@ -1,0 +1,122 @@
+// A witness of a section by number, for which the section is decoded anew, and at a place of its payload.
+ghost use mathlib.Core.Path.{_≡_};
+ghost use Rattle.evr0_section.specs.Witness.{witnessOf};
+ghost use Rattle.evr0_read.specs.Ask.{witnessNumber};
+ghost use Rattle.evr0_read.specs.Asked.{decodeAnew, valueIn, Lent};
+ghost use Rattle.evr0_read.specs.Entry.{placedWitness, recordAt};
+ghost use Rattle.evr0_read.specs.Place.{witnessPlace};
+ghost use Rattle.evr0_read.specs.Maps.{witnessEntryOut, witnessBeside};
+ghost use Rattle.falgnust.specs.EntryMaps.{flatWitness};
+use crate::refusal::Refusal;
+use crate::refusal::flat_refusal;
+use crate::refusal::no_refusal;
+use evr0_head::counts::Counts;
+use evr0_head::number::WitnessNumber;
+use evr0_read::ask::witness_number;
+use evr0_read::cell::WitnessEntry;
+use evr0_read::cell::WitnessFound;
+use evr0_read::cell::witness_at;
+use evr0_read::cell::witness_place;
+
+// Where the record starts in the payload, and its fields; or a refusal, with zeros beside it.
+#[repr(C)]
+pub struct Witness {
+    pub accepted: bool,
+    pub refusal: Refusal,
+    pub start: usize,
+    pub file_digest: [u8; 32],
+    pub origin_digest: [u8; 32],
+    pub witness_id: u32,
+    pub proposition_index: u32,
+    pub polarity: u8,
+    pub source_start: u32,
+    pub source_end: u32,
+}
+
+fn flat_witness(entry: WitnessEntry) -> Witness
+    ensures { λ r. ⌜ r ≡ flatWitness (witnessEntryOut entry) ⌝ }
+{
+    let file_digest = entry.file_digest;
+    let origin_digest = entry.origin_digest;
+    let answer = entry.answer;
+    match answer {
+        WitnessFound::Found { start, witness } => Witness {
+            accepted: true,
+            refusal: no_refusal(),
+            start,
+            file_digest,
+            origin_digest,
+            witness_id: witness.witness_id.0,
+            proposition_index: witness.proposition_index.0,
+            polarity: witness.polarity,
+            source_start: witness.source_start,
+            source_end: witness.source_end,
+        },
+        WitnessFound::Refused(refused) => Witness {
+            accepted: false,
+            refusal: flat_refusal(refused),
+            start: 0,
+            file_digest,
+            origin_digest,
+            witness_id: 0,
+            proposition_index: 0,
+            polarity: 0,
+            source_start: 0,
+            source_end: 0,
+        },
+    }
+}
+
+#[no_mangle]
+pub extern "C" fn falgnust_witness_number(
+    bytes: &[u8],
+    cursor: usize,
+    number: u32,
+    propositions: &mut [u64],
+    proofs: &mut [u64],
+    depths: &mut [u64],
+) -> Witness
+    ensures { λ r.
+        ⌜ r ≡
+        flatWitness (witnessBeside (valueIn (λ e. e) (witnessNumber number (decodeAnew (now (bytes .entry)) cursor (now (propositions .entry)) (now (proofs .entry)) (now (depths .entry)))))) ⌝ }
+    ensures { λ r.
+        ⌜ Lent (witnessNumber number (decodeAnew (now (bytes .entry)) cursor (now (propositions .entry)) (now (proofs .entry)) (now (depths .entry))))
+        (now (propositions .entry)) (now (proofs .entry)) (now (depths .entry))
+        (now (propositions .exit)) (now (proofs .exit)) (now (depths .exit)) ⌝ }
+{
+    let entry = witness_number(
+        bytes,
+        cursor,
+        WitnessNumber(number),
+        propositions,
+        proofs,
+        depths,
+    );
+    flat_witness(entry)
+}
+
+#[no_mangle]
+pub extern "C" fn falgnust_read_witness(payload: &[u8], at: usize) -> Witness
+    ensures { λ r. ⌜ r ≡ flatWitness (witnessBeside (recordAt (witnessOf 4) placedWitness (now (payload .entry)) at)) ⌝ }
+{
+    flat_witness(witness_at(payload, at))
+}
+
+// Where the witness with a number starts in the payload, of `len` bytes, of an accepted section with these counts.
+#[no_mangle]
+pub extern "C" fn falgnust_witness_place(
+    len: usize,
+    witnesses: usize,
+    parents: usize,
+    number: u32,
+) -> usize
+    ensures { λ r. ⌜ r ≡ witnessPlace len witnesses parents number ⌝ }
+{
+    let counts = Counts {
+        propositions: 0,
+        proofs: 0,
+        witnesses,
+        parents,
+    };
+    witness_place(len, counts, WitnessNumber(number))
+}

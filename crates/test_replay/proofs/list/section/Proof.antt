@@ -1,0 +1,47 @@
+-- Meets its contract: a part of a table is as long as the lesser of the length asked for and its own.
+use borrow.Author.Needs.{needs}
+use native.Mathlib.Omega.{arith}
+use mathlib.Core.Path.{sym, _∙_}
+use lib.Seq.{length-take-le}
+use Rattle.test_replay.specs.Maps.{askedOut}
+use Rattle.test_replay.proofs.ToldLaws.{section-asked}
+use Rattle.test_replay.proofs.list.section.Statement.{statement}
+use Rattle.test_replay.proofs.list.section.Tie as tie
+
+slice-aggregate-section : tie.Need-slice-aggregate-section
+slice-aggregate-section c = sym (length-take-le (c .before .before .before .least .result) (c .before .before .before .before .before .before .before .before .before .before .args .first .now) (omega arith))
+
+slice-aggregate-section-2 : tie.Need-slice-aggregate-section-2
+slice-aggregate-section-2 c = sym (length-take-le (c .before .before .before .least2 .result) (c .before .before .before .before .before .before .before .before .before .before .before .args .second .now) (omega arith))
+
+slice-aggregate-section-3 : tie.Need-slice-aggregate-section-3
+slice-aggregate-section-3 c = sym (length-take-le (c .before .before .before .least3 .result) (c .before .before .before .before .before .before .before .before .before .before .before .before .args .third .now) (omega arith))
+
+returns : tie.Need-returns
+returns c =
+    let a = c .before .before .before .before .before .before .before .before .before .before .before .before .before .before .before .before .before .before .before .args in
+    let f = length-take-le (c .before .before .before .before .before .before .before .before .before .before .before .before .least .result) (a .first .now) (omega arith) ∙ c .before .before .before .before .before .before .before .before .before .before .before .before .least .ensures in
+    let g = length-take-le (c .before .before .before .before .before .before .before .before .before .before .before .least2 .result) (a .second .now) (omega arith) ∙ c .before .before .before .before .before .before .before .before .before .before .before .least2 .ensures in
+    let h = length-take-le (c .before .before .before .before .before .before .before .before .before .before .least3 .result) (a .third .now) (omega arith) ∙ c .before .before .before .before .before .before .before .before .before .before .least3 .ensures in
+    section-asked _ (askedOut (a .asked)) _ _ _ (c .before .before .before .before .before .before .before .before .before .before .before .before .before .before .diag-offset .ensures) (c .before .before .before .before .before .before .before .before .before .before .before .before .before .input .ensures) _ _ _ _ _ _ f g h (c .before .before .before .before .before .before .section .ensures)
+
+pub section-spec : {M : Type 1} → statement M
+section-spec =
+    tie.close
+    (tie.spec
+    (λ c κs. search needs)
+    (λ c κs. search needs)
+    (λ c κs. search needs)
+    (λ c κs. search needs)
+    (λ c κs. search needs)
+    (λ c. search needs)
+    slice-aggregate-section
+    (λ c. search needs)
+    slice-aggregate-section-2
+    (λ c. search needs)
+    slice-aggregate-section-3
+    (λ c κs. search needs)
+    (λ c. search needs)
+    (λ c. search needs)
+    (λ c. search needs)
+    returns)
