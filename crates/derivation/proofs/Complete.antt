@@ -48,7 +48,8 @@ module _ (cellsAt : ℕ) (s : Section) where
     parents-done ds (suc k) c least m kin low rise =
         let h : Kin s p c = kin c (record { from = le-refl c; upto = omega arith }) in
         let r = parents-done ds k (suc c) (suc (parentAt s c)) (max m (getD ds (parentAt s c) 0))
-        (λ d o. kin d (record { from = omega arith; upto = omega arith })) (λ z. rise c (le-refl c) (omega arith)) (λ d l u. rise d (omega arith) (omega arith)) in (
+        (λ d o. kin d (record { from = omega arith; upto = omega arith })) (λ z. rise c (le-refl c) (omega arith))
+        (λ d l u. rise d (omega arith) (omega arith)) in (
           r .0,
           passed _ _ _ _ (both-true _ _ (lt-ltb _ _ (h .below)) (le-leb _ _ (low (omega arith))))
               ∙ passed _ _ _ _ (both-true _ _ (eq-eqb _ _ (h .proposition)) (eq-eqb _ _ (h .authority)))
@@ -103,7 +104,8 @@ module _ (cellsAt : ℕ) (s : Section) where
           authority = eqb-true _ _ (by-test _ (λ e. not-fails i (c ∷ []) _ w (strays 1 _ w (λ q. eqb-false _ _ e (q .authority)))));
         }
 
-    rise : (i : ℕ) → i < proofTotal s → (d : ℕ) → proofAt s i .firstParent ≤ d → suc d < proofAt s i .firstParent + proofAt s i .parentCount → parentAt s d < parentAt s (suc d)
+    rise : (i : ℕ) → i < proofTotal s → (d : ℕ) → proofAt s i .firstParent ≤ d → suc d < proofAt s i .firstParent + proofAt s i .parentCount
+        → parentAt s d < parentAt s (suc d)
     unfolding JoinsRise
     rise i l d h u =
         let t = two-parents (proofAt s i .rule) (checked .shaped i l) (omega (arith, checked .shapeParents i l)) in
@@ -133,16 +135,19 @@ module _ (cellsAt : ℕ) (s : Section) where
         let a = inv (parentAt s (q .0)) (below i (q .0) l (q .1)) in
         record { picks = q .0 ∷ a .picks; last = a .last; walk = extend i (q .0) (a .picks) (a .last) l (q .1) (a .walk); depth = ap suc (q .2 ∙ a .depth) }
 
-    one-done : (ds : List ℕ) (i : ℕ) → i < proofTotal s → ((j : ℕ) → j < i → Attained j (depthAt ds j)) → (d : ℕ) × (depthOf cellsAt s (proofAt s i) ds ≡ ok d) × Attained i d
+    one-done : (ds : List ℕ) (i : ℕ) → i < proofTotal s → ((j : ℕ) → j < i → Attained j (depthAt ds j)) → (d : ℕ)
+        × (depthOf cellsAt s (proofAt s i) ds ≡ ok d) × Attained i d
     one-done ds i l inv =
         let p : Proof = proofAt s i in
         let r = parents-done p ds (p .parentCount) (p .firstParent) 0 0 (λ c o. kin i c l o) (λ h. omega arith) (rise i l) in
         let m : ℕ = r .0 in
         let t : Attained i (suc m) = deepest ds i l inv m (parents-sound cellsAt s p ds _ _ _ _ m (r .1) .attained) in
-        let short : suc m ≤ 256 = ⊎-elim (λ g. g) (λ g. absurd (not-fails i (t .picks) (t .last) (t .walk) (long (omega (arith, t .depth))))) (order (suc m) 256) in
+        let short : suc m ≤ 256 = ⊎-elim (λ g. g) (λ g. absurd (not-fails i (t .picks) (t .last) (t .walk) (long (omega (arith, t .depth)))))
+        (order (suc m) 256) in
         (suc m, step-done p ds m (r .1) short (suits i l), t)
 
-    all-done : (n i : ℕ) (ds : List ℕ) → i + n ≡ proofTotal s → length ds ≡ i → ((j : ℕ) → j < i → Attained j (depthAt ds j)) → (out : List ℕ) × (depthsFrom cellsAt s n i ds ≡ ok out)
+    all-done : (n i : ℕ) (ds : List ℕ) → i + n ≡ proofTotal s → length ds ≡ i → ((j : ℕ) → j < i → Attained j (depthAt ds j)) → (out : List ℕ)
+        × (depthsFrom cellsAt s n i ds ≡ ok out)
     unfolding depthsFrom
     all-done zero i ds t l inv = (ds, refl)
     all-done (suc n) i ds t l inv =

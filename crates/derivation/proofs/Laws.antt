@@ -94,7 +94,8 @@ module _ (cellsAt : ℕ) (s : Section) where
   pass-none zero i ds h = refl
   pass-none (suc n) i ds h = absurd (omega arith)
 
-  pub pass-refused : (n i : ℕ) (ds : List ℕ) (r : Refusal) → 0 < n → depthOf cellsAt s (proofAt s i) ds ≡ refused r → depthsFrom cellsAt s n i ds ≡ refused r
+  pub pass-refused : (n i : ℕ) (ds : List ℕ) (r : Refusal) → 0 < n → depthOf cellsAt s (proofAt s i) ds ≡ refused r → depthsFrom cellsAt s n i ds
+      ≡ refused r
   unfolding depthsFrom
   pass-refused zero i ds r h e = absurd (omega arith)
   pass-refused (suc n) i ds r h e = on-refused _ e

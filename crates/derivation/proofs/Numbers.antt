@@ -15,11 +15,13 @@ use Rattle.derivation.specs.Pass.{agrees, parentsFrom, witnessesFrom, de
 
 -- what holds of a refusal's number, from the steps of the answer
 module _ (P : ℕ → Type 0) {r : Refusal} where
-  pub by-bind : {A B : Type 0} (x : Out A) (f : A → Out B) → (x >>= f) ≡ refused r → (x ≡ refused r → P (r .number)) → ((a : A) → f a ≡ refused r → P (r .number)) → P (r .number)
+  pub by-bind : {A B : Type 0} (x : Out A) (f : A → Out B) → (x >>= f) ≡ refused r → (x ≡ refused r → P (r .number))
+      → ((a : A) → f a ≡ refused r → P (r .number)) → P (r .number)
   by-bind (ok a) f e h k = k a e
   by-bind (refused q) f e h k = h (cc)
 
-  pub by-then : {A B : Type 0} (x : Out A) (y : Out B) → (x >> y) ≡ refused r → (x ≡ refused r → P (r .number)) → (y ≡ refused r → P (r .number)) → P (r .number)
+  pub by-then : {A B : Type 0} (x : Out A) (y : Out B) → (x >> y) ≡ refused r → (x ≡ refused r → P (r .number)) → (y ≡ refused r → P (r .number))
+      → P (r .number)
   by-then (ok a) y e h k = k e
   by-then (refused q) y e h k = h (cc)
 
@@ -35,7 +37,8 @@ abbrev Late : ℕ → Type 0
 Late n = (25 ≤ n) × (n ≤ 29)
 
 module _ (cellsAt : ℕ) (s : Section) {r : Refusal} where
-  by-test : {B : Type 0} (t : Bool) (n at : ℕ) (y : Out B) → (check t n at >> y) ≡ refused r → Late n → (y ≡ refused r → Late (r .number)) → Late (r .number)
+  by-test : {B : Type 0} (t : Bool) (n at : ℕ) (y : Out B) → (check t n at >> y) ≡ refused r → Late n → (y ≡ refused r → Late (r .number))
+      → Late (r .number)
   by-test t n at y e h = by-then Late (check t n at) y e (λ e. by-check Late t n at e h)
 
   parents-late : (p : Proof) (ds : List ℕ) (k c least m : ℕ) → parentsFrom cellsAt s p ds k c least m ≡ refused r → Late (r .number)

@@ -17,7 +17,8 @@ unfolding ruleNamed
 named [] name r e = absurd (let z : _≡_ {A = ℕ} 0 1 = cc in omega arith)
 named (x ∷ rs) name r e = go (equal name (x .name)) refl (named rs name r) e
   where
-    go : (b : Bool) → equal name (x .name) ≡ b → (ruleNamed rs name ≡ known r → List·Memᴰ r rs × (name ≡ r .name)) → cond b (known x) (ruleNamed rs name) ≡ known r
+    go : (b : Bool) → equal name (x .name) ≡ b → (ruleNamed rs name ≡ known r → List·Memᴰ r rs × (name ≡ r .name))
+        → cond b (known x) (ruleNamed rs name) ≡ known r
         → List·Memᴰ r (x ∷ rs) × (name ≡ r .name)
     go true q later e = let p : r ≡ x = cc in (List·Memᴰ·head p, equal-is name (x .name) q ∙ ap (λ (r : Rule). r .name) (sym p))
     go false q later e = (List·Memᴰ·tail (later e .0), later e .1)

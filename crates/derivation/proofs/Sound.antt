@@ -88,7 +88,8 @@ module _ (cellsAt : ℕ) (s : Section) where
           kin = at-or-after (λ d. Kin s p d) c k h (r .kin);
           low = λ z. leb-true _ _ (t .1);
           rise = λ d l u.
-              at-or-after (λ d. suc d < c + suc k → parentAt s d < parentAt s (suc d)) c k (λ v. r .low (omega arith)) (λ d o v. r .rise d (o .from) (omega arith)) d
+              at-or-after (λ d. suc d < c + suc k → parentAt s d < parentAt s (suc d)) c k (λ v. r .low (omega arith))
+              (λ d o v. r .rise d (o .from) (omega arith)) d
               (record { from = l; upto = omega arith }) u;
           bound = at-or-after (λ d. getD ds (parentAt s d) 0 ≤ m′) c k (omega (arith, r .grows)) (r .bound);
           grows = omega (arith, r .grows);

@@ -29,7 +29,8 @@ firstPicks s (suc n) i = proofAt s i .firstParent ∷ firstPicks s n (parentAt s
 -- what an answer says of the way down from i with a limit: the witness of the end of a walk by first parents, whose moves are told; or, with
 -- the limit spent, the proof that such a walk of as many moves reaches and that has a parent
 pub data Tells (s : Section) (limit i : ℕ) : Down → Type 0 where
-  ends : (moves k : ℕ) → moves ≤ limit → Walk s i (firstPicks s moves i) k → AtEnd s k → Witnessed s i k → Tells s limit i (witness (proofAt s k .firstWitness) moves)
+  ends : (moves k : ℕ) → moves ≤ limit → Walk s i (firstPicks s moves i) k → AtEnd s k → Witnessed s i k
+      → Tells s limit i (witness (proofAt s k .firstWitness) moves)
   goesOn : (k : ℕ) → Walk s i (firstPicks s limit i) k → 0 < proofAt s k .parentCount → Tells s limit i (spent k)
 
 -- some of the proofs is one of this proposition, with operation 1

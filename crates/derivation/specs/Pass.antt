@@ -4,7 +4,7 @@ use mathlib.Core.Bool.{Bool, _&&_}
 use mathlib.Core.List.{List, [], _∷_, _++_}
 use lib.ListN.{getD}
 use lib.Dec.{ltb, leb, eqb}
-use Rattle.local_format.specs.Out.{Out, ok, refuse, check, _>>=_, _>>_}
+use Rattle.local_format.specs.Out.{Out, ok, check, _>>=_, _>>_}
 use Rattle.derivation.specs.Rule.{polarityFits}
 use Rattle.derivation.specs.Section.{Proof, Section, proofAt, witnessAt, parentAt, proofTotal}
 

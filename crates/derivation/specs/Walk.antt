@@ -1,5 +1,5 @@
 -- The words of demand 3, as document 01 has them.
-use Prim.Native.Nat.{ℕ, suc, _+_, _<_}
+use Prim.Native.Nat.{ℕ, suc, _<_}
 use mathlib.Core.Path.{_≡_}
 use mathlib.Core.List.{List, [], _∷_}
 use lib.ListN.{length, take}
@@ -9,7 +9,8 @@ use Rattle.derivation.specs.Section.{Section, proofAt, witnessAt, parent
 -- proof reached owns, and moves to the proof numbered there; a cell whose number no proof has cannot be picked. A walk may stop anywhere
 pub data Walk (s : Section) : ℕ → List ℕ → ℕ → Type 0 where
   stay : {i : ℕ} → i < proofTotal s → Walk s i [] i
-  move : {i j k c : ℕ} {cs : List ℕ} → i < proofTotal s → OwnsParent s i c → j < proofTotal s → proofAt s j .number ≡ parentAt s c → Walk s j cs k → Walk s i (c ∷ cs) k
+  move : {i j k c : ℕ} {cs : List ℕ} → i < proofTotal s → OwnsParent s i c → j < proofTotal s → proofAt s j .number ≡ parentAt s c → Walk s j cs k
+      → Walk s i (c ∷ cs) k
 
 -- *at its end*: the proof reached has no parent
 unfoldable pub AtEnd : Section → ℕ → Type 0
@@ -45,4 +46,5 @@ ParentsBelow s = (i c : ℕ) → i < proofTotal s → OwnsParent s i c → paren
 
 -- *rise*: the second parent's number of each join, a proof of a two-parent rule, is above the first
 unfoldable pub JoinsRise : Section → Type 0
-JoinsRise s = (i : ℕ) → i < proofTotal s → proofAt s i .rule .parents ≡ 2 → parentAt s (proofAt s i .firstParent) < parentAt s (suc (proofAt s i .firstParent))
+JoinsRise s = (i : ℕ) → i < proofTotal s → proofAt s i .rule .parents ≡ 2
+    → parentAt s (proofAt s i .firstParent) < parentAt s (suc (proofAt s i .firstParent))

@@ -40,7 +40,8 @@ module _ (s : List ℕ) (short : length s ≤ 65536) where
   taken e = rw (le-leb (length s) 65536 short) (ap printed (sym e))
 
   -- ---- A refusal
-  pub refusal-printed : (x : Out Section) {r : Refusal} → decoded ≡ x → answerOf 0 x .outcome ≡ refused r → line refusedWord (r .number ∷ r .offset ∷ []) ≡ outputOf s
+  pub refusal-printed : (x : Out Section) {r : Refusal} → decoded ≡ x → answerOf 0 x .outcome ≡ refused r
+      → line refusedWord (r .number ∷ r .offset ∷ []) ≡ outputOf s
   unfolding printed
   refusal-printed (ok d) e h = absurd (never (sym h))
   refusal-printed (refused q) e h = taken (e ∙ ap refused (refused-same h))
@@ -48,7 +49,8 @@ module _ (s : List ℕ) (short : length s ≤ 65536) where
   -- ---- An accepted section
   accepted-lines : (d : Section) → decoded ≡ ok d
       → headLine (d .tables .head .counts) (d .cursor)
-      ++ linesAt (take (d .cursor - 8) (drop 8 s)) (take (d .tables .head .counts .proofs) (lent 1872 (startsOf (d .tables .proofs .entries)))) (take (d .tables .head .counts .proofs) (lent 1872 (d .depths)))
+      ++ linesAt (take (d .cursor - 8) (drop 8 s)) (take (d .tables .head .counts .proofs) (lent 1872 (startsOf (d .tables .proofs .entries))))
+      (take (d .tables .head .counts .proofs) (lent 1872 (d .depths)))
       ≡ outputOf s
   unfolding decodeSection printed
   accepted-lines d e =
@@ -56,10 +58,12 @@ module _ (s : List ℕ) (short : length s ≤ 65536) where
       let c = d .tables .head .counts in
       let es = d .tables .proofs .entries in
       let p = payloadTo fourRules enough s 0 (d .cursor) in
-      let starts : take (c .proofs) (lent 1872 (startsOf es)) ≡ startsOf es = front 1872 (c .proofs) (startsOf es) (length-map es (λ e. e .start) ∙ a .proofs) in
+      let starts : take (c .proofs) (lent 1872 (startsOf es))
+      ≡ startsOf es = front 1872 (c .proofs) (startsOf es) (length-map es (λ e. e .start) ∙ a .proofs) in
       let depths : take (c .proofs) (lent 1872 (d .depths)) ≡ d .depths = front 1872 (c .proofs) (d .depths) (a .depthCount) in
       ap (λ (x : List ℕ). headLine c (d .cursor) ++ x)
-      (ap₂ (linesAt p) starts depths ∙ lines-of-table fourRules c p (d .depths) (trace (proofRow fourRules c) p _ _ _ (d .tables .proofs) (a .tables .proofs)))
+      (ap₂ (linesAt p) starts depths ∙ lines-of-table fourRules c p (d .depths)
+      (trace (proofRow fourRules c) p _ _ _ (d .tables .proofs) (a .tables .proofs)))
       ∙ taken e
 
   pub record Given (cursor : ℕ) (counts : Counts) : Type 0 where
@@ -81,7 +85,8 @@ module _ (s : List ℕ) (short : length s ≤ 65536) where
             rw (f ∙ ap (λ (x : Out Section). lent 1872 (proofStarts x)) e, g ∙ ap (λ (x : Out Section). lent 1872 (proofDepths x)) e) (accepted-lines d e);
       }
 
-  pub given : (x : Out Section) {cursor : ℕ} {a : answer.Accepted} → decoded ≡ x → cursor ≡ answerOf 0 x .cursor → answerOf 0 x .outcome ≡ ok a → Given cursor (a .counts)
+  pub given : (x : Out Section) {cursor : ℕ} {a : answer.Accepted} → decoded ≡ x → cursor ≡ answerOf 0 x .cursor → answerOf 0 x .outcome ≡ ok a
+      → Given cursor (a .counts)
   given (refused r) e f h = absurd (never h)
   given (ok d) {a = a} e f h =
       subst (λ (n : ℕ). Given n (a .counts)) (sym f)

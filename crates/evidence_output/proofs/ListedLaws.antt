@@ -63,4 +63,5 @@ lines-of-table rules counts p ds none = refl
 lines-of-table rules counts p [] (more r e w) = refl
 lines-of-table rules counts p (d ∷ ds) (more {at = at} {state = u} r e w) =
     let b = proof-behind rules counts u (drop at p) r e in
-    ap₂ _++_ (ap (λ (x : Out (Sized ProofRecord)). recordLine x d) (b .read) ∙ ap (λ (x : ProofRecord). proofLine x d) (sym (b .item))) (lines-of-table rules counts p ds w)
+    ap₂ _++_ (ap (λ (x : Out (Sized ProofRecord)). recordLine x d) (b .read) ∙ ap (λ (x : ProofRecord). proofLine x d) (sym (b .item)))
+    (lines-of-table rules counts p ds w)

@@ -156,7 +156,8 @@ module _ (room : Room) (most : ℕ) (long : LongEnough room most) where
   check-counts-upto p h l =
       let limits = limits-upto (listed (h .counts)) countLimits (h .countsAt) in
       let there : leb (sizes (h .counts) 15 35 84 4) (length p - h .next) ≡ true → Upto29 (check (hasRoom room (h .counts)) 61 (h .next)) =
-      λ e. passed (hasRoom room (h .counts)) 61 (h .next) (long (h .counts) (omega (arith, leb-true (sizes (h .counts) 15 35 84 4) (length p - h .next) e))) in
+      λ e. passed (hasRoom room (h .counts)) 61 (h .next)
+      (long (h .counts) (omega (arith, leb-true (sizes (h .counts) 15 35 84 4) (length p - h .next) e))) in
       then-bound limits (after-check (leb (sizes (h .counts) 15 35 84 4) (length p - h .next)) 13 (h .next) tt λ e. let last = there e in search steps)
 
   module _ (rules : List Rule) where

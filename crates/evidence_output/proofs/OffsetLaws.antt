@@ -29,7 +29,8 @@ frame-within n s cursor h =
     within-check n (tagAt evr0 s cursor) 1 cursor _ (omega arith)
     (within-bind n (field 2 4 s (cursor + 4)) _ (cut-within n 2 (cursor + 4) (fieldAt 4 s (cursor + 4)) (omega arith)) λ size e.
     within-check n (leb 1 (size .value) && leb (size .value) 4194304) 3 (cursor + 4) _ (omega arith)
-    (within-bind n (field 4 (size .value) s (size .next)) _ (cut-within n 4 (size .next) (fieldAt (size .value) s (size .next)) (omega (arith, field-ok 2 4 s (cursor + 4) e .0))) λ payload f. tt))
+    (within-bind n (field 4 (size .value) s (size .next)) _
+    (cut-within n 4 (size .next) (fieldAt (size .value) s (size .next)) (omega (arith, field-ok 2 4 s (cursor + 4) e .0))) λ payload f. tt))
 
 moved-within : {A : Type 0} (n start : ℕ) (x : Out A) → ((r : Refusal) → x ≡ refused r → start + r .offset ≤ n) → RefusesWithin n (moved start x)
 moved-within n start (ok a) h = tt

@@ -9,7 +9,7 @@ use lib.Dec.{leb}
 use borrow.Author.Tests.{leb-true}
 use lib.Seq.{getD-drop}
 use Rattle.local_format.specs.Refusal.{Refusal}
-use Rattle.local_format.specs.Out.{Out, ok, refused, _>>=_}
+use Rattle.local_format.specs.Out.{Out, ok, refused}
 use Rattle.local_format.specs.Field.{Got}
 use Rattle.local_format.specs.Tag.{evr0}
 use Rattle.local_format.specs.Text.{sectionField, textAt}
@@ -57,7 +57,8 @@ Bytes s = (i : ℕ) → getD s i 0 < 256
 drop-bytes : (n : ℕ) (s : List ℕ) → Bytes s → Bytes (drop n s)
 drop-bytes n s h i = rw getD-drop (h (n + i))
 
-proof-line-length : (r : ProofRecord) (depth : ℕ) → r .number < 10 ^ 10 → r .proposition < 10 ^ 10 → r .authority < 10 ^ 10 → r .witnessCount < 10 ^ 10 → depth ≤ 256
+proof-line-length : (r : ProofRecord) (depth : ℕ) → r .number < 10 ^ 10 → r .proposition < 10 ^ 10 → r .authority < 10 ^ 10
+    → r .witnessCount < 10 ^ 10 → depth ≤ 256
     → length (proofLine r depth) ≤ 55
 unfolding proofLine
 proof-line-length r depth a b c d e =
@@ -150,7 +151,8 @@ unfolding sizes
 proofs-few c h = omega arith
 
 -- no input of 65,536 bytes has more
-pub records-few : (s : List ℕ) (cursor : ℕ) {d : Section} → length s ≤ 65536 → decodeSection enough s cursor ≡ ok d → sizes (d .tables .head .counts) 15 35 84 4 ≤ 65536
+pub records-few : (s : List ℕ) (cursor : ℕ) {d : Section} → length s ≤ 65536 → decodeSection enough s cursor ≡ ok d
+    → sizes (d .tables .head .counts) 15 35 84 4 ≤ 65536
 unfolding decodeSection
 records-few s cursor {d} l e =
     let a = accepted fourRules enough s cursor e in
@@ -159,7 +161,8 @@ records-few s cursor {d} l e =
     omega (arith, counts-few enough p (d .tables .head) (a .tables .counts))
 
 -- a buffer for any accepted input: 60 bytes for the first line and 55 for each proof
-pub accepted-length : (s : List ℕ) (cursor : ℕ) (d : Section) → length s ≤ 65536 → Bytes s → decodeSection enough s cursor ≡ ok d → length (printed (ok d)) ≤ 103020
+pub accepted-length : (s : List ℕ) (cursor : ℕ) (d : Section) → length s ≤ 65536 → Bytes s → decodeSection enough s cursor ≡ ok d
+    → length (printed (ok d)) ≤ 103020
 unfolding decodeSection printed depths
 accepted-length s cursor d l bytes e =
     let a = accepted fourRules enough s cursor e in

@@ -25,7 +25,9 @@ fn put_accepted(
 ) -> usize
     requires { ⌜ (8 ≤ end) × (end ≤ length (now input)) ⌝ }
     requires { ⌜ (counts .proofs ≤ length (now proofs)) × (counts .proofs ≤ length (now depths)) ⌝ }
-    ensures { λ r. ⌜ Written (now (output .entry)) 0 (headLine (countsOut counts) end ++ linesAt (take (end - 8) (drop 8 (now (input .entry)))) (take (counts .proofs) (now (proofs .entry))) (take (counts .proofs) (now (depths .entry)))) (now (output .exit)) r ⌝ }
+    ensures { λ r. ⌜ Written (now (output .entry)) 0
+        (headLine (countsOut counts) end ++ linesAt (take (end - 8) (drop 8 (now (input .entry)))) (take (counts .proofs) (now (proofs .entry)))
+        (take (counts .proofs) (now (depths .entry)))) (now (output .exit)) r ⌝ }
 {
     let count = counts.proofs;
     let next = crate::line::put_head(output, counts, end);

@@ -1,13 +1,12 @@
 -- What the decoder answers, by what is known of the section.
 use Prim.Native.Nat.{ℕ}
-use mathlib.Core.Path.{_≡_, refl, sym, ap, _∙_}
-use mathlib.Core.List.{List}
+use mathlib.Core.Path.{_≡_, sym}
 use Rattle.local_format.specs.Refusal.{Refusal}
 use Rattle.local_format.specs.Out.{Out, ok, refused}
 use Rattle.local_format.proofs.OutLaws.{bind-ok, never}
 use Rattle.evr0_section.specs.Head.{Head}
 use Rattle.evr0_section.specs.Section.{Section}
-use Rattle.evr0.specs.Answer.{Accepted, Answer, answerOf, passedIn}
+use Rattle.evr0.specs.Answer.{answerOf, passedIn}
 
 pub passed : (x : Out Section) {u : Unit {0}} → passedIn x ≡ ok u → (s : Section) × (x ≡ ok s)
 passed x e = let a = bind-ok x _ e in (a .0, a .1)

@@ -1,23 +1,21 @@
 -- A payload with a checked head: what its counts allow, what the last pass may rely on, and what its answer makes of the section.
 use Prim.Native.Nat.{ℕ, _+_, _-_, _≤_}
-use mathlib.Core.Path.{_≡_, refl, sym, ap, ap₂, _∙_, subst}
-use mathlib.Core.Bool.{true, _&&_}
-use mathlib.Core.List.{List, []}
+use mathlib.Core.Path.{_≡_, sym, ap, _∙_, subst}
+use mathlib.Core.List.{List}
 use native.Mathlib.Omega.{arith}
 use borrow.Author.Tests.{leb-true}
 use lib.Dec.{leb}
 use lib.ListN.{length, take, length-take}
 use Rattle.local_format.specs.Refusal.{Refusal}
-use Rattle.local_format.specs.Out.{Out, ok, refused, check, _>>=_, _>>_}
+use Rattle.local_format.specs.Out.{Out, ok, refused}
 use Rattle.local_format.specs.Maps.{refusalOut}
 use Rattle.local_format.proofs.OutLaws.{bind-ok, then-ok, checked-ok, check-ok, ok-same, never}
 use Rattle.lent_table.specs.Lent.{Front}
 use Rattle.derivation.specs.Rule.{fourRules}
-use Rattle.derivation.specs.Section as derivation
 use Rattle.derivation.specs.Pass.{depths}
 use Rattle.derivation.proofs.Tests.{both}
 use Rattle.evr0_section.specs.Head.{Counts, Head, Room, listed, countLimits, withinLimits, sizes, hasRoom, headOf, checkCounts}
-use Rattle.evr0_section.specs.Section.{Section, sectionOf, tablesOf, sectionIn}
+use Rattle.evr0_section.specs.Section.{sectionOf, tablesOf, sectionIn}
 use Rattle.evr0_head.specs.Maps.{checkedOut}
 use Rattle.evr0_head.specs.Checks.{Limited, checkedHead}
 use Rattle.evr0_head.specs.declared.check.Checked.{Checked}
@@ -25,12 +23,11 @@ use Rattle.evr0_head.specs.declared.check.Checked.the-variants as checked
 use Rattle.evr0_head.proofs.HeadLaws.{limited}
 use Rattle.evr0_section.proofs.SectionWithin.{head-end}
 use Rattle.evr0.specs.Maps.{startsOf}
-use Rattle.evr0.specs.View.{Layout, TablesThere, view}
+use Rattle.evr0.specs.View.{TablesThere, view}
 use Rattle.evr0.specs.PassMaps.{filled}
-use Rattle.evr0.specs.Payload.{Rest, Four, tablesAfter}
+use Rattle.evr0.specs.Payload.{Four, tablesAfter}
 use Rattle.evr0.specs.PayloadMaps.{Places, placesIn, propositionStartsIn, proofStartsIn}
 use Rattle.evr0.specs.Answer.{HeadThere, passedIn, propositionStarts, proofStarts, proofDepths}
-use Rattle.evr0.proofs.PayloadLaws.{same-front}
 use Rattle.evr0.proofs.SectionLaws.{whole, no-tables, tables-are, no-depths, accepted}
 use Rattle.evr0.proofs.ViewOf.{layoutOf, section-view, tables-there, starts-total}
 
@@ -75,7 +72,8 @@ ready room p counts at t =
 
 -- ---- The tables
 
-pub places-read : (x : Out Four) (a : Places) → placesIn x ≡ ok a → (f : Four) × (x ≡ ok f) × (f .proofs .next ≡ a .witnessesAt) × (f .rest .witnesses .next ≡ a .parentsAt)
+pub places-read : (x : Out Four) (a : Places) → placesIn x ≡ ok a → (f : Four) × (x ≡ ok f) × (f .proofs .next ≡ a .witnessesAt)
+    × (f .rest .witnesses .next ≡ a .parentsAt)
 places-read x a e =
     let b = bind-ok x _ e in
     (b .0, b .1, ap (λ (y : Places). y .witnessesAt) (ok-same (b .2)), ap (λ (y : Places). y .parentsAt) (ok-same (b .2)))
@@ -99,19 +97,23 @@ module _ (room : Room) (p : List ℕ) (counts : Counts) (at : ℕ) (there : Head
     read = tables-are fourRules room p 0 (there .head) (there .read) f of-head
 
     -- the starts that the lent table holds
-    pub starts-are : (proofs : List ℕ) → Front (proofStartsIn (tablesAfter fourRules counts p at)) proofs → take (counts .proofs) proofs ≡ startsOf (f .proofs .entries)
+    pub starts-are : (proofs : List ℕ) → Front (proofStartsIn (tablesAfter fourRules counts p at)) proofs → take (counts .proofs) proofs
+        ≡ startsOf (f .proofs .entries)
     starts-are proofs h =
         let k : Front (startsOf (f .proofs .entries)) proofs = rw e at h in
-        let l : length (startsOf (f .proofs .entries)) ≡ counts .proofs = starts-total fourRules room p (whole (there .head) f) read ∙ ap (λ (c : Counts). c .proofs) (there .same) in
+        let l : length (startsOf (f .proofs .entries)) ≡ counts .proofs = starts-total fourRules room p (whole (there .head) f) read
+        ∙ ap (λ (c : Counts). c .proofs) (there .same) in
         rw l at k
 
     same-layout : layoutOf (whole (there .head) f) ≡ record { counts = counts; witnessesAt = f .proofs .next; parentsAt = f .rest .witnesses .next }
     same-layout = rw (there .same)
 
-    pub may-derive : TablesThere fourRules p (startsOf (f .proofs .entries)) (record { counts = counts; witnessesAt = f .proofs .next; parentsAt = f .rest .witnesses .next })
+    pub may-derive : TablesThere fourRules p (startsOf (f .proofs .entries))
+        (record { counts = counts; witnessesAt = f .proofs .next; parentsAt = f .rest .witnesses .next })
     may-derive = rw (← same-layout) (tables-there fourRules room p (whole (there .head) f) read)
 
-    viewed : view fourRules p (startsOf (f .proofs .entries)) (record { counts = counts; witnessesAt = f .proofs .next; parentsAt = f .rest .witnesses .next }) ≡ sectionOf (whole (there .head) f)
+    viewed : view fourRules p (startsOf (f .proofs .entries))
+        (record { counts = counts; witnessesAt = f .proofs .next; parentsAt = f .rest .witnesses .next }) ≡ sectionOf (whole (there .head) f)
     viewed = rw (← same-layout) (sym (section-view fourRules room p (whole (there .head) f) read))
 
     -- ---- The last pass's answer
@@ -126,13 +128,18 @@ module _ (room : Room) (p : List ℕ) (counts : Counts) (at : ℕ) (there : Head
 
     pub left : (r : Checked) (n : ℕ) (ps qs ds : List ℕ) → n ≤ length ds
         → Front (propositionStartsIn (tablesAfter fourRules counts p at)) ps → Front (proofStartsIn (tablesAfter fourRules counts p at)) qs
-        → filled r (take n ds) ≡ depths (f .rest .witnesses .next) (view fourRules p (startsOf (f .proofs .entries)) (record { counts = counts; witnessesAt = f .proofs .next; parentsAt = f .rest .witnesses .next }))
+        → filled r (take n ds) ≡ depths (f .rest .witnesses .next)
+        (view fourRules p (startsOf (f .proofs .entries))
+        (record { counts = counts; witnessesAt = f .proofs .next; parentsAt = f .rest .witnesses .next }))
         → (end : ℕ) → Left end r ps qs ds
     left (checked.Refused q) n ps qs ds h a b k end =
-        let x : sectionIn fourRules room p end ≡ refused (refusalOut q) = no-depths fourRules room p end (there .head) (there .read) f of-head _ (sym (rw viewed at k)) in
+        let x : sectionIn fourRules room p end
+        ≡ refused (refusalOut q) = no-depths fourRules room p end (there .head) (there .read) f of-head _ (sym (rw viewed at k)) in
         record { answer = sym (ap passedIn x); propositions = rw x; proofs = rw x; depths = rw x }
     left checked.Passed n ps qs ds h a b k end =
-        let x : sectionIn fourRules room p end ≡ ok (record { tables = whole (there .head) f; depths = take n ds; cursor = end }) = accepted fourRules room p end (there .head) (there .read) f of-head _ (sym (rw viewed at k)) in
+        let x : sectionIn fourRules room p end
+        ≡ ok (record { tables = whole (there .head) f; depths = take n ds; cursor = end }) = accepted fourRules room p end (there .head)
+        (there .read) f of-head _ (sym (rw viewed at k)) in
         record { answer = sym (ap passedIn x); propositions = rw x (rw e at a); proofs = rw x (rw e at b); depths = rw x (front-take n ds h) }
 
     -- ---- The same by the places and the starts that the code has

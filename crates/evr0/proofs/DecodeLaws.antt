@@ -1,11 +1,11 @@
 -- From the section of a payload to the section at a cursor, and to what the lent tables hold in the end.
 use Prim.Native.Nat.{ℕ, _+_, _-_, _≤_}
 use mathlib.Core.Path.{_≡_, refl, sym, ap, _∙_}
-use mathlib.Core.List.{List, [], map}
+use mathlib.Core.List.{List}
 use native.Mathlib.Omega.{arith}
 use lib.ListN.{length, take, drop, length-map}
 use Rattle.local_format.specs.Refusal.{Refusal}
-use Rattle.local_format.specs.Out.{Out, ok, refused, moved, atOffset, _>>=_}
+use Rattle.local_format.specs.Out.{Out, ok, refused, moved, atOffset}
 use Rattle.local_format.specs.Text.{bytesAt}
 use Rattle.local_format.proofs.OutLaws.{bind-ok, ok-same, never}
 use Rattle.derivation.specs.Rule.{fourRules}
@@ -13,14 +13,14 @@ use Rattle.derivation.specs.Section.{proofTotal}
 use Rattle.derivation.specs.Pass.{depths}
 use Rattle.derivation.proofs.Rules.{four-shaped}
 use Rattle.derivation.proofs.Demand.{depths-are}
-use Rattle.evr0_section.specs.Head.{Counts, Room}
+use Rattle.evr0_section.specs.Head.{Room}
 use Rattle.evr0_section.specs.Section.{Tables, Section, Frame, frameAt, sectionOf, tablesOf, sectionIn, sectionAt, decodeSection}
 use Rattle.evr0_section.specs.Proposition.{propositionRow}
 use Rattle.evr0_section.proofs.RowsLaws.{trace, trace-length}
-use Rattle.evr0_section.proofs.CheckedTables.{Steps, steps, tables-checked}
+use Rattle.evr0_section.proofs.CheckedTables.{steps, tables-checked}
 use Rattle.evr0_section.proofs.SectionWithin.{four-within}
 use Rattle.evr0.specs.Maps.{startsOf}
-use Rattle.evr0.specs.Answer.{Accepted, Answer, answerOf, propositionStarts, proofStarts, proofDepths}
+use Rattle.evr0.specs.Answer.{Accepted, Answer, answerOf}
 use Rattle.evr0.proofs.ViewOf.{starts-total}
 
 -- ---- The outcome
@@ -47,14 +47,16 @@ pub record Lengths (s : Section) : Type 0 where
   pub proofs : length (startsOf (s .tables .proofs .entries)) ≡ s .tables .head .counts .proofs
   pub depths : length (s .depths) ≡ s .tables .head .counts .proofs
 
-tables-lengths : (room : Room) (p : List ℕ) (t : Tables) (ds : List ℕ) (cursor : ℕ) → tablesOf fourRules room p ≡ ok t → depths (t .witnesses .next) (sectionOf t) ≡ ok ds
+tables-lengths : (room : Room) (p : List ℕ) (t : Tables) (ds : List ℕ) (cursor : ℕ) → tablesOf fourRules room p ≡ ok t
+    → depths (t .witnesses .next) (sectionOf t) ≡ ok ds
     → Lengths (record { tables = t; depths = ds; cursor = cursor })
 unfolding sectionOf proofTotal
 tables-lengths room p t ds cursor e k =
     let n = starts-total fourRules room p t e in
     let d = depths-are (t .witnesses .next) (sectionOf t) (tables-checked fourRules room p t e four-shaped) ds k .total in
     record {
-      propositions = length-map (t .propositions .entries) _ ∙ trace-length propositionRow p (trace propositionRow p _ _ _ (t .propositions) (steps fourRules room p t e .propositions));
+      propositions = length-map (t .propositions .entries) _
+          ∙ trace-length propositionRow p (trace propositionRow p _ _ _ (t .propositions) (steps fourRules room p t e .propositions));
       proofs = n;
       depths = d ∙ length-map (t .proofs .entries) _ ∙ sym (length-map (t .proofs .entries) _) ∙ n;
     }
@@ -79,7 +81,8 @@ module _ (room : Room) (s : List ℕ) (start len cursor : ℕ) (a : Answer)
   pub refusal-within : (q : Refusal) → a .outcome ≡ refused q → q .offset ≤ length (take (start + len - start) (drop start s))
   refusal-within q k = four-within room _ (start + len) (part-refused q k)
 
-  pub moved-refused : (q : Refusal) → a .outcome ≡ refused q → moved start (sectionIn fourRules room (bytesAt s start len) (start + len)) ≡ refused (atOffset q (start + q .offset))
+  pub moved-refused : (q : Refusal) → a .outcome ≡ refused q → moved start (sectionIn fourRules room (bytesAt s start len) (start + len))
+      ≡ refused (atOffset q (start + q .offset))
   moved-refused q k = let x = part-refused q k in rw (← same-part s start len, x)
 
   pub record Given (g : Accepted) : Type 0 where
@@ -107,6 +110,7 @@ module _ (room : Room) (s : List ℕ) (cursor : ℕ) where
   unfolding decodeSection sectionAt
   no-frame q e = rw e
 
-  pub framed : (f : Frame) → frameAt s cursor ≡ ok f → decodeSection room s cursor ≡ moved (f .start) (sectionIn fourRules room (bytesAt s (f .start) (f .len)) (f .start + f .len))
+  pub framed : (f : Frame) → frameAt s cursor ≡ ok f → decodeSection room s cursor
+      ≡ moved (f .start) (sectionIn fourRules room (bytesAt s (f .start) (f .len)) (f .start + f .len))
   unfolding decodeSection sectionAt
   framed f e = rw e

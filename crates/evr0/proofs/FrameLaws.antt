@@ -4,11 +4,10 @@ use mathlib.Core.Path.{_≡_}
 use mathlib.Core.Bool.{true, false, _&&_}
 use lib.Dec.{leb}
 use mathlib.Core.List.{List}
-use native.Mathlib.Omega.{arith}
 use lib.ListN.{length}
 use borrow.Author.Tests.{le-leb, lt-leb}
 use Rattle.local_format.specs.Out.{ok, refuse}
-use Rattle.local_format.specs.Field.{Got, whole, cut, fieldAt, field}
+use Rattle.local_format.specs.Field.{whole, cut, fieldAt, field}
 use Rattle.local_format.proofs.OutLaws.{bind-ok, checked-ok, ok-same}
 use Rattle.local_format.proofs.FieldLaws.{field-ok}
 use Rattle.local_format.specs.Tag.{tagAt, evr0}

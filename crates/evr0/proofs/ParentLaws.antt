@@ -1,12 +1,12 @@
 -- The parent cells, which have one size: all there, or the first cut one refused at its place.
 use Prim.Native.Nat.{ℕ, zero, suc, _+_, _-_, _*_, _/_, _≤_, _<_}
-use mathlib.Core.Path.{_≡_, refl, sym, ap, _∙_}
+use mathlib.Core.Path.{_≡_, refl, ap, _∙_}
 use mathlib.Core.List.{List, [], _∷_}
 use native.Mathlib.Omega.{arith}
 use native.Mathlib.Decide.{decLe}
 use lib.ListN.{length, drop, length-drop}
-use Rattle.local_format.specs.Refusal.{Refusal, refusal}
-use Rattle.local_format.specs.Out.{Out, ok, refused, refuse, atOffset}
+use Rattle.local_format.specs.Refusal.{refusal}
+use Rattle.local_format.specs.Out.{Out, ok, refused, refuse}
 use Rattle.local_format.specs.Field.{le}
 use Rattle.local_format.proofs.FieldLaws.{field-there, is-cut}
 use Rattle.evr0_section.specs.Rows.{Row, Entry, Rows, rows}

@@ -1,8 +1,8 @@
 -- The tables of a payload after its head: one law for each way that their reading ends.
-use Prim.Native.Nat.{ℕ, _≤_}
-use mathlib.Core.Path.{_≡_, refl, sym, ap, ap₂, _∙_}
+use Prim.Native.Nat.{ℕ}
+use mathlib.Core.Path.{_≡_, sym, ap}
 use mathlib.Core.Bool.{true, false, _&&_}
-use mathlib.Core.List.{List, []}
+use mathlib.Core.List.{List}
 use lib.Dec.{eqb}
 use lib.ListN.{length}
 use Rattle.local_format.specs.Refusal.{Refusal}
@@ -15,9 +15,9 @@ use Rattle.evr0_section.specs.Head.{Counts}
 use Rattle.evr0_section.specs.Proposition.{Proposition, Before, first, propositionRow}
 use Rattle.evr0_section.specs.Proof.{Settled, Unowned, proofRow}
 use Rattle.evr0_section.specs.Witness.{WitnessRecord, witnessRow, parentRow}
-use Rattle.evr0.specs.Maps.{nextIn, startsOf, startsIn, Owned, ownedIn, noneOwned}
+use Rattle.evr0.specs.Maps.{nextIn, Owned, ownedIn, noneOwned}
 use Rattle.evr0.specs.Payload.{Rest, Four, restAfter, tablesAfter}
-use Rattle.evr0.specs.PayloadMaps.{Places, parentsIn, placesIn, propositionStartsIn, proofStartsIn}
+use Rattle.evr0.specs.PayloadMaps.{parentsIn, placesIn, propositionStartsIn, proofStartsIn}
 
 -- ---- A table by what is kept of it
 module _ {A S : Type 0} where
@@ -28,7 +28,8 @@ module _ {A S : Type 0} where
   next-refused (ok t) q e = absurd (never (sym e))
   next-refused (refused r) q e = cc
 
-pub owned-read : (x : Out (Rows Settled Unowned)) (o : Owned) → ownedIn x ≡ ok o → (t : Rows Settled Unowned) × (x ≡ ok t) × (t .state ≡ o .unowned) × (t .next ≡ o .next)
+pub owned-read : (x : Out (Rows Settled Unowned)) (o : Owned) → ownedIn x ≡ ok o → (t : Rows Settled Unowned) × (x ≡ ok t) × (t .state ≡ o .unowned)
+    × (t .next ≡ o .next)
 owned-read x o e =
     let a = bind-ok x _ e in
     (a .0, a .1, ap (λ (y : Owned). y .unowned) (ok-same (a .2)), ap (λ (y : Owned). y .next) (ok-same (a .2)))
@@ -41,7 +42,8 @@ pub same-front : (xs ys t : List ℕ) → xs ≡ ys → Front ys t → Front xs 
 same-front xs ys t e h = rw e h
 
 -- ---- What a refusal leaves, whatever the lent tables hold
-pub unread : (x : Out Four) (q : Refusal) (ps qs : List ℕ) → x ≡ refused q → (refused q ≡ placesIn x) × Front (propositionStartsIn x) ps × Front (proofStartsIn x) qs
+pub unread : (x : Out Four) (q : Refusal) (ps qs : List ℕ) → x ≡ refused q → (refused q ≡ placesIn x) × Front (propositionStartsIn x) ps
+    × Front (proofStartsIn x) qs
 unread x q ps qs e = (sym (ap placesIn e), rw e, rw e)
 
 pub parents-read : (x : Out Rest) (n : ℕ) → parentsIn x ≡ ok n → (t : Rest) × (x ≡ ok t) × (t .witnesses .next ≡ n)
@@ -82,7 +84,8 @@ module _ (rules : List Rule) (counts : Counts) (p : List ℕ) (at : ℕ) where
     cut-2 q e = rw (e₁, e)
 
     module _ (b : Rows Settled Unowned) (e₂ : rows (proofRow rules counts) (counts .proofs) noneOwned p (a .next) ≡ ok b) where
-      pub not-owned : (eqb (b .state .witness) (counts .witnesses) && eqb (b .state .parent) (counts .parents)) ≡ false → tablesAfter rules counts p at ≡ refuse 22 (b .next)
+      pub not-owned : (eqb (b .state .witness) (counts .witnesses) && eqb (b .state .parent) (counts .parents)) ≡ false
+          → tablesAfter rules counts p at ≡ refuse 22 (b .next)
       unfolding tablesAfter
       not-owned e = rw (e₁, e₂, e)
 
@@ -91,6 +94,7 @@ module _ (rules : List Rule) (counts : Counts) (p : List ℕ) (at : ℕ) where
         unfolding tablesAfter
         cut-rest q e = rw (e₁, e₂, owned, e)
 
-        pub tables-read : (r : Rest) → restAfter counts p (b .next) ≡ ok r → tablesAfter rules counts p at ≡ ok (record { propositions = a; proofs = b; rest = r })
+        pub tables-read : (r : Rest) → restAfter counts p (b .next) ≡ ok r → tablesAfter rules counts p at
+            ≡ ok (record { propositions = a; proofs = b; rest = r })
         unfolding tablesAfter
         tables-read r e = rw (e₁, e₂, owned, e)

@@ -11,11 +11,12 @@ use Rattle.evr0_section.specs.Head.{Counts}
 use Rattle.evr0_section.specs.Rows.{Row}
 use Rattle.evr0_section.specs.Witness.{WitnessRecord, witnessRow}
 use Rattle.evr0_section.specs.Proof.{ProofRecord, Unowned, checkProof}
-use Rattle.evr0_section.proofs.RowChecks.{GoodProof, proof-checked, witness-known}
+use Rattle.evr0_section.proofs.RowChecks.{proof-checked, witness-known}
 use Rattle.evr0_head.specs.Maps.{Beside, beside}
 use Rattle.evr0.specs.Maps.{afterRecord, Kept, keptIn, sizeIn}
 
-pub after-checked : (rules : List Rule) (counts : Counts) (u : Unowned) (name : List ℕ) (r : ProofRecord) (rule : Rule) (size : ℕ) → checkProof rules counts u name r ≡ ok rule
+pub after-checked : (rules : List Rule) (counts : Counts) (u : Unowned) (name : List ℕ) (r : ProofRecord) (rule : Rule) (size : ℕ)
+    → checkProof rules counts u name r ≡ ok rule
     → _≡_ {A = Out (Kept Unowned)}
     (ok (record { size = size; state = afterRecord r }))
     (ok (record { size = size; state = record { proof = suc (u .proof); witness = u .witness + r .witnessCount; parent = u .parent + r .parentCount } }))

@@ -6,7 +6,7 @@ use mathlib.Core.List.{List}
 use lib.Dec.{eqb}
 use lib.ListN.{length}
 use Rattle.local_format.specs.Refusal.{Refusal}
-use Rattle.local_format.specs.Out.{Out, ok, refused, refuse, check, _>>=_, _>>_}
+use Rattle.local_format.specs.Out.{Out, ok, refused, check, _>>=_, _>>_}
 use Rattle.local_format.proofs.OutLaws.{bind-ok, ok-same}
 use Rattle.derivation.specs.Rule.{Rule}
 use Rattle.derivation.specs.Pass.{depths}
@@ -45,7 +45,8 @@ module _ (rules : List Rule) (room : Room) (p : List ℕ) where
 
     by-witnesses : (a : Rows Proposition Before) (b : Rows Settled Unowned) (x : Out (Rows WitnessRecord ℕ))
         → (x >>= λ c. rows parentRow (h .counts .parents) tt p (c .next) >>= λ d. check (eqb (d .next) (length p)) 24 (d .next) >> end a b c d)
-        ≡ ((x >>= λ c. rows parentRow (h .counts .parents) tt p (c .next) >>= λ d. check (eqb (d .next) (length p)) 24 (d .next) >> ok (record { witnesses = c; parents = d })) >>= λ r. four a b r)
+        ≡ ((x >>= λ c. rows parentRow (h .counts .parents) tt p (c .next) >>= λ d. check (eqb (d .next) (length p)) 24 (d .next) >> ok
+        (record { witnesses = c; parents = d })) >>= λ r. four a b r)
     by-witnesses a b (refused r) = refl
     by-witnesses a b (ok c) = by-parents a b c (rows parentRow (h .counts .parents) tt p (c .next))
 
@@ -57,7 +58,8 @@ module _ (rules : List Rule) (room : Room) (p : List ℕ) where
 
     by-owned : (a : Rows Proposition Before) (b : Rows Settled Unowned) (t : Bool)
         → (check t 22 (b .next) >> tail a b)
-        ≡ ((check t 22 (b .next) >> (restAfter (h .counts) p (b .next) >>= λ r. ok (record { propositions = a; proofs = b; rest = r }))) >>= λ f. ok (whole h f))
+        ≡ ((check t 22 (b .next) >> (restAfter (h .counts) p (b .next) >>= λ r. ok (record { propositions = a; proofs = b; rest = r }))) >>= λ f. ok
+        (whole h f))
     unfolding restAfter
     by-owned a b false = refl
     by-owned a b true = by-witnesses a b (rows (witnessRow 4 (h .counts)) (h .counts .witnesses) 0 p (b .next)) ∙ again (restAfter (h .counts) p (b .next))
@@ -71,13 +73,15 @@ module _ (rules : List Rule) (room : Room) (p : List ℕ) where
 
     by-proofs : (a : Rows Proposition Before) (x : Out (Rows Settled Unowned))
         → (x >>= λ b. check (owned b) 22 (b .next) >> tail a b)
-        ≡ ((x >>= λ b. check (owned b) 22 (b .next) >> (restAfter (h .counts) p (b .next) >>= λ r. ok (record { propositions = a; proofs = b; rest = r }))) >>= λ f. ok (whole h f))
+        ≡ ((x >>= λ b. check (owned b) 22 (b .next) >>
+        (restAfter (h .counts) p (b .next) >>= λ r. ok (record { propositions = a; proofs = b; rest = r }))) >>= λ f. ok (whole h f))
     by-proofs a (refused r) = refl
     by-proofs a (ok b) = by-owned a b (owned b)
 
     by-propositions : (x : Out (Rows Proposition Before))
         → (x >>= λ a. rows (proofRow rules (h .counts)) (h .counts .proofs) noneOwned p (a .next) >>= λ b. check (owned b) 22 (b .next) >> tail a b)
-        ≡ ((x >>= λ a. rows (proofRow rules (h .counts)) (h .counts .proofs) noneOwned p (a .next) >>= λ b. check (owned b) 22 (b .next) >> (restAfter (h .counts) p (b .next) >>= λ r. ok (record { propositions = a; proofs = b; rest = r }))) >>= λ f. ok (whole h f))
+        ≡ ((x >>= λ a. rows (proofRow rules (h .counts)) (h .counts .proofs) noneOwned p (a .next) >>= λ b. check (owned b) 22 (b .next) >>
+        (restAfter (h .counts) p (b .next) >>= λ r. ok (record { propositions = a; proofs = b; rest = r }))) >>= λ f. ok (whole h f))
     by-propositions (refused r) = refl
     by-propositions (ok a) = by-proofs a (rows (proofRow rules (h .counts)) (h .counts .proofs) noneOwned p (a .next))
 
@@ -87,13 +91,16 @@ module _ (rules : List Rule) (room : Room) (p : List ℕ) where
   tables-steps = by-head (headOf p)
     where
       by-counts : (h : Head) (x : Out (Unit {0}))
-          → (x >> (rows propositionRow (h .counts .propositions) first p (h .next) >>= λ a. rows (proofRow rules (h .counts)) (h .counts .proofs) noneOwned p (a .next) >>= λ b. check (owned h b) 22 (b .next) >> tail h a b))
+          → (x >> (rows propositionRow (h .counts .propositions) first p (h .next) >>= λ a. rows (proofRow rules (h .counts)) (h .counts .proofs)
+          noneOwned p (a .next) >>= λ b. check (owned h b) 22 (b .next) >> tail h a b))
           ≡ ((x >> ok h) >>= λ g. tablesAfter rules (g .counts) p (g .next) >>= λ f. ok (whole g f))
       by-counts h (refused r) = refl
       by-counts h (ok u) = by-propositions h (rows propositionRow (h .counts .propositions) first p (h .next))
 
       by-head : (x : Out Head)
-          → (x >>= λ h. checkCounts room p h >> (rows propositionRow (h .counts .propositions) first p (h .next) >>= λ a. rows (proofRow rules (h .counts)) (h .counts .proofs) noneOwned p (a .next) >>= λ b. check (owned h b) 22 (b .next) >> tail h a b))
+          → (x >>= λ h. checkCounts room p h >>
+          (rows propositionRow (h .counts .propositions) first p (h .next) >>= λ a. rows (proofRow rules (h .counts)) (h .counts .proofs)
+          noneOwned p (a .next) >>= λ b. check (owned h b) 22 (b .next) >> tail h a b))
           ≡ ((x >>= λ h. checkCounts room p h >> ok h) >>= λ g. tablesAfter rules (g .counts) p (g .next) >>= λ f. ok (whole g f))
       by-head (refused r) = refl
       by-head (ok h) = by-counts h (checkCounts room p h)

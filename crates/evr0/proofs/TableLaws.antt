@@ -1,24 +1,25 @@
 -- What a loop over a table leaves in the lent table and answers, for any table: from `Progress`.
 use Prim.Native.Nat.{ℕ, _+_, _-_, _≤_, _<_}
-use mathlib.Core.Path.{_≡_, refl, sym, ap, ap₂, _∙_}
-use mathlib.Core.List.{List, [], _∷_, _++_, map}
+use mathlib.Core.Path.{_≡_, sym, ap, ap₂, _∙_}
+use mathlib.Core.List.{List}
 use native.Mathlib.Omega.{arith}
 use native.Mathlib.Numerals.{add-one}
 use lib.ListN.{length, take, drop, set, length-take, length-drop}
 use lib.Seq.{take-suc-set}
 use Rattle.local_format.specs.Refusal.{Refusal}
-use Rattle.local_format.specs.Out.{Out, ok, refused, atOffset}
+use Rattle.local_format.specs.Out.{Out, ok, refused}
 use Rattle.lent_table.specs.Lent.{Front}
-use Rattle.evr0_section.specs.Rows.{Row, Entry, Rows, rows}
+use Rattle.evr0_section.specs.Rows.{Row, rows}
 use Rattle.evr0_section.specs.Proof.{Settled, Unowned}
 use Rattle.evr0_section.proofs.Inside.{Inside, inside-ok, inside-refused}
-use Rattle.evr0_section.proofs.Progress.{Progress, Done, begun, turn, refused-at, ended}
-use Rattle.evr0.specs.Maps.{nextIn, startsIn, Owned, ownedIn}
+use Rattle.evr0_section.proofs.Progress.{Progress, Done, turn}
+use Rattle.evr0.specs.Maps.{nextIn, startsIn, ownedIn}
 
 module _ {A S : Type 0} (row : S → List ℕ → Out (Row A S)) (p : List ℕ) (count at : ℕ) (first : S) where
   -- a turn that stored the start
   pub stored : (starts : List ℕ) (i place : ℕ) (state : S) → Progress row p count at first i place state (take i starts) → i < count → i < length starts
-      → (r : Row A S) → row state (drop place p) ≡ ok r → Progress row p count at first (i + 1) (place + r .size) (r .state) (take (i + 1) (set starts i place))
+      → (r : Row A S) → row state (drop place p) ≡ ok r
+      → Progress row p count at first (i + 1) (place + r .size) (r .state) (take (i + 1) (set starts i place))
   stored starts i place state done h room r e =
       rw (add-one i, take-suc-set starts i place room) (rw (add-one i) at (turn row p count at first i place state (take i starts) done h r e))
 

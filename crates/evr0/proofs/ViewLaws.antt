@@ -42,7 +42,8 @@ module _ (rules : List Rule) (p starts : List ℕ) (l : Layout) where
 
   pub witness-at : (w : ℕ) → w < l .counts .witnesses → witnessAt (view rules p starts l) w ≡ witnessView p (l .witnessesAt + 84 * w)
   unfolding witnessAt view
-  witness-at w h = getD-map-in (witnessView p) (places 84 (l .counts .witnesses) (l .witnessesAt)) w 0 _ (rw length-places h) ∙ ap (witnessView p) (getD-places 84 _ _ w h)
+  witness-at w h = getD-map-in (witnessView p) (places 84 (l .counts .witnesses) (l .witnessesAt)) w 0 _ (rw length-places h)
+      ∙ ap (witnessView p) (getD-places 84 _ _ w h)
 
   pub parent-at : (c : ℕ) → c < l .counts .parents → parentAt (view rules p starts l) c ≡ le 4 p (l .parentsAt + 4 * c)
   unfolding parentAt view

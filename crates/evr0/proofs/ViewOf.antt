@@ -43,7 +43,8 @@ module _ {A S : Type 0} (row : S → List ℕ → Out (Row A S)) (p : List ℕ) 
 
 -- ---- A proof
 
-module _ (rules : List Rule) (p : List ℕ) (l : Layout) (u : Unowned) (at : ℕ) (r : Row Settled Unowned) (e : proofRow rules (l .counts) u (drop at p) ≡ ok r) where
+module _ (rules : List Rule) (p : List ℕ) (l : Layout) (u : Unowned) (at : ℕ) (r : Row Settled Unowned)
+    (e : proofRow rules (l .counts) u (drop at p) ≡ ok r) where
   x : Sized ProofRecord
   x = proof-behind rules (l .counts) u (drop at p) r e .proof
 
@@ -92,7 +93,8 @@ module _ (rules : List Rule) (p : List ℕ) (l : Layout) (u : Unowned) (at : ℕ
 
 -- the i-th proof of a table whose first has the number of the state
 proofs-there : (rules : List Rule) (p : List ℕ) (l : Layout) {n at end : ℕ} {u v : Unowned} {es : List (Entry Settled)}
-    → Trace (proofRow rules (l .counts)) p n u at es v end → (i : ℕ) → i < length (startsOf es) → ProofThere rules p l (getD (startsOf es) i 0) (u .proof + i)
+    → Trace (proofRow rules (l .counts)) p n u at es v end → (i : ℕ) → i < length (startsOf es)
+    → ProofThere rules p l (getD (startsOf es) i 0) (u .proof + i)
 proofs-there rules p l none i h = absurd (omega arith)
 proofs-there rules p l (more {at = at} {state = u} r e w) zero h =
     let q : u .proof + 0 ≡ u .proof = omega arith in
@@ -126,10 +128,12 @@ module _ (rules : List Rule) (room : Room) (p : List ℕ) (t : Tables) (read : t
   read-steps : Steps rules room p t
   read-steps = steps rules room p t read
 
-  proofs-read : Trace (proofRow rules (t .head .counts)) p (t .head .counts .proofs) (record { proof = 0; witness = 0; parent = 0 }) (t .propositions .next) (t .proofs .entries) (t .proofs .state) (t .proofs .next)
+  proofs-read : Trace (proofRow rules (t .head .counts)) p (t .head .counts .proofs) (record { proof = 0; witness = 0; parent = 0 })
+      (t .propositions .next) (t .proofs .entries) (t .proofs .state) (t .proofs .next)
   proofs-read = trace (proofRow rules (t .head .counts)) p _ _ _ (t .proofs) (read-steps .proofs)
 
-  witnesses-read : Trace (witnessRow 4 (t .head .counts)) p (t .head .counts .witnesses) 0 (t .proofs .next) (t .witnesses .entries) (t .witnesses .state) (t .witnesses .next)
+  witnesses-read : Trace (witnessRow 4 (t .head .counts)) p (t .head .counts .witnesses) 0 (t .proofs .next) (t .witnesses .entries)
+      (t .witnesses .state) (t .witnesses .next)
   witnesses-read = trace (witnessRow 4 (t .head .counts)) p _ _ _ (t .witnesses) (read-steps .witnesses)
 
   parents-read : Trace parentRow p (t .head .counts .parents) tt (t .witnesses .next) (t .parents .entries) (t .parents .state) (t .parents .next)

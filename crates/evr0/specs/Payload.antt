@@ -4,7 +4,7 @@ use mathlib.Core.Bool.{_&&_}
 use mathlib.Core.List.{List}
 use lib.ListN.{length}
 use lib.Dec.{eqb}
-use Rattle.local_format.specs.Out.{Out, ok, refused, check, _>>=_, _>>_}
+use Rattle.local_format.specs.Out.{Out, ok, check, _>>=_, _>>_}
 use Rattle.derivation.specs.Rule.{Rule}
 use Rattle.evr0_section.specs.Rows.{Rows, rows}
 use Rattle.evr0_section.specs.Head.{Counts}

@@ -115,7 +115,8 @@ fn rises(parent: usize, number: usize, least: usize) -> bool
 // Whether the proof at `start` has the proposition and the authority of `proof`.
 fn agrees(payload: &[u8], start: usize, proof: Proof) -> bool
     requires { ⌜ afterName (now payload) start + 24 ≤ length (now payload) ⌝ }
-    ensures { λ r. ⌜ r ≡ (eqb (proofView fourRules (now (payload .entry)) start .proposition) (proofOut proof .proposition) && eqb (proofView fourRules (now (payload .entry)) start .authority) (proofOut proof .authority)) ⌝ }
+    ensures { λ r. ⌜ r ≡ (eqb (proofView fourRules (now (payload .entry)) start .proposition) (proofOut proof .proposition) && eqb
+        (proofView fourRules (now (payload .entry)) start .authority) (proofOut proof .authority)) ⌝ }
 {
     let own = proof.proposition_index.0;
     let proposition = u32_at(payload, start + 4);
@@ -140,7 +141,8 @@ fn parents_from(
     proof: Proof,
 ) -> Depth
     requires { ⌜ ProofDue fourRules (now payload) (now starts) (layoutOut tables) (now depths) (proofOut proof) ⌝ }
-    ensures { λ r. ⌜ depthOut r ≡ of.parentsFrom (tables .«parents_at») (tablesIn (now (payload .entry)) (now (starts .entry)) tables) (proofOut proof) (take (proof .«proof_id» .0) (now (depths .entry))) (proof .«parent_count») (proof .«parent_first») 0 0 ⌝ }
+    ensures { λ r. ⌜ depthOut r ≡ of.parentsFrom (tables .«parents_at») (tablesIn (now (payload .entry)) (now (starts .entry)) tables)
+        (proofOut proof) (take (proof .«proof_id» .0) (now (depths .entry))) (proof .«parent_count») (proof .«parent_first») 0 0 ⌝ }
 {
     let number = proof.proof_id.place();
     let mut cell = evr0_head::number::wide(proof.parent_first);
@@ -169,7 +171,9 @@ fn parents_from(
 fn witnesses_from(payload: &[u8], tables: Layout, proof: Proof) -> Checked
     requires { ⌜ tables .«witnesses_at» + 84 * tables .counts .witnesses ≤ length (now payload) ⌝ }
     requires { ⌜ proof .«witness_first» .0 + proof .«witness_count» ≤ tables .counts .witnesses ⌝ }
-    ensures { λ r. ⌜ ((starts : List ℕ) → checkedOut r ≡ of.witnessesFrom (tables .«parents_at») (tablesIn (now (payload .entry)) starts tables) (proofOut proof) (proof .«witness_count») (proof .«witness_first» .0)) ⌝ }
+    ensures { λ r. ⌜ ((starts : List ℕ) → checkedOut r
+        ≡ of.witnessesFrom (tables .«parents_at») (tablesIn (now (payload .entry)) starts tables) (proofOut proof) (proof .«witness_count»)
+        (proof .«witness_first» .0)) ⌝ }
 {
     let mut witness = proof.witness_first.place();
     let end = witness + evr0_head::number::wide(proof.witness_count);
@@ -193,7 +197,8 @@ fn witnesses_from(payload: &[u8], tables: Layout, proof: Proof) -> Checked
 // One proof, after those whose depths are known.
 fn depth_of(payload: &[u8], starts: &[u64], tables: Layout, depths: &[u64], proof: Proof) -> Depth
     requires { ⌜ ProofDue fourRules (now payload) (now starts) (layoutOut tables) (now depths) (proofOut proof) ⌝ }
-    ensures { λ r. ⌜ depthOut r ≡ of.depthOf (tables .«parents_at») (tablesIn (now (payload .entry)) (now (starts .entry)) tables) (proofOut proof) (take (proof .«proof_id» .0) (now (depths .entry))) ⌝ }
+    ensures { λ r. ⌜ depthOut r ≡ of.depthOf (tables .«parents_at») (tablesIn (now (payload .entry)) (now (starts .entry)) tables) (proofOut proof)
+        (take (proof .«proof_id» .0) (now (depths .entry))) ⌝ }
 {
     let parents = parents_from(payload, starts, tables, depths, proof);
     match parents {
@@ -215,7 +220,8 @@ fn depth_of(payload: &[u8], starts: &[u64], tables: Layout, depths: &[u64], proo
 pub fn derive(payload: &[u8], starts: &[u64], tables: Layout, depths: &mut [u64]) -> Checked
     requires { ⌜ TablesThere fourRules (now payload) (now starts) (layoutOut tables) ⌝ }
     requires { ⌜ length (now starts) ≤ length (now depths) ⌝ }
-    ensures { λ r. ⌜ filled r (take (length (now (starts .entry))) (now (depths .exit))) ≡ of.depths (tables .«parents_at») (tablesIn (now (payload .entry)) (now (starts .entry)) tables) ⌝ }
+    ensures { λ r. ⌜ filled r (take (length (now (starts .entry))) (now (depths .exit)))
+        ≡ of.depths (tables .«parents_at») (tablesIn (now (payload .entry)) (now (starts .entry)) tables) ⌝ }
 {
     let mut i: usize = 0;
     while i < starts.len() {

@@ -47,7 +47,8 @@ fn rises(payload: &[u8], before: Before, tail: &[u8], proposition: Proposition) 
 
 // The proposition at `at`, after the one before.
 pub fn next_proposition(payload: &[u8], at: usize, before: Before) -> PropositionRead
-    ensures { λ r. ⌜ propositionRowOut (drop at (now (payload .entry))) r ≡ propositionRow (beforeOut (now (payload .entry)) before) (drop at (now (payload .entry))) ⌝ }
+    ensures { λ r. ⌜ propositionRowOut (drop at (now (payload .entry))) r
+        ≡ propositionRow (beforeOut (now (payload .entry)) before) (drop at (now (payload .entry))) ⌝ }
 {
     let tail = local_format::part::tail(payload, at);
     let read = evr0_records::proposition::read_proposition(tail);

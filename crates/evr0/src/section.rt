@@ -76,10 +76,19 @@ fn check_tables(
     depths: &mut [u64],
 ) -> Checked
     requires { ⌜ HeadThere (roomOf (length (now propositions)) (length (now proofs)) (length (now depths))) (now payload) (countsOut counts) at ⌝ }
-    ensures { λ r. ⌜ ((end : ℕ) → checkedOut r ≡ passedIn (sectionIn fourRules (roomOf (length (now (propositions .entry))) (length (now (proofs .entry))) (length (now (depths .entry)))) (now (payload .entry)) end)) ⌝ }
-    ensures { λ r. ⌜ ((end : ℕ) → Front (propositionStarts (sectionIn fourRules (roomOf (length (now (propositions .entry))) (length (now (proofs .entry))) (length (now (depths .entry)))) (now (payload .entry)) end)) (now (propositions .exit))) ⌝ }
-    ensures { λ r. ⌜ ((end : ℕ) → Front (proofStarts (sectionIn fourRules (roomOf (length (now (propositions .entry))) (length (now (proofs .entry))) (length (now (depths .entry)))) (now (payload .entry)) end)) (now (proofs .exit))) ⌝ }
-    ensures { λ r. ⌜ ((end : ℕ) → Front (proofDepths (sectionIn fourRules (roomOf (length (now (propositions .entry))) (length (now (proofs .entry))) (length (now (depths .entry)))) (now (payload .entry)) end)) (now (depths .exit))) ⌝ }
+    ensures { λ r. ⌜ ((end : ℕ) → checkedOut r
+        ≡ passedIn (sectionIn fourRules (roomOf (length (now (propositions .entry))) (length (now (proofs .entry))) (length (now (depths .entry))))
+        (now (payload .entry)) end)) ⌝ }
+    ensures { λ r. ⌜ ((end : ℕ) → Front
+        (propositionStarts (sectionIn fourRules
+        (roomOf (length (now (propositions .entry))) (length (now (proofs .entry))) (length (now (depths .entry)))) (now (payload .entry)) end))
+        (now (propositions .exit))) ⌝ }
+    ensures { λ r. ⌜ ((end : ℕ) → Front
+        (proofStarts (sectionIn fourRules (roomOf (length (now (propositions .entry))) (length (now (proofs .entry))) (length (now (depths .entry))))
+        (now (payload .entry)) end)) (now (proofs .exit))) ⌝ }
+    ensures { λ r. ⌜ ((end : ℕ) → Front
+        (proofDepths (sectionIn fourRules (roomOf (length (now (propositions .entry))) (length (now (proofs .entry))) (length (now (depths .entry))))
+        (now (payload .entry)) end)) (now (depths .exit))) ⌝ }
 {
     let tables = crate::payload::read_tables(payload, counts, at, propositions, proofs);
     match tables {
@@ -108,10 +117,18 @@ fn decode_payload(
     proofs: &mut [u64],
     depths: &mut [u64],
 ) -> DecodedEvr0
-    ensures { λ r. ⌜ answerOut r ≡ answerOf cursor (sectionIn fourRules (roomOf (length (now (propositions .entry))) (length (now (proofs .entry))) (length (now (depths .entry)))) (now (payload .entry)) end) ⌝ }
-    ensures { λ r. ⌜ Front (propositionStarts (sectionIn fourRules (roomOf (length (now (propositions .entry))) (length (now (proofs .entry))) (length (now (depths .entry)))) (now (payload .entry)) end)) (now (propositions .exit)) ⌝ }
-    ensures { λ r. ⌜ Front (proofStarts (sectionIn fourRules (roomOf (length (now (propositions .entry))) (length (now (proofs .entry))) (length (now (depths .entry)))) (now (payload .entry)) end)) (now (proofs .exit)) ⌝ }
-    ensures { λ r. ⌜ Front (proofDepths (sectionIn fourRules (roomOf (length (now (propositions .entry))) (length (now (proofs .entry))) (length (now (depths .entry)))) (now (payload .entry)) end)) (now (depths .exit)) ⌝ }
+    ensures { λ r. ⌜ answerOut r ≡ answerOf cursor
+        (sectionIn fourRules (roomOf (length (now (propositions .entry))) (length (now (proofs .entry))) (length (now (depths .entry))))
+        (now (payload .entry)) end) ⌝ }
+    ensures { λ r. ⌜ Front (propositionStarts
+        (sectionIn fourRules (roomOf (length (now (propositions .entry))) (length (now (proofs .entry))) (length (now (depths .entry))))
+        (now (payload .entry)) end)) (now (propositions .exit)) ⌝ }
+    ensures { λ r. ⌜ Front (proofStarts
+        (sectionIn fourRules (roomOf (length (now (propositions .entry))) (length (now (proofs .entry))) (length (now (depths .entry))))
+        (now (payload .entry)) end)) (now (proofs .exit)) ⌝ }
+    ensures { λ r. ⌜ Front (proofDepths
+        (sectionIn fourRules (roomOf (length (now (propositions .entry))) (length (now (proofs .entry))) (length (now (depths .entry))))
+        (now (payload .entry)) end)) (now (depths .exit)) ⌝ }
 {
     let room = Room {
         propositions: propositions.len(),
@@ -153,10 +170,24 @@ fn decode_at(
     depths: &mut [u64],
 ) -> DecodedEvr0
     requires { ⌜ start + len ≤ length (now bytes) ⌝ }
-    ensures { λ r. ⌜ answerOut r ≡ answerOf cursor (moved start (sectionIn fourRules (roomOf (length (now (propositions .entry))) (length (now (proofs .entry))) (length (now (depths .entry)))) (bytesAt (now (bytes .entry)) start len) (start + len))) ⌝ }
-    ensures { λ r. ⌜ now (propositions .exit) ≡ lent (length (now (propositions .entry))) (propositionStarts (moved start (sectionIn fourRules (roomOf (length (now (propositions .entry))) (length (now (proofs .entry))) (length (now (depths .entry)))) (bytesAt (now (bytes .entry)) start len) (start + len)))) ⌝ }
-    ensures { λ r. ⌜ now (proofs .exit) ≡ lent (length (now (proofs .entry))) (proofStarts (moved start (sectionIn fourRules (roomOf (length (now (propositions .entry))) (length (now (proofs .entry))) (length (now (depths .entry)))) (bytesAt (now (bytes .entry)) start len) (start + len)))) ⌝ }
-    ensures { λ r. ⌜ now (depths .exit) ≡ lent (length (now (depths .entry))) (proofDepths (moved start (sectionIn fourRules (roomOf (length (now (propositions .entry))) (length (now (proofs .entry))) (length (now (depths .entry)))) (bytesAt (now (bytes .entry)) start len) (start + len)))) ⌝ }
+    ensures { λ r. ⌜ answerOut r ≡ answerOf cursor
+        (moved start (sectionIn fourRules (roomOf (length (now (propositions .entry))) (length (now (proofs .entry))) (length (now (depths .entry))))
+        (bytesAt (now (bytes .entry)) start len) (start + len))) ⌝ }
+    ensures { λ r. ⌜ now (propositions .exit)
+        ≡ lent (length (now (propositions .entry)))
+        (propositionStarts (moved start
+        (sectionIn fourRules (roomOf (length (now (propositions .entry))) (length (now (proofs .entry))) (length (now (depths .entry))))
+        (bytesAt (now (bytes .entry)) start len) (start + len)))) ⌝ }
+    ensures { λ r. ⌜ now (proofs .exit)
+        ≡ lent (length (now (proofs .entry)))
+        (proofStarts (moved start (sectionIn fourRules
+        (roomOf (length (now (propositions .entry))) (length (now (proofs .entry))) (length (now (depths .entry))))
+        (bytesAt (now (bytes .entry)) start len) (start + len)))) ⌝ }
+    ensures { λ r. ⌜ now (depths .exit)
+        ≡ lent (length (now (depths .entry)))
+        (proofDepths (moved start (sectionIn fourRules
+        (roomOf (length (now (propositions .entry))) (length (now (proofs .entry))) (length (now (depths .entry))))
+        (bytesAt (now (bytes .entry)) start len) (start + len)))) ⌝ }
 {
     let end = start + len;
     let read = decode_payload(
@@ -193,11 +224,23 @@ pub fn decode_evr0_section(
     proofs: &mut [u64],
     depths: &mut [u64],
 ) -> DecodedEvr0
-    ensures answer { λ r. ⌜ answerOut r ≡ answerOf cursor (decodeSection (roomOf (length (now (propositions .entry))) (length (now (proofs .entry))) (length (now (depths .entry)))) (now (bytes .entry)) cursor) ⌝ }
-    ensures propositions { λ r. ⌜ now (propositions .exit) ≡ lent (length (now (propositions .entry))) (propositionStarts (decodeSection (roomOf (length (now (propositions .entry))) (length (now (proofs .entry))) (length (now (depths .entry)))) (now (bytes .entry)) cursor)) ⌝ }
-    ensures proofs { λ r. ⌜ now (proofs .exit) ≡ lent (length (now (proofs .entry))) (proofStarts (decodeSection (roomOf (length (now (propositions .entry))) (length (now (proofs .entry))) (length (now (depths .entry)))) (now (bytes .entry)) cursor)) ⌝ }
-    ensures depths { λ r. ⌜ now (depths .exit) ≡ lent (length (now (depths .entry))) (proofDepths (decodeSection (roomOf (length (now (propositions .entry))) (length (now (proofs .entry))) (length (now (depths .entry)))) (now (bytes .entry)) cursor)) ⌝ }
-    ensures demand_3 { λ r. ⌜ Demand3 fourRules (roomOf (length (now (propositions .entry))) (length (now (proofs .entry))) (length (now (depths .entry)))) (now (bytes .entry)) cursor ⌝ }
+    ensures answer { λ r. ⌜ answerOut r
+        ≡ answerOf cursor (decodeSection (roomOf (length (now (propositions .entry))) (length (now (proofs .entry))) (length (now (depths .entry))))
+        (now (bytes .entry)) cursor) ⌝ }
+    ensures propositions { λ r. ⌜ now (propositions .exit)
+        ≡ lent (length (now (propositions .entry)))
+        (propositionStarts (decodeSection (roomOf (length (now (propositions .entry))) (length (now (proofs .entry))) (length (now (depths .entry))))
+        (now (bytes .entry)) cursor)) ⌝ }
+    ensures proofs { λ r. ⌜ now (proofs .exit)
+        ≡ lent (length (now (proofs .entry)))
+        (proofStarts (decodeSection (roomOf (length (now (propositions .entry))) (length (now (proofs .entry))) (length (now (depths .entry))))
+        (now (bytes .entry)) cursor)) ⌝ }
+    ensures depths { λ r. ⌜ now (depths .exit)
+        ≡ lent (length (now (depths .entry)))
+        (proofDepths (decodeSection (roomOf (length (now (propositions .entry))) (length (now (proofs .entry))) (length (now (depths .entry))))
+        (now (bytes .entry)) cursor)) ⌝ }
+    ensures demand_3 { λ r. ⌜ Demand3 fourRules
+        (roomOf (length (now (propositions .entry))) (length (now (proofs .entry))) (length (now (depths .entry)))) (now (bytes .entry)) cursor ⌝ }
 {
     let frame = crate::frame::read_frame(bytes, cursor);
     match frame {

@@ -76,7 +76,8 @@ pub enum ProofTable {
 pub fn read_proofs(payload: &[u8], counts: Counts, at: usize, starts: &mut [u64]) -> ProofTable
     requires { ⌜ (counts .proofs ≤ length (now starts)) × (at ≤ length (now payload)) ⌝ }
     ensures { λ r. ⌜ proofTableOut r ≡ ownedIn (rows (proofRow fourRules (countsOut counts)) (counts .proofs) noneOwned (now (payload .entry)) at) ⌝ }
-    ensures { λ r. ⌜ Front (startsIn (rows (proofRow fourRules (countsOut counts)) (counts .proofs) noneOwned (now (payload .entry)) at)) (now (starts .exit)) ⌝ }
+    ensures { λ r. ⌜ Front (startsIn (rows (proofRow fourRules (countsOut counts)) (counts .proofs) noneOwned (now (payload .entry)) at))
+        (now (starts .exit)) ⌝ }
 {
     let count = counts.proofs;
     let mut unowned = Unowned {

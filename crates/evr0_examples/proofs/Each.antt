@@ -53,7 +53,8 @@ module _ {A S C : Type 0} (row : S → List ℕ → Out (Row A S)) (bytes : C �
         ap (λ (x : List ℕ). before ++ x) (append-assoc (bytes c) (each bytes cs) after) ∙ sym (append-assoc before (bytes c) rest) in
         let more : rows row (length cs) (r .state) (before ++ ((bytes c ++ each bytes cs) ++ after)) (at + r .size) ≡ ok (d .0) =
         ap (λ (p : List ℕ). rows row (length cs) (r .state) p (at + r .size)) again
-        ∙ rows-each cs (r .state) (at + r .size) (before ++ bytes c) after (d .0) (omega (arith, length-append before (bytes c), eqb-true (r .size) (length (bytes c)) (b .0))) (d .1) in
+        ∙ rows-each cs (r .state) (at + r .size) (before ++ bytes c) after (d .0)
+        (omega (arith, length-append before (bytes c), eqb-true (r .size) (length (bytes c)) (b .0))) (d .1) in
         on-ok _ (ap (moved at) read) ∙ on-ok _ more ∙ d .2
 
 -- ---- The tables of a payload: some bytes, the proofs, some bytes, the parents
@@ -94,7 +95,8 @@ module _ (room : Room) (before between : List ℕ) (ps : List Proof) (cs : List 
   parents-last = sym (simp (append-assoc, append-nil))
 
   proofs-each : (head : Head) (at : ℕ) (out : Rows Settled Unowned) → (eqb (length ps) (head .counts .proofs) && eqb (length before) at) ≡ true
-      → readEach (proofRow fourRules (head .counts)) proofBytes noneOwned at ps ≡ ok out → rows (proofRow fourRules (head .counts)) (head .counts .proofs) noneOwned whole at ≡ ok out
+      → readEach (proofRow fourRules (head .counts)) proofBytes noneOwned at ps ≡ ok out
+      → rows (proofRow fourRules (head .counts)) (head .counts .proofs) noneOwned whole at ≡ ok out
   proofs-each head at out t e =
       let a = both (eqb (length ps) (head .counts .proofs)) (eqb (length before) at) t in
       subst (λ (n : ℕ). rows (proofRow fourRules (head .counts)) n noneOwned whole at ≡ ok out) (eqb-true (length ps) (head .counts .proofs) (a .0))
@@ -117,7 +119,8 @@ module _ (room : Room) (before between : List ℕ) (ps : List Proof) (cs : List 
       let a = checked-ok (eqb (length ps) (head .counts .proofs) && eqb (length before) (propositions .next)) 0 0 _ e in
       let b = bind-ok (readEach (proofRow fourRules (head .counts)) proofBytes noneOwned (propositions .next) ps) _ (a .1) in
       on-ok _ (proofs-each head (propositions .next) (b .0) (a .0) (b .1)) ∙
-      (same-then (check (eqb (b .0 .state .witness) (head .counts .witnesses) && eqb (b .0 .state .parent) (head .counts .parents)) 22 (b .0 .next)) _ _ (b .2) λ e.
+      (same-then (check (eqb (b .0 .state .witness) (head .counts .witnesses) && eqb (b .0 .state .parent) (head .counts .parents)) 22 (b .0 .next)) _
+      _ (b .2) λ e.
       same-bind (rows (witnessRow 4 (head .counts)) (head .counts .witnesses) 0 whole (b .0 .next)) _ _ e λ witnesses e.
       let c = checked-ok (eqb (length cs) (head .counts .parents) && eqb (length uptoParents) (witnesses .next)) 0 0 _ e in
       let d = bind-ok (readEach parentRow (number 4) tt (witnesses .next) cs) _ (c .1) in

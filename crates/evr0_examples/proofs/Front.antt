@@ -106,7 +106,8 @@ module _ (s t : List ℕ) where
       by-field 1 (parentCount .next) _ _ e λ operation l e.
       let a = bind-ok (zerosAt s (operation .next)) _ e in on-ok _ (zeros-front (operation .next) (a .0) (a .1)) ∙ a .2
 
-  pub proof-row-front : (rules : List Rule) (counts : Counts) (u : Unowned) (x : Row Settled Unowned) → proofRow rules counts u s ≡ ok x → proofRow rules counts u (s ++ t) ≡ ok x
+  pub proof-row-front : (rules : List Rule) (counts : Counts) (u : Unowned) (x : Row Settled Unowned) → proofRow rules counts u s ≡ ok x
+      → proofRow rules counts u (s ++ t) ≡ ok x
   unfolding proofRow
   proof-row-front rules counts u x e =
       from-bind (proofOf s) _ e λ r h e. on-ok _ (proof-front r h) ∙ rw (bytes-front (r .item .rule .start) (r .item .rule .len) (rule-within s r h)) e

@@ -52,7 +52,8 @@ module _ (s : Section) (cells : ℕ) (e : shown s ≡ ok (record { section = s; 
       ap (λ (t : Tables). depths (t .witnesses .next) (sectionOf t)) q ∙ same-depths ∙ h in
       record { reads = read .reads; decoded = d .0; accepted = d .1; depths = ok-same (sym (p .depths) ∙ again) }
 
-  pub refuses : (number offset : ℕ) → depths cells s ≡ refuse number offset → (start : ℕ) (picks : List ℕ) (last : ℕ) → Walk s start picks last → Fails s start picks
+  pub refuses : (number offset : ℕ) → depths cells s ≡ refuse number offset → (start : ℕ) (picks : List ℕ) (last : ℕ) → Walk s start picks last
+      → Fails s start picks
       → Refuses s number (8 + offset)
   unfolding decodeSection
   refuses number offset h start picks last walk fails =

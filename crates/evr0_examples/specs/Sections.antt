@@ -47,7 +47,17 @@ otherProposition =
       propositions = 2;
       proofs =
           leaf posWitness1 0 0 0 ∷
-          record { number = 1; proposition = 1; rule = opTOnly1; authority = 7; firstWitness = 1; witnessCount = 0; firstParent = 0; parentCount = 1; operation = 1 } ∷ [];
+          record {
+            number = 1;
+            proposition = 1;
+            rule = opTOnly1;
+            authority = 7;
+            firstWitness = 1;
+            witnessCount = 0;
+            firstParent = 0;
+            parentCount = 1;
+            operation = 1;
+          } ∷ [];
       witnesses = witness 0 1 ∷ [];
       parents = 0 ∷ [];
     }
@@ -72,7 +82,17 @@ pastTheCount =
     record {
       propositions = 1;
       proofs =
-          record { number = 0; proposition = 0; rule = posWitness1; authority = 7; firstWitness = 0; witnessCount = 2; firstParent = 0; parentCount = 0; operation = 0 } ∷ [];
+          record {
+            number = 0;
+            proposition = 0;
+            rule = posWitness1;
+            authority = 7;
+            firstWitness = 0;
+            witnessCount = 2;
+            firstParent = 0;
+            parentCount = 0;
+            operation = 0;
+          } ∷ [];
       witnesses = witness 0 1 ∷ [];
       parents = [];
     }

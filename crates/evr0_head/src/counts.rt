@@ -3,7 +3,7 @@ ghost use mathlib.Core.Path.{_≡_};
 ghost use Rattle.local_format.specs.Out.{refuse};
 ghost use Rattle.local_format.specs.Maps.{refusalOut, refusalOf};
 ghost use Rattle.evr0_section.specs.Head.{countsAt};
-ghost use Rattle.evr0_head.specs.Maps.{countsOut, countedOut};
+ghost use Rattle.evr0_head.specs.Maps.{countedOut};
 use local_format::field::U32;
 use local_format::refusal::Refusal;
 

@@ -39,7 +39,8 @@ frame-place s cursor {f} e =
     subst (λ (x : Frame). (x .start ≡ cursor + 8) × (x .start + x .len ≤ length s)) (ok-same (payload .2)) (next, within)
 
 -- ---- The depths are as many as the proofs
-depths-length : (cellsAt : ℕ) (s : derivation.Section) (n i : ℕ) (ds : List ℕ) {es : List ℕ} → depthsFrom cellsAt s n i ds ≡ ok es → length es ≡ length ds + n
+depths-length : (cellsAt : ℕ) (s : derivation.Section) (n i : ℕ) (ds : List ℕ) {es : List ℕ} → depthsFrom cellsAt s n i ds ≡ ok es → length es
+    ≡ length ds + n
 unfolding depthsFrom
 depths-length cellsAt s zero i ds e = omega (arith, ap length (ok-same e))
 depths-length cellsAt s (suc n) i ds e =
@@ -47,7 +48,8 @@ depths-length cellsAt s (suc n) i ds e =
     omega (arith, depths-length cellsAt s n (suc i) (ds ++ (d .0 ∷ [])) (d .2), length-append ds (d .0 ∷ []))
 
 -- ---- The checks after the counts
-limit-kept : (c : ℕ) (cs : List ℕ) (l : ℕ) (ls : List ℕ) (at : ℕ) {u : Unit {0}} → withinLimits (c ∷ cs) (l ∷ ls) at ≡ ok u → (c ≤ l) × (withinLimits cs ls (at + 4) ≡ ok u)
+limit-kept : (c : ℕ) (cs : List ℕ) (l : ℕ) (ls : List ℕ) (at : ℕ) {u : Unit {0}} → withinLimits (c ∷ cs) (l ∷ ls) at ≡ ok u → (c ≤ l)
+    × (withinLimits cs ls (at + 4) ≡ ok u)
 unfolding withinLimits
 limit-kept c cs l ls at e = let a = checked-ok (leb c l) 12 at _ e in (leb-true c l (a .0), a .1)
 
@@ -104,7 +106,8 @@ module _ (rules : List Rule) (room : Room) (s : List ℕ) (cursor : ℕ) where
   section-in p end {d} e =
       let t = bind-ok (tablesOf rules room p) _ e in
       let ds = bind-ok (depths (t .0 .witnesses .next) (sectionOf (t .0))) _ (t .2) in
-      subst (λ (x : Section). (tablesOf rules room p ≡ ok (x .tables)) × (depths (x .tables .witnesses .next) (sectionOf (x .tables)) ≡ ok (x .depths)) × (end ≡ x .cursor))
+      subst (λ (x : Section). (tablesOf rules room p ≡ ok (x .tables))
+      × (depths (x .tables .witnesses .next) (sectionOf (x .tables)) ≡ ok (x .depths)) × (end ≡ x .cursor))
       (ok-same (ds .2)) (t .1, ds .1, refl)
 
   pub accepted : {d : Section} → sectionAt rules room s cursor ≡ ok d → Accepted d
@@ -119,14 +122,16 @@ module _ (rules : List Rule) (room : Room) (s : List ℕ) (cursor : ℕ) where
       let read : tablesOf rules room (payloadTo (d .cursor)) ≡ ok (d .tables) = rw same at (g .0) in
       let t : Steps rules room (payloadTo (d .cursor)) (d .tables) = steps rules room (payloadTo (d .cursor)) (d .tables) read in
       let n : length (d .tables .proofs .entries) ≡ d .tables .head .counts .proofs =
-      trace-length (proofRow rules (d .tables .head .counts)) (payloadTo (d .cursor)) (trace (proofRow rules (d .tables .head .counts)) (payloadTo (d .cursor)) _ _ _ (d .tables .proofs) (t .proofs)) in
+      trace-length (proofRow rules (d .tables .head .counts)) (payloadTo (d .cursor))
+      (trace (proofRow rules (d .tables .head .counts)) (payloadTo (d .cursor)) _ _ _ (d .tables .proofs) (t .proofs)) in
       record {
         start = omega (arith, g .2, place .0);
         end = omega (arith, g .2, place .1);
         read = read;
         tables = t;
         counts = counted room (payloadTo (d .cursor)) (d .tables .head) (t .counts);
-        propositions = trace-length propositionRow (payloadTo (d .cursor)) (trace propositionRow (payloadTo (d .cursor)) _ _ _ (d .tables .propositions) (t .propositions));
+        propositions = trace-length propositionRow (payloadTo (d .cursor))
+            (trace propositionRow (payloadTo (d .cursor)) _ _ _ (d .tables .propositions) (t .propositions));
         proofs = n;
         depths = g .1;
         depthCount = depths-length _ _ _ _ [] (g .1) ∙ omega (arith, n, length-map (d .tables .proofs .entries) proofItem);

@@ -36,7 +36,8 @@ isAuthorised k y = do
 
 -- an answer where the number is in the table, and 62 where it is not
 module _ {x : Out Section} {d : Section} (is : x ≡ ok d) (k : ℕ) where
-  pub way-there : (limit : ℕ) → k < length (d .tables .proofs .entries) → ok (wayDown (sectionOf (d .tables)) limit k) ≡ valueIn (λ v. v) (wayDownFrom limit k x)
+  pub way-there : (limit : ℕ) → k < length (d .tables .proofs .entries) → ok (wayDown (sectionOf (d .tables)) limit k)
+      ≡ valueIn (λ v. v) (wayDownFrom limit k x)
   unfolding wayDownFrom
   way-there limit h = picked (λ v. v) (wayFrom limit k) x (ok _) is (on-ok _ (is-there k (d .tables .proofs .entries) h .1))
 
@@ -52,7 +53,8 @@ module _ {x : Out Section} {d : Section} (is : x ≡ ok d) (k : ℕ) where
   unfolding authorisedNumber
   authorised-gone h = picked (λ v. v) (isAuthorised k) x (refuse 62 0) is (on-refused _ (not-there k (d .tables .propositions .entries) h))
 
-module _ (s : List ℕ) (cursor : ℕ) {d : answer.Answer} {x : Out Section} (decoding : Decoded s cursor d x) {a : answer.Accepted} (is : d .outcome ≡ ok a) where
+module _ (s : List ℕ) (cursor : ℕ) {d : answer.Answer} {x : Out Section} (decoding : Decoded s cursor d x) {a : answer.Accepted}
+    (is : d .outcome ≡ ok a) where
   abbrev told : Told x (d .cursor) (a .counts)
   told = told-of s cursor decoding is
 
@@ -63,13 +65,21 @@ module _ (s : List ℕ) (cursor : ℕ) {d : answer.Answer} {x : Out Section} (de
   p = payload s cursor decoding is
 
   pub cells-at : {q : List ℕ} {at : ℕ} → q ≡ p → at ≡ length q - 4 * a .counts .parents → at ≡ section .tables .witnesses .next
-  cells-at e f = omega (arith, f, ap length e, parents-at fourRules (decoding .room) p (section .tables) (payload-read s cursor decoding is), ap (λ (c : Counts). c .parents) (told .counted))
+  cells-at e f = omega (
+    arith,
+    f,
+    ap length e,
+    parents-at fourRules (decoding .room) p (section .tables) (payload-read s cursor decoding is),
+    ap
+        (λ (c : Counts). c .parents) (told .counted),
+  )
 
   module _ (n : ℕ) {t : List ℕ} (filled : t ≡ lent n (proofStarts x)) where
     whole : take (a .counts .proofs) t ≡ startsOf (section .tables .proofs .entries)
     whole =
         front n (a .counts .proofs) (filled ∙ ap (λ (y : Out Section). lent n (proofStarts y)) (told .is))
-        (length-map (section .tables .proofs .entries) (λ e. e .start) ∙ facts s cursor decoding is .proofs ∙ sym (ap (λ (c : Counts). c .proofs) (told .counted)))
+        (length-map (section .tables .proofs .entries) (λ e. e .start) ∙ facts s cursor decoding is .proofs
+        ∙ sym (ap (λ (c : Counts). c .proofs) (told .counted)))
 
     total : length (take (a .counts .proofs) t) ≡ length (section .tables .proofs .entries)
     total = ap length whole ∙ length-map (section .tables .proofs .entries) (λ e. e .start)
@@ -85,7 +95,8 @@ module _ (s : List ℕ) (cursor : ℕ) {d : answer.Answer} {x : Out Section} (de
 
     -- ---- The way down
     module _ (limit k : ℕ) where
-      pub way-asked : k < length (take (a .counts .proofs) t) → ok (wayDown (sectionOf (section .tables)) limit k) ≡ valueIn (λ v. v) (wayDownFrom limit k x)
+      pub way-asked : k < length (take (a .counts .proofs) t) → ok (wayDown (sectionOf (section .tables)) limit k)
+          ≡ valueIn (λ v. v) (wayDownFrom limit k x)
       way-asked h = way-there (told .is) k limit (omega (arith, total))
 
       pub way-not-there : length (take (a .counts .proofs) t) ≤ k → refuse 62 0 ≡ valueIn (λ v. v) (wayDownFrom limit k x)

@@ -38,7 +38,8 @@ pub record Told (x : Out Section) (end : ℕ) (counts : Counts) : Type 0 where
   pub cursor : end ≡ section .cursor
   pub counted : counts ≡ section .tables .head .counts
 
-pub answer-accepted : (cursor : ℕ) (x : Out Section) {end : ℕ} {a : answer.Accepted} → end ≡ answerOf cursor x .cursor → answerOf cursor x .outcome ≡ ok a → Told x end (a .counts)
+pub answer-accepted : (cursor : ℕ) (x : Out Section) {end : ℕ} {a : answer.Accepted} → end ≡ answerOf cursor x .cursor → answerOf cursor x .outcome
+    ≡ ok a → Told x end (a .counts)
 answer-accepted cursor (refused r) e f = absurd (never f)
 answer-accepted cursor (ok d) e f = record { section = d; is = refl; cursor = e; counted = sym (ap (λ (a : answer.Accepted). a .counts) (ok-same f)) }
 
@@ -49,7 +50,8 @@ module _ (s : List ℕ) (cursor : ℕ) {d : answer.Answer} {x : Out Section} (de
 
   module _ {a : answer.Accepted} (is : d .outcome ≡ ok a) where
     pub told-of : Told x (d .cursor) (a .counts)
-    told-of = answer-accepted cursor x (ap (λ (b : answer.Answer). b .cursor) (decoding .answered)) (sym (ap (λ (b : answer.Answer). b .outcome) (decoding .answered)) ∙ is)
+    told-of = answer-accepted cursor x (ap (λ (b : answer.Answer). b .cursor) (decoding .answered))
+        (sym (ap (λ (b : answer.Answer). b .outcome) (decoding .answered)) ∙ is)
 
     pub facts : Accepted fourRules (decoding .room) s cursor (told-of .section)
     unfolding decodeSection
@@ -110,7 +112,8 @@ module _ (starts : Out Section → List ℕ) (none : (r : Refusal) → starts (r
   cleared : (r : Refusal) → t′ ≡ settled true t → t′ ≡ lent n (starts (refused r))
   cleared r g = g ∙ rw (long, none r)
 
-  settled-as : {A B : Type 0} (f : A → B) (c : Out (Chosen Section A)) (x : Out Section) → t ≡ lent n (starts x) → ((a : Chosen Section A) → c ≡ ok a → x ≡ ok (a .decoded))
+  settled-as : {A B : Type 0} (f : A → B) (c : Out (Chosen Section A)) (x : Out Section) → t ≡ lent n (starts x)
+      → ((a : Chosen Section A) → c ≡ ok a → x ≡ ok (a .decoded))
       → t′ ≡ settled (isRefused (valueIn f c)) t → t′ ≡ lent n (starts (sectionFor c))
   settled-as f (refused r) x h k g = cleared r g
   settled-as f (ok a) x h k g = g ∙ h ∙ ap (λ (y : Out Section). lent n (starts y)) (k a refl)

@@ -23,7 +23,8 @@ module _ {A S : Type 0} (row : S → List ℕ → Out (Row A S)) (p : List ℕ) 
   pub trace-found : {n at end : ℕ} {u v : S} {es : List (Entry A)} → Trace row p n u at es v end → (i : ℕ) → i < n → Found es i
   unfolding numbered
   trace-found none i h = absurd (omega arith)
-  trace-found (more {at = at} {state = u} r e w) zero h = record { entry = record { start = at; item = r .item }; found = refl; state = u; read = r; reads = e; item = refl }
+  trace-found (more {at = at} {state = u} r e w) zero h = record
+      { entry = record { start = at; item = r .item }; found = refl; state = u; read = r; reads = e; item = refl }
   trace-found (more r e w) (suc i) h =
       let f = trace-found w i (omega arith) in
       record { entry = f .entry; found = f .found; state = f .state; read = f .read; reads = f .reads; item = f .item }

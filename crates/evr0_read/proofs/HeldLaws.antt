@@ -56,7 +56,14 @@ module _ (p starts : List ℕ) (d : Section) (held : Held p starts d) where
   proof-found : (k : ℕ) → k < length starts → Found (proofRow fourRules (d .tables .head .counts)) p (d .tables .proofs .entries) k
   proof-found k h =
       let w = trace (proofRow fourRules (d .tables .head .counts)) p _ _ _ (d .tables .proofs) (read .proofs) in
-      trace-found (proofRow fourRules (d .tables .head .counts)) p w k (omega (arith, trace-length (proofRow fourRules (d .tables .head .counts)) p w, ap length (held .at), length-map (d .tables .proofs .entries) (λ e. e .start)))
+      trace-found (proofRow fourRules (d .tables .head .counts)) p w k
+      (omega (
+        arith,
+        trace-length (proofRow fourRules (d .tables .head .counts)) p w,
+        ap length (held .at),
+        length-map
+            (d .tables .proofs .entries) (λ e. e .start),
+      ))
 
   -- the record with a number is that proof of the section
   held-proof : (k : ℕ) → k < length starts
@@ -87,13 +94,20 @@ module _ (p starts : List ℕ) (d : Section) (held : Held p starts d) where
       → proofAt (sectionOf (d .tables)) k .firstParent < parentTotal (sectionOf (d .tables))
   first-cell k h c =
       let l : k < proofTotal (sectionOf (d .tables)) = omega (arith, total) in
-      omega (arith, checked .firstParent k l, checked .parentsOwned, sum-mono (λ i. proofAt (sectionOf (d .tables)) i .parentCount) k (proofTotal (sectionOf (d .tables))) l)
+      omega (
+        arith,
+        checked .firstParent k l,
+        checked .parentsOwned,
+        sum-mono (λ i. proofAt (sectionOf (d .tables)) i .parentCount) k
+            (proofTotal (sectionOf (d .tables))) l,
+      )
 
   pub first-there : (k : ℕ) → k < length starts → 0 < proofAt (sectionOf (d .tables)) k .parentCount
       → parentAt (sectionOf (d .tables)) (proofAt (sectionOf (d .tables)) k .firstParent) < length starts
   first-there k h c =
       let l : k < proofTotal (sectionOf (d .tables)) = omega (arith, total) in
-      let j = walks-lead (d .tables .witnesses .next) (sectionOf (d .tables)) checked (d .depths) (held .depths) k [] k (stay l) .pickable _ (first-owned (sectionOf (d .tables)) k c) in
+      let j = walks-lead (d .tables .witnesses .next) (sectionOf (d .tables)) checked (d .depths) (held .depths) k [] k (stay l) .pickable _
+      (first-owned (sectionOf (d .tables)) k c) in
       omega (arith, j .1, checked .proofNumber (j .0) (j .1), j .2, total)
 
   -- a parent cell
@@ -109,6 +123,7 @@ module _ (p starts : List ℕ) (d : Section) (held : Held p starts d) where
       let k = parent-cell (f .state) (drop (getD (startsOf es) c 0) p) (f .read) (f .reads) in
       let start : getD (startsOf es) c 0 ≡ at + 4 * c = fixed-start parentRow p 4 (λ u s r e. parent-cell u s r e .0) w c l in
       let value : getD (map parentItem es) c 0 ≡ le 4 (drop at p) (4 * c) =
-      there-map parentItem 0 es c (f .found) ∙ sym (f .item) ∙ k .1 ∙ le-drop 4 p (getD (startsOf es) c 0) 0 ∙ ap (le 4 p) (omega (arith, start)) ∙ sym (le-drop 4 p at (4 * c)) in
+      there-map parentItem 0 es c (f .found) ∙ sym (f .item) ∙ k .1 ∙ le-drop 4 p (getD (startsOf es) c 0) 0 ∙ ap (le 4 p) (omega (arith, start))
+      ∙ sym (le-drop 4 p at (4 * c)) in
       let room : 4 ≤ length (drop at p) - 4 * c = rw length-drop (omega (arith, start, k .2, length-drop (getD (startsOf es) c 0) p)) in
       sym (is-whole 4 (drop at p) (4 * c) (getD (map parentItem es) c 0) room (omega arith) value)

@@ -27,7 +27,8 @@ use Rattle.evr0_read.proofs.NumberedLaws.{as-is, proposition-numbered, 
 use Rattle.evr0_read.proofs.AskLaws.{decoded}
 
 -- an entry of a lent table before the count is a start
-lent-start : {A : Type 0} (n k : ℕ) (es : List (Entry A)) {count : ℕ} → length es ≡ count → k < count → getD (lent n (startsOf es)) k 0 ≡ getD (startsOf es) k 0
+lent-start : {A : Type 0} (n k : ℕ) (es : List (Entry A)) {count : ℕ} → length es ≡ count → k < count → getD (lent n (startsOf es)) k 0
+    ≡ getD (startsOf es) k 0
 lent-start n k es e h = List·getD-append (startsOf es) _ 0 k (omega (arith, length-map es (λ e. e .start)))
 
 module _ (room : Room) (bytes : List ℕ) (cursor : ℕ) (d : Section) (decodes : decodeSection room bytes cursor ≡ ok d) where

@@ -21,7 +21,8 @@ use Rattle.evr0_read.specs.Place.{witnessPlace, parentPlace}
 use Rattle.evr0_read.proofs.NumberedLaws.{as-is, proposition-numbered, proof-numbered, witness-numbered, parent-numbered}
 use Rattle.evr0_read.proofs.AskLaws.{told-of, facts, payload, payload-read, entry-front, decoded}
 
-module _ (s : List ℕ) (cursor : ℕ) {d : answer.Answer} {x : Out Section} (decoding : Decoded s cursor d x) {a : answer.Accepted} (is : d .outcome ≡ ok a) where
+module _ (s : List ℕ) (cursor : ℕ) {d : answer.Answer} {x : Out Section} (decoding : Decoded s cursor d x) {a : answer.Accepted}
+    (is : d .outcome ≡ ok a) where
   abbrev section : Section
   section = told-of s cursor decoding is .section
 
@@ -35,7 +36,8 @@ module _ (s : List ℕ) (cursor : ℕ) {d : answer.Answer} {x : Out Section} (de
   proposition-asked k n e =
       let told = told-of s cursor decoding is in
       let es = section .tables .propositions .entries in
-      entry-front propositionOf placedProposition p es n _ (section .tables .head .counts .propositions) k (e ∙ ap (λ (y : Out Section). lent n (propositionStarts y)) (told .is))
+      entry-front propositionOf placedProposition p es n _ (section .tables .head .counts .propositions) k
+      (e ∙ ap (λ (y : Out Section). lent n (propositionStarts y)) (told .is))
       (facts s cursor decoding is .propositions)
       (ap (λ (c : Counts). c .propositions) (told .counted))
       ∙ proposition-numbered fourRules (decoding .room) p (section .tables) (payload-read s cursor decoding is) k
@@ -47,13 +49,15 @@ module _ (s : List ℕ) (cursor : ℕ) {d : answer.Answer} {x : Out Section} (de
   unfolding proofNumber
   proof-asked k n e =
       let told = told-of s cursor decoding is in
-      entry-front proofOf placedProof p (section .tables .proofs .entries) n _ (section .tables .head .counts .proofs) k (e ∙ ap (λ (y : Out Section). lent n (proofStarts y)) (told .is))
+      entry-front proofOf placedProof p (section .tables .proofs .entries) n _ (section .tables .head .counts .proofs) k
+      (e ∙ ap (λ (y : Out Section). lent n (proofStarts y)) (told .is))
       (facts s cursor decoding is .proofs)
       (ap (λ (c : Counts). c .proofs) (told .counted))
       ∙ proof-numbered fourRules (decoding .room) p (section .tables) (payload-read s cursor decoding is) k
       ∙ decoded (shown shownSettled) (λ y. numbered k (y .tables .proofs .entries)) x (told .is)
 
-  pub witness-asked : (k : ℕ) → entryAt (witnessOf 4) placedWitness p (a .counts .witnesses) (witnessPlace (length p) (a .counts .witnesses) (a .counts .parents) k) k
+  pub witness-asked : (k : ℕ) → entryAt (witnessOf 4) placedWitness p (a .counts .witnesses)
+      (witnessPlace (length p) (a .counts .witnesses) (a .counts .parents) k) k
       ≡ valueIn (λ e. e) (witnessNumber k x)
   unfolding witnessNumber
   witness-asked k =
@@ -63,7 +67,8 @@ module _ (s : List ℕ) (cursor : ℕ) {d : answer.Answer} {x : Out Section} (de
       ∙ as-is (numbered k (section .tables .witnesses .entries))
       ∙ decoded (λ e. e) (λ y. numbered k (y .tables .witnesses .entries)) x (told .is)
 
-  pub parent-asked : (k : ℕ) → entryAt (parentRow tt) placedParent p (a .counts .parents) (parentPlace (length p) (a .counts .parents) k) k ≡ valueIn (λ e. e) (parentNumber k x)
+  pub parent-asked : (k : ℕ) → entryAt (parentRow tt) placedParent p (a .counts .parents) (parentPlace (length p) (a .counts .parents) k) k
+      ≡ valueIn (λ e. e) (parentNumber k x)
   unfolding parentNumber
   parent-asked k =
       let told = told-of s cursor decoding is in

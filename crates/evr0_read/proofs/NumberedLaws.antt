@@ -64,7 +64,8 @@ module _ {A S X B : Type 0} (row : S → List ℕ → Out (Row A S)) (read : Lis
       go true e =
           let l : k < n = ltb-true k n e in
           sym (entry-there read place p start n k l) ∙ ap (recordAt read place p) (h l) ∙ record-numbered k l
-      go false e = sym (entry-none read place p start n k (ltb-false k n e)) ∙ ap (shownIn f) (sym (not-there k es (omega (arith, ltb-false k n e, trace-length row p w))))
+      go false e = sym (entry-none read place p start n k (ltb-false k n e))
+          ∙ ap (shownIn f) (sym (not-there k es (omega (arith, ltb-false k n e, trace-length row p w))))
 
 -- ---- The records behind the rows
 
@@ -121,7 +122,8 @@ module _ (rules : List Rule) (room : Room) (p : List ℕ) (t : Tables) (read : t
   witnesses-trace : Trace (witnessRow 4 counts) p (counts .witnesses) 0 (t .proofs .next) (t .witnesses .entries) (t .witnesses .state) (t .witnesses .next)
   witnesses-trace = trace (witnessRow 4 counts) p _ _ _ (t .witnesses) (tables .witnesses)
 
-  pub witness-numbered : (k : ℕ) → entryAt (witnessOf 4) placedWitness p (counts .witnesses) (witnessPlace (length p) (counts .witnesses) (counts .parents) k) k
+  pub witness-numbered : (k : ℕ) → entryAt (witnessOf 4) placedWitness p (counts .witnesses)
+      (witnessPlace (length p) (counts .witnesses) (counts .parents) k) k
       ≡ shownIn (λ start w. w) (numbered k (t .witnesses .entries))
   witness-numbered k =
       entry-numbered (witnessRow 4 counts) (witnessOf 4) placedWitness (λ start w. w)
@@ -129,4 +131,10 @@ module _ (rules : List Rule) (room : Room) (p : List ℕ) (t : Tables) (read : t
       (λ l.
       sym
       (witness-there (length p) (counts .witnesses) (counts .parents) k l
-      (omega (arith, fixed-start (witnessRow 4 counts) p 84 (witness-size counts) witnesses-trace k l, fixed-size (witnessRow 4 counts) p 84 (witness-size counts) witnesses-trace, parents-at))))
+      (omega (
+        arith,
+        fixed-start (witnessRow 4 counts) p 84 (witness-size counts) witnesses-trace k l,
+        fixed-size (witnessRow 4 counts) p 84
+            (witness-size counts) witnesses-trace,
+        parents-at,
+      ))))

@@ -53,7 +53,8 @@ module _ (s : derivation.Section) (c : Checked s) where
   witnessed-there : (limit i moves k : ℕ) → moves ≤ limit → Walk s i (firstPicks s moves i) k → AtEnd s k
       → wayDown s limit i ≡ witness (proofAt s k .firstWitness) moves
   unfolding wayDown AtEnd
-  witnessed-there limit i moves k h w z = along w moves limit 0 refl h ∙ down-end s (limit - moves) k (0 + moves) z ∙ ap (witness (proofAt s k .firstWitness)) (zero-add moves)
+  witnessed-there limit i moves k h w z = along w moves limit 0 refl h ∙ down-end s (limit - moves) k (0 + moves) z
+      ∙ ap (witness (proofAt s k .firstWitness)) (zero-add moves)
 
   spent-there : (limit i k : ℕ) → Walk s i (firstPicks s limit i) k → 0 < proofAt s k .parentCount → wayDown s limit i ≡ spent k
   unfolding wayDown
@@ -115,7 +116,8 @@ module _ (room : Room) (bytes : List ℕ) (cursor : ℕ) (d : Section) (decodes 
           );
           witnessExactly = λ w moves. (
             (λ e. let a = answered e in witness-tells s limit n (tells limit n (a .0)) w moves (a .1)),
-            (λ x. there (walk-start (x .2)) ∙ ap ok (witnessed-there s checks limit n moves (x .0) (x .1) (x .2) (x .3) ∙ ap (λ (y : ℕ). witness y moves) (x .4))),
+            (λ x. there (walk-start (x .2))
+                ∙ ap ok (witnessed-there s checks limit n moves (x .0) (x .1) (x .2) (x .3) ∙ ap (λ (y : ℕ). witness y moves) (x .4))),
           );
           spentExactly = λ k. (
             (λ e. let a = answered e in spent-tells s limit n (tells limit n (a .0)) k (a .1)),
@@ -140,7 +142,8 @@ module _ (room : Room) (bytes : List ℕ) (cursor : ℕ) (d : Section) (decodes 
           );
           authorisedExactly = (
             (λ e.
-                ⊎-elim (λ g. absurd (never (sym (unproposed g) ∙ e))) (λ l. authorised-exactly s n .0 (ok-same (sym (proposed l) ∙ e))) (order (d .tables .head .counts .propositions) n)),
+                ⊎-elim (λ g. absurd (never (sym (unproposed g) ∙ e))) (λ l. authorised-exactly s n .0 (ok-same (sym (proposed l) ∙ e)))
+                (order (d .tables .head .counts .propositions) n)),
             (λ x. proposed (rw (x .2) at (checks .proofProposition (x .0) (x .1))) ∙ ap ok (authorised-exactly s n .1 x)),
           );
         }

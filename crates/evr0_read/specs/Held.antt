@@ -7,7 +7,6 @@ use lib.ListN.{length, getD, drop}
 use lib.Dec.{ltb}
 use Rattle.local_format.specs.Out.{Out, ok, refuse}
 use Rattle.derivation.specs.Rule.{fourRules}
-use Rattle.derivation.specs.Section as derivation
 use Rattle.derivation.specs.Pass.{depths}
 use Rattle.evr0_section.specs.Rows.{Sized}
 use Rattle.evr0_section.specs.Head.{Room}

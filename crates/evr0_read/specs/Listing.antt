@@ -29,7 +29,8 @@ pub record Listed (room : Room) (bytes : List ℕ) (cursor : ℕ) (d : Section) 
       → recordAt propositionOf placedProposition (payloadOf bytes cursor d) (getD (lent (room .propositions) (propositionStarts (ok d))) k 0)
       ≡ valueIn (shown shownProposition) (propositionNumber k (ok d))
   pub proof : (k : ℕ) → k < d .tables .head .counts .proofs
-      → recordAt proofOf placedProof (payloadOf bytes cursor d) (getD (lent (room .proofs) (proofStarts (ok d))) k 0) ≡ valueIn (shown shownSettled) (proofNumber k (ok d))
+      → recordAt proofOf placedProof (payloadOf bytes cursor d) (getD (lent (room .proofs) (proofStarts (ok d))) k 0)
+      ≡ valueIn (shown shownSettled) (proofNumber k (ok d))
   pub witness : (k : ℕ) → k < d .tables .head .counts .witnesses
       → recordAt (witnessOf 4) placedWitness (payloadOf bytes cursor d)
       (witnessPlace (d .cursor - (cursor + 8)) (d .tables .head .counts .witnesses) (d .tables .head .counts .parents) k)

@@ -32,7 +32,8 @@ fn proposition_of(
     starts: &[u64],
     number: PropositionIndex,
 ) -> PropositionEntry
-    ensures { λ r. ⌜ ((x : Out Section) (n : ℕ) → Decoded (now (bytes .entry)) cursor (answerOut decoded) x → now (starts .entry) ≡ lent n (propositionStarts x) → propositionEntryOut r ≡ valueIn (shown shownProposition) (propositionNumber (number .0) x)) ⌝ }
+    ensures { λ r. ⌜ ((x : Out Section) (n : ℕ) → Decoded (now (bytes .entry)) cursor (answerOut decoded) x → now (starts .entry)
+        ≡ lent n (propositionStarts x) → propositionEntryOut r ≡ valueIn (shown shownProposition) (propositionNumber (number .0) x)) ⌝ }
 {
     let end = decoded.cursor;
     let outcome = decoded.outcome;
@@ -69,8 +70,12 @@ pub fn proposition_number(
     proofs: &mut [u64],
     depths: &mut [u64],
 ) -> PropositionEntry
-    ensures { λ r. ⌜ propositionEntryOut r ≡ valueIn (shown shownProposition) (propositionNumber (number .0) (decodeAnew (now (bytes .entry)) cursor (now (propositions .entry)) (now (proofs .entry)) (now (depths .entry)))) ⌝ }
-    ensures { λ r. ⌜ Lent (propositionNumber (number .0) (decodeAnew (now (bytes .entry)) cursor (now (propositions .entry)) (now (proofs .entry)) (now (depths .entry)))) (now (propositions .entry)) (now (proofs .entry)) (now (depths .entry)) (now (propositions .exit)) (now (proofs .exit)) (now (depths .exit)) ⌝ }
+    ensures { λ r. ⌜ propositionEntryOut r
+        ≡ valueIn (shown shownProposition)
+        (propositionNumber (number .0) (decodeAnew (now (bytes .entry)) cursor (now (propositions .entry)) (now (proofs .entry)) (now (depths .entry)))) ⌝ }
+    ensures { λ r. ⌜ Lent (propositionNumber (number .0)
+        (decodeAnew (now (bytes .entry)) cursor (now (propositions .entry)) (now (proofs .entry)) (now (depths .entry)))) (now (propositions .entry))
+        (now (proofs .entry)) (now (depths .entry)) (now (propositions .exit)) (now (proofs .exit)) (now (depths .exit)) ⌝ }
 {
     let decoded = decode_evr0_section(bytes, cursor, propositions, proofs, depths);
     let answer = proposition_of(bytes, cursor, decoded, propositions, number);
@@ -85,7 +90,8 @@ fn proof_of(
     starts: &[u64],
     number: ProofNumber,
 ) -> ProofEntry
-    ensures { λ r. ⌜ ((x : Out Section) (n : ℕ) → Decoded (now (bytes .entry)) cursor (answerOut decoded) x → now (starts .entry) ≡ lent n (proofStarts x) → proofEntryOut r ≡ valueIn (shown shownSettled) (proofNumber (number .0) x)) ⌝ }
+    ensures { λ r. ⌜ ((x : Out Section) (n : ℕ) → Decoded (now (bytes .entry)) cursor (answerOut decoded) x → now (starts .entry)
+        ≡ lent n (proofStarts x) → proofEntryOut r ≡ valueIn (shown shownSettled) (proofNumber (number .0) x)) ⌝ }
 {
     let end = decoded.cursor;
     let outcome = decoded.outcome;
@@ -119,8 +125,12 @@ pub fn proof_number(
     proofs: &mut [u64],
     depths: &mut [u64],
 ) -> ProofEntry
-    ensures { λ r. ⌜ proofEntryOut r ≡ valueIn (shown shownSettled) (proofNumber (number .0) (decodeAnew (now (bytes .entry)) cursor (now (propositions .entry)) (now (proofs .entry)) (now (depths .entry)))) ⌝ }
-    ensures { λ r. ⌜ Lent (proofNumber (number .0) (decodeAnew (now (bytes .entry)) cursor (now (propositions .entry)) (now (proofs .entry)) (now (depths .entry)))) (now (propositions .entry)) (now (proofs .entry)) (now (depths .entry)) (now (propositions .exit)) (now (proofs .exit)) (now (depths .exit)) ⌝ }
+    ensures { λ r. ⌜ proofEntryOut r
+        ≡ valueIn (shown shownSettled)
+        (proofNumber (number .0) (decodeAnew (now (bytes .entry)) cursor (now (propositions .entry)) (now (proofs .entry)) (now (depths .entry)))) ⌝ }
+    ensures { λ r. ⌜ Lent (proofNumber (number .0)
+        (decodeAnew (now (bytes .entry)) cursor (now (propositions .entry)) (now (proofs .entry)) (now (depths .entry)))) (now (propositions .entry))
+        (now (proofs .entry)) (now (depths .entry)) (now (propositions .exit)) (now (proofs .exit)) (now (depths .exit)) ⌝ }
 {
     let decoded = decode_evr0_section(bytes, cursor, propositions, proofs, depths);
     let answer = proof_of(bytes, cursor, decoded, proofs, number);
@@ -134,7 +144,8 @@ fn witness_of(
     decoded: DecodedEvr0,
     number: WitnessNumber,
 ) -> WitnessEntry
-    ensures { λ r. ⌜ ((x : Out Section) → Decoded (now (bytes .entry)) cursor (answerOut decoded) x → witnessEntryOut r ≡ witnessBeside (valueIn (λ e. e) (witnessNumber (number .0) x))) ⌝ }
+    ensures { λ r. ⌜ ((x : Out Section) → Decoded (now (bytes .entry)) cursor (answerOut decoded) x → witnessEntryOut r
+        ≡ witnessBeside (valueIn (λ e. e) (witnessNumber (number .0) x))) ⌝ }
 {
     let end = decoded.cursor;
     let outcome = decoded.outcome;
@@ -169,8 +180,12 @@ pub fn witness_number(
     proofs: &mut [u64],
     depths: &mut [u64],
 ) -> WitnessEntry
-    ensures { λ r. ⌜ witnessEntryOut r ≡ witnessBeside (valueIn (λ e. e) (witnessNumber (number .0) (decodeAnew (now (bytes .entry)) cursor (now (propositions .entry)) (now (proofs .entry)) (now (depths .entry))))) ⌝ }
-    ensures { λ r. ⌜ Lent (witnessNumber (number .0) (decodeAnew (now (bytes .entry)) cursor (now (propositions .entry)) (now (proofs .entry)) (now (depths .entry)))) (now (propositions .entry)) (now (proofs .entry)) (now (depths .entry)) (now (propositions .exit)) (now (proofs .exit)) (now (depths .exit)) ⌝ }
+    ensures { λ r. ⌜ witnessEntryOut r
+        ≡ witnessBeside (valueIn (λ e. e)
+        (witnessNumber (number .0) (decodeAnew (now (bytes .entry)) cursor (now (propositions .entry)) (now (proofs .entry)) (now (depths .entry))))) ⌝ }
+    ensures { λ r. ⌜ Lent (witnessNumber (number .0)
+        (decodeAnew (now (bytes .entry)) cursor (now (propositions .entry)) (now (proofs .entry)) (now (depths .entry)))) (now (propositions .entry))
+        (now (proofs .entry)) (now (depths .entry)) (now (propositions .exit)) (now (proofs .exit)) (now (depths .exit)) ⌝ }
 {
     let decoded = decode_evr0_section(bytes, cursor, propositions, proofs, depths);
     let answer = witness_of(bytes, cursor, decoded, number);
@@ -179,7 +194,8 @@ pub fn witness_number(
 }
 
 fn parent_of(bytes: &[u8], cursor: usize, decoded: DecodedEvr0, number: u32) -> ParentEntry
-    ensures { λ r. ⌜ ((x : Out Section) → Decoded (now (bytes .entry)) cursor (answerOut decoded) x → parentEntryOut r ≡ valueIn (λ e. e) (parentNumber number x)) ⌝ }
+    ensures { λ r. ⌜ ((x : Out Section) → Decoded (now (bytes .entry)) cursor (answerOut decoded) x → parentEntryOut r
+        ≡ valueIn (λ e. e) (parentNumber number x)) ⌝ }
 {
     let end = decoded.cursor;
     let outcome = decoded.outcome;
@@ -209,8 +225,12 @@ pub fn parent_number(
     proofs: &mut [u64],
     depths: &mut [u64],
 ) -> ParentEntry
-    ensures { λ r. ⌜ parentEntryOut r ≡ valueIn (λ e. e) (parentNumber number (decodeAnew (now (bytes .entry)) cursor (now (propositions .entry)) (now (proofs .entry)) (now (depths .entry)))) ⌝ }
-    ensures { λ r. ⌜ Lent (parentNumber number (decodeAnew (now (bytes .entry)) cursor (now (propositions .entry)) (now (proofs .entry)) (now (depths .entry)))) (now (propositions .entry)) (now (proofs .entry)) (now (depths .entry)) (now (propositions .exit)) (now (proofs .exit)) (now (depths .exit)) ⌝ }
+    ensures { λ r. ⌜ parentEntryOut r
+        ≡ valueIn (λ e. e) (parentNumber number
+        (decodeAnew (now (bytes .entry)) cursor (now (propositions .entry)) (now (proofs .entry)) (now (depths .entry)))) ⌝ }
+    ensures { λ r. ⌜ Lent (parentNumber number
+        (decodeAnew (now (bytes .entry)) cursor (now (propositions .entry)) (now (proofs .entry)) (now (depths .entry)))) (now (propositions .entry))
+        (now (proofs .entry)) (now (depths .entry)) (now (propositions .exit)) (now (proofs .exit)) (now (depths .exit)) ⌝ }
 {
     let decoded = decode_evr0_section(bytes, cursor, propositions, proofs, depths);
     let answer = parent_of(bytes, cursor, decoded, number);

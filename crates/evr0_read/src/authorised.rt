@@ -66,7 +66,8 @@ fn authorised_of(
     starts: &[u64],
     proposition: PropositionIndex,
 ) -> AuthorisedAnswer
-    ensures { λ r. ⌜ ((x : Out Section) (n : ℕ) → Decoded (now (bytes .entry)) cursor (answerOut decoded) x → now (starts .entry) ≡ lent n (proofStarts x) → authorisedOut r ≡ valueIn (λ v. v) (authorisedNumber (proposition .0) x)) ⌝ }
+    ensures { λ r. ⌜ ((x : Out Section) (n : ℕ) → Decoded (now (bytes .entry)) cursor (answerOut decoded) x → now (starts .entry)
+        ≡ lent n (proofStarts x) → authorisedOut r ≡ valueIn (λ v. v) (authorisedNumber (proposition .0) x)) ⌝ }
 {
     let end = decoded.cursor;
     let outcome = decoded.outcome;
@@ -104,8 +105,12 @@ pub fn authorised(
     proofs: &mut [u64],
     depths: &mut [u64],
 ) -> AuthorisedAnswer
-    ensures { λ r. ⌜ authorisedOut r ≡ valueIn (λ v. v) (authorisedNumber (proposition .0) (decodeAnew (now (bytes .entry)) cursor (now (propositions .entry)) (now (proofs .entry)) (now (depths .entry)))) ⌝ }
-    ensures { λ r. ⌜ Lent (authorisedNumber (proposition .0) (decodeAnew (now (bytes .entry)) cursor (now (propositions .entry)) (now (proofs .entry)) (now (depths .entry)))) (now (propositions .entry)) (now (proofs .entry)) (now (depths .entry)) (now (propositions .exit)) (now (proofs .exit)) (now (depths .exit)) ⌝ }
+    ensures { λ r. ⌜ authorisedOut r
+        ≡ valueIn (λ v. v) (authorisedNumber (proposition .0)
+        (decodeAnew (now (bytes .entry)) cursor (now (propositions .entry)) (now (proofs .entry)) (now (depths .entry)))) ⌝ }
+    ensures { λ r. ⌜ Lent (authorisedNumber (proposition .0)
+        (decodeAnew (now (bytes .entry)) cursor (now (propositions .entry)) (now (proofs .entry)) (now (depths .entry)))) (now (propositions .entry))
+        (now (proofs .entry)) (now (depths .entry)) (now (propositions .exit)) (now (proofs .exit)) (now (depths .exit)) ⌝ }
 {
     let decoded = decode_evr0_section(bytes, cursor, propositions, proofs, depths);
     let answer = authorised_of(bytes, cursor, decoded, proofs, proposition);

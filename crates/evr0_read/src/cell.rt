@@ -122,7 +122,9 @@ pub fn parent_at(payload: &[u8], at: usize) -> ParentEntry
 }
 
 pub fn witness_in(payload: &[u8], counts: Counts, number: WitnessNumber) -> WitnessEntry
-    ensures { λ r. ⌜ witnessEntryOut r ≡ witnessBeside (entryAt (witnessOf 4) placedWitness (now (payload .entry)) (counts .witnesses) (witnessPlace (length (now (payload .entry))) (counts .witnesses) (counts .parents) (number .0)) (number .0)) ⌝ }
+    ensures { λ r. ⌜ witnessEntryOut r
+        ≡ witnessBeside (entryAt (witnessOf 4) placedWitness (now (payload .entry)) (counts .witnesses)
+        (witnessPlace (length (now (payload .entry))) (counts .witnesses) (counts .parents) (number .0)) (number .0)) ⌝ }
 {
     if counts.witnesses <= number.place() {
         return no_witness(local_format::refusal::refuse(62, 0));
@@ -131,7 +133,9 @@ pub fn witness_in(payload: &[u8], counts: Counts, number: WitnessNumber) -> Witn
 }
 
 pub fn parent_in(payload: &[u8], counts: Counts, number: u32) -> ParentEntry
-    ensures { λ r. ⌜ parentEntryOut r ≡ entryAt (parentRow tt) placedParent (now (payload .entry)) (counts .parents) (parentPlace (length (now (payload .entry))) (counts .parents) number) number ⌝ }
+    ensures { λ r. ⌜ parentEntryOut r
+        ≡ entryAt (parentRow tt) placedParent (now (payload .entry)) (counts .parents)
+        (parentPlace (length (now (payload .entry))) (counts .parents) number) number ⌝ }
 {
     if counts.parents <= evr0_head::number::wide(number) {
         return ParentEntry::Refused(local_format::refusal::refuse(62, 0));

@@ -40,7 +40,8 @@ fn first_cell(proof: Proof) -> usize
 
 // From a proof of an accepted section, whose parent cells start at `cells`.
 fn down_from(payload: &[u8], starts: &[u64], cells: usize, from: ProofNumber, limit: u64) -> Down
-    ensures { λ r. ⌜ ((d : Section) → Held (now (payload .entry)) (now (starts .entry)) d → cells ≡ d .tables .witnesses .next → from .0 < length (now (starts .entry)) → downOut r ≡ wayDown (sectionOf (d .tables)) limit (from .0)) ⌝ }
+    ensures { λ r. ⌜ ((d : Section) → Held (now (payload .entry)) (now (starts .entry)) d → cells ≡ d .tables .witnesses .next
+        → from .0 < length (now (starts .entry)) → downOut r ≡ wayDown (sectionOf (d .tables)) limit (from .0)) ⌝ }
 {
     let table = local_format::part::tail(payload, cells);
     let mut number = from.0;
@@ -79,7 +80,8 @@ fn way_down_of(
     from: ProofNumber,
     limit: u64,
 ) -> WayDown
-    ensures { λ r. ⌜ ((x : Out Section) (n : ℕ) → Decoded (now (bytes .entry)) cursor (answerOut decoded) x → now (starts .entry) ≡ lent n (proofStarts x) → wayDownOut r ≡ valueIn (λ v. v) (wayDownFrom limit (from .0) x)) ⌝ }
+    ensures { λ r. ⌜ ((x : Out Section) (n : ℕ) → Decoded (now (bytes .entry)) cursor (answerOut decoded) x → now (starts .entry)
+        ≡ lent n (proofStarts x) → wayDownOut r ≡ valueIn (λ v. v) (wayDownFrom limit (from .0) x)) ⌝ }
 {
     let end = decoded.cursor;
     let outcome = decoded.outcome;
@@ -117,8 +119,11 @@ pub fn way_down(
     proofs: &mut [u64],
     depths: &mut [u64],
 ) -> WayDown
-    ensures { λ r. ⌜ wayDownOut r ≡ valueIn (λ v. v) (wayDownFrom limit (from .0) (decodeAnew (now (bytes .entry)) cursor (now (propositions .entry)) (now (proofs .entry)) (now (depths .entry)))) ⌝ }
-    ensures { λ r. ⌜ Lent (wayDownFrom limit (from .0) (decodeAnew (now (bytes .entry)) cursor (now (propositions .entry)) (now (proofs .entry)) (now (depths .entry)))) (now (propositions .entry)) (now (proofs .entry)) (now (depths .entry)) (now (propositions .exit)) (now (proofs .exit)) (now (depths .exit)) ⌝ }
+    ensures { λ r. ⌜ wayDownOut r ≡ valueIn (λ v. v)
+        (wayDownFrom limit (from .0) (decodeAnew (now (bytes .entry)) cursor (now (propositions .entry)) (now (proofs .entry)) (now (depths .entry)))) ⌝ }
+    ensures { λ r. ⌜ Lent (wayDownFrom limit (from .0)
+        (decodeAnew (now (bytes .entry)) cursor (now (propositions .entry)) (now (proofs .entry)) (now (depths .entry)))) (now (propositions .entry))
+        (now (proofs .entry)) (now (depths .entry)) (now (propositions .exit)) (now (proofs .exit)) (now (depths .exit)) ⌝ }
 {
     let decoded = decode_evr0_section(bytes, cursor, propositions, proofs, depths);
     let answer = way_down_of(bytes, cursor, decoded, proofs, from, limit);

@@ -109,7 +109,9 @@ pub fn proof_at(payload: &[u8], at: usize) -> ProofEntry
 }
 
 pub fn proposition_in(payload: &[u8], starts: &[u64], number: PropositionIndex) -> PropositionEntry
-    ensures { λ r. ⌜ propositionEntryOut r ≡ entryAt propositionOf placedProposition (now (payload .entry)) (length (now (starts .entry))) (getD (now (starts .entry)) (number .0) 0) (number .0) ⌝ }
+    ensures { λ r. ⌜ propositionEntryOut r
+        ≡ entryAt propositionOf placedProposition (now (payload .entry)) (length (now (starts .entry))) (getD (now (starts .entry)) (number .0) 0)
+        (number .0) ⌝ }
 {
     let i = number.place();
     if starts.len() <= i {
@@ -119,7 +121,8 @@ pub fn proposition_in(payload: &[u8], starts: &[u64], number: PropositionIndex) 
 }
 
 pub fn proof_entry_in(payload: &[u8], starts: &[u64], number: ProofNumber) -> ProofEntry
-    ensures { λ r. ⌜ proofEntryOut r ≡ entryAt proofOf placedProof (now (payload .entry)) (length (now (starts .entry))) (getD (now (starts .entry)) (number .0) 0) (number .0) ⌝ }
+    ensures { λ r. ⌜ proofEntryOut r
+        ≡ entryAt proofOf placedProof (now (payload .entry)) (length (now (starts .entry))) (getD (now (starts .entry)) (number .0) 0) (number .0) ⌝ }
 {
     let i = number.place();
     if starts.len() <= i {

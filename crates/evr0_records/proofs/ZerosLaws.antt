@@ -1,12 +1,12 @@
 -- Three reserved bytes after a byte, as what is left of a field of four that starts at that byte.
 use Prim.Native.Nat.{ℕ, _+_, _*_, _≤_}
-use mathlib.Core.Path.{_≡_, sym, _∙_}
+use mathlib.Core.Path.{_≡_}
 use mathlib.Core.List.{List}
 use native.Mathlib.Omega.{arith}
 use lib.ListN.{length, getD}
 use borrow.Author.Tests.{le-leb, lt-leb, eq-eqb, ne-eqb}
 use Rattle.local_format.specs.Out.{ok, refuse}
-use Rattle.local_format.specs.Field.{whole, cut, Got, le, fieldAt, field}
+use Rattle.local_format.specs.Field.{Got, le, fieldAt, field}
 use Rattle.local_format.proofs.FieldLaws.{field-ok, field-refused}
 use Rattle.evr0_section.specs.Proof.{zerosAt}
 

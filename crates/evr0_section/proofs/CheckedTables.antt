@@ -47,7 +47,8 @@ module _ (rules : List Rule) (room : Room) (p : List ℕ) (t : Tables) (read : t
       let b = then-ok (checkCounts room p head) _ (a .2) in
       let c = bind-ok (rows propositionRow (head .counts .propositions) first p (head .next)) _ (b .2) in
       let d = bind-ok (rows (proofRow rules (head .counts)) (head .counts .proofs) noneOwned p (c .0 .next)) _ (c .2) in
-      let f = checked-ok (eqb (d .0 .state .witness) (head .counts .witnesses) && eqb (d .0 .state .parent) (head .counts .parents)) 22 (d .0 .next) _ (d .2) in
+      let f = checked-ok (eqb (d .0 .state .witness) (head .counts .witnesses) && eqb (d .0 .state .parent) (head .counts .parents)) 22 (d .0 .next) _
+      (d .2) in
       let g = bind-ok (rows (witnessRow 4 (head .counts)) (head .counts .witnesses) 0 p (d .0 .next)) _ (f .1) in
       let h = bind-ok (rows parentRow (head .counts .parents) tt p (g .0 .next)) _ (g .2) in
       let k = checked-ok (eqb (h .0 .next) (length p)) 24 (h .0 .next) _ (h .2) in
@@ -65,10 +66,12 @@ module _ (rules : List Rule) (room : Room) (p : List ℕ) (t : Tables) (read : t
         whole = eqb-true _ _ (k .0);
       })
 
-  proofs-read : Read proofItem afterProof (GoodProof rules (t .head .counts)) (t .head .counts .proofs) noneOwned (t .proofs .state) (map proofItem (t .proofs .entries))
+  proofs-read : Read proofItem afterProof (GoodProof rules (t .head .counts)) (t .head .counts .proofs) noneOwned (t .proofs .state)
+      (map proofItem (t .proofs .entries))
   proofs-read = rows-read proofItem afterProof _ _ (proof-known rules (t .head .counts)) p _ _ _ (t .proofs) (steps .proofs)
 
-  witnesses-read : Read witnessItem (λ w x. suc w) (GoodWitness 4 (t .head .counts)) (t .head .counts .witnesses) 0 (t .witnesses .state) (map witnessItem (t .witnesses .entries))
+  witnesses-read : Read witnessItem (λ w x. suc w) (GoodWitness 4 (t .head .counts)) (t .head .counts .witnesses) 0 (t .witnesses .state)
+      (map witnessItem (t .witnesses .entries))
   witnesses-read = rows-read witnessItem (λ w x. suc w) _ _ (witness-known 4 (t .head .counts)) p _ _ _ (t .witnesses) (steps .witnesses)
 
   abbrev s : Section

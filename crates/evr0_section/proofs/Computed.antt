@@ -19,5 +19,9 @@ use Rattle.evr0_section.specs.Section.{Section, frameAt, sectionOf, tabl
 use Rattle.evr0_section.specs.Witness.{witnessOf, checkWitness, witnessRow, parentRow}
 
 unfoldable pub decoded : Room → List ℕ → Out Section
-unfolding le fieldAt among kindOf equal tagAt textAt table leadOf laterOf stepOf decodeFrom decode isControl anyControl agrees parentsFrom witnessesFrom depthOf depthsFrom depths polarityFits ruleNamed fourRules proofAt witnessAt parentAt proofTotal witnessTotal parentTotal number bytes text each propositionBytes proofBytes witnessBytes payload framed digestAt countsAt headOf withinLimits sizes hasRoom checkCounts zerosAt proofOf hasNumbers checkProof proofRow propositionOf compare compareBytes compareKeys rises propositionRow rows frameAt sectionOf tablesOf tablesAt sectionIn sectionAt decodeSection witnessOf checkWitness witnessRow parentRow
+unfolding le fieldAt among kindOf equal tagAt textAt table leadOf laterOf stepOf decodeFrom decode isControl anyControl agrees parentsFrom
+    witnessesFrom depthOf depthsFrom depths polarityFits ruleNamed fourRules proofAt witnessAt parentAt proofTotal witnessTotal parentTotal number
+    bytes text each propositionBytes proofBytes witnessBytes payload framed digestAt countsAt headOf withinLimits sizes hasRoom checkCounts zerosAt
+    proofOf hasNumbers checkProof proofRow propositionOf compare compareBytes compareKeys rises propositionRow rows frameAt sectionOf tablesOf
+    tablesAt sectionIn sectionAt decodeSection witnessOf checkWitness witnessRow parentRow
 decoded room s = decodeSection room s 0

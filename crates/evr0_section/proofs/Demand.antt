@@ -19,7 +19,8 @@ use Rattle.evr0_section.proofs.Stages.{stage}
 use Rattle.evr0_section.proofs.SectionSteps.{tables-of, Parts, section-parts, section-of}
 
 module _ (rules : List Rule) (room : Room) (bytes : List ℕ) (cursor : ℕ) where
-  pub rules-read : (t : Tables) → tablesAt rules room bytes cursor ≡ ok t → (i : ℕ) → i < proofTotal (sectionOf t) → List·Memᴰ (proofAt (sectionOf t) i .rule) rules
+  pub rules-read : (t : Tables) → tablesAt rules room bytes cursor ≡ ok t → (i : ℕ) → i < proofTotal (sectionOf t)
+      → List·Memᴰ (proofAt (sectionOf t) i .rule) rules
   rules-read t e = let a = tables-of rules room bytes cursor t e in rules-known rules room _ t (a .2)
 
   module _ (shaped : (r : Rule) → List·Memᴰ r rules → Shaped r) where

@@ -1,6 +1,6 @@
 -- Whatever is read off a part ends within it, and a refusal stands within it: by one law for each kind of step.
 use Prim.Native.Nat.{ℕ, suc, _+_, _≤_}
-use mathlib.Core.Path.{_≡_, refl, subst, sym}
+use mathlib.Core.Path.{_≡_, refl, subst}
 use mathlib.Core.Bool.{Bool, true, false, _&&_}
 use lib.Dec.{eqb, ltb, leb}
 use mathlib.Core.List.{List}
@@ -13,11 +13,10 @@ use Rattle.local_format.specs.Text.{Span, sectionField, textAt}
 use Rattle.local_format.proofs.FieldLaws.{field-ok, field-refused-within}
 use Rattle.local_format.proofs.TextLaws.{text-ok, text-refused-within}
 use Rattle.derivation.specs.Rule.{Rule, Named, known, unknown, ruleNamed}
-use Rattle.evr0_section.specs.Rows.{Sized, Row}
 use Rattle.evr0_section.specs.Head.{Counts, Digest, digestAt}
-use Rattle.evr0_section.specs.Proposition.{Proposition, Before, after, keyOf, rises, propositionOf, propositionRow}
-use Rattle.evr0_section.specs.Proof.{ProofRecord, Settled, Unowned, zerosAt, proofOf, orUnknown, hasNumbers, checkProof, proofRow}
-use Rattle.evr0_section.specs.Witness.{WitnessRecord, witnessOf, checkWitness, witnessRow, parentRow}
+use Rattle.evr0_section.specs.Proposition.{Before, after, keyOf, rises, propositionOf, propositionRow}
+use Rattle.evr0_section.specs.Proof.{ProofRecord, Unowned, zerosAt, proofOf, orUnknown, hasNumbers, checkProof, proofRow}
+use Rattle.evr0_section.specs.Witness.{witnessOf, checkWitness, witnessRow}
 
 -- the value's place, or the refusal's offset, is at most n
 abbrev pub Inside : {A : Type 0} → ℕ → (A → ℕ) → Out A → Type 0
@@ -153,7 +152,8 @@ module _ (s : List ℕ) where
   ruleIn (known r) = omega arith
   ruleIn unknown = omega arith
 
-  checkProofIn : (rules : List Rule) (counts : Counts) (u : Unowned) (name : List ℕ) (r : ProofRecord) → Inside (length s) (λ rule. 0) (checkProof rules counts u name r)
+  checkProofIn : (rules : List Rule) (counts : Counts) (u : Unowned) (name : List ℕ) (r : ProofRecord)
+      → Inside (length s) (λ rule. 0) (checkProof rules counts u name r)
   unfolding checkProof
   checkProofIn rules counts u name r =
       go (eqb (r .number) (u .proof) && ltb (r .proposition) (counts .propositions))
@@ -187,6 +187,7 @@ module _ (s : List ℕ) where
   unfolding witnessRow checkWitness
   witnessRowIn width counts w =
       on (length s) (λ r. r .size) _ (witnessOf width s) _ (witnessIn width) λ r a.
-      withCheck (λ x. x .size) (eqb (r .item .number) w && (ltb (r .item .proposition) (counts .propositions) && (leb (r .item .polarity) 1 && leb (r .item .spanStart) (r .item .spanEnd)))) 23 0
+      withCheck (λ x. x .size) (eqb (r .item .number) w &&
+      (ltb (r .item .proposition) (counts .propositions) && (leb (r .item .polarity) 1 && leb (r .item .spanStart) (r .item .spanEnd)))) 23 0
       (ok (record { item = r .item; size = r .size; state = suc w }))
       (omega arith) a

@@ -36,10 +36,12 @@ Early n = (n ≤ 24) ⊎ (n ≡ 61)
 
 module _ {r : Refusal} where
   -- a step of 5, a text or a check, and what comes after it
-  by-field : {B : Type 0} (width : ℕ) (s : List ℕ) (at : ℕ) (f : Got → Out B) → (sectionField width s at >>= f) ≡ refused r → ((g : Got) → f g ≡ refused r → Early (r .number)) → Early (r .number)
+  by-field : {B : Type 0} (width : ℕ) (s : List ℕ) (at : ℕ) (f : Got → Out B) → (sectionField width s at >>= f) ≡ refused r
+      → ((g : Got) → f g ≡ refused r → Early (r .number)) → Early (r .number)
   by-field width s at f e = by-bind Early (sectionField width s at) f e (λ e. by-cut Early 5 width s at e (inl (omega arith)))
 
-  by-test : {B : Type 0} (t : Bool) (n at : ℕ) (y : Out B) → (check t n at >> y) ≡ refused r → n ≤ 24 → (y ≡ refused r → Early (r .number)) → Early (r .number)
+  by-test : {B : Type 0} (t : Bool) (n at : ℕ) (y : Out B) → (check t n at >> y) ≡ refused r → n ≤ 24 → (y ≡ refused r → Early (r .number))
+      → Early (r .number)
   by-test t n at y e h = by-then Early (check t n at) y e (λ e. by-check Early t n at e (inl h))
 
   text-early : (s : List ℕ) (at : ℕ) → textAt s at ≡ refused r → Early (r .number)
@@ -48,14 +50,16 @@ module _ {r : Refusal} where
       by-field 2 s at _ e λ size e.
       by-test (leb 1 (size .value) && leb (size .value) 4096) 6 (size .next) _ e (omega arith) λ e.
       by-field (size .value) s (size .next) _ e λ body e.
-      by-bind Early (orIll 7 (body .next) (decode (bytesAt s (size .next) (size .value)))) _ e (by-ill (body .next) (decode (bytesAt s (size .next) (size .value)))) λ cs e.
+      by-bind Early (orIll 7 (body .next) (decode (bytesAt s (size .next) (size .value)))) _ e
+      (by-ill (body .next) (decode (bytesAt s (size .next) (size .value)))) λ cs e.
       by-test (not (anyControl cs)) 8 (body .next) _ e (omega arith) λ e. absurd (never (sym e))
     where
       by-ill : (at : ℕ) (d : Decoded) → orIll 7 at d ≡ refused r → Early (r .number)
       by-ill at (points cs) e = absurd (never (sym e))
       by-ill at ill e = rw (← refused-same e) (inl (omega arith))
 
-  by-text : {B : Type 0} (s : List ℕ) (at : ℕ) (f : Span → Out B) → (textAt s at >>= f) ≡ refused r → ((t : Span) → f t ≡ refused r → Early (r .number)) → Early (r .number)
+  by-text : {B : Type 0} (s : List ℕ) (at : ℕ) (f : Span → Out B) → (textAt s at >>= f) ≡ refused r
+      → ((t : Span) → f t ≡ refused r → Early (r .number)) → Early (r .number)
   by-text s at f e = by-bind Early (textAt s at) f e (text-early s at)
 
   zeros-early : (s : List ℕ) (at : ℕ) → zerosAt s at ≡ refused r → Early (r .number)
@@ -139,7 +143,8 @@ module _ {r : Refusal} where
   unknown-early (known q) e = absurd (never (sym e))
   unknown-early unknown e = rw (← refused-same e) (inl (omega arith))
 
-  proof-checks : (rules : List Rule) (counts : Counts) (u : Unowned) (name : List ℕ) (x : ProofRecord) → checkProof rules counts u name x ≡ refused r → Early (r .number)
+  proof-checks : (rules : List Rule) (counts : Counts) (u : Unowned) (name : List ℕ) (x : ProofRecord) → checkProof rules counts u name x ≡ refused r
+      → Early (r .number)
   unfolding checkProof
   proof-checks rules counts u name x e =
       by-test (eqb (x .number) (u .proof) && ltb (x .proposition) (counts .propositions)) 17 0 _ e (omega arith) λ e.
@@ -152,7 +157,8 @@ module _ {r : Refusal} where
   unfolding proofRow
   proof-early rules counts u s e =
       by-bind Early (proofOf s) _ e (proof-read s) λ x e.
-      by-bind Early (checkProof rules counts u (bytesAt s (x .item .rule .start) (x .item .rule .len)) (x .item)) _ e (proof-checks rules counts u _ (x .item)) λ rule e.
+      by-bind Early (checkProof rules counts u (bytesAt s (x .item .rule .start) (x .item .rule .len)) (x .item)) _ e
+      (proof-checks rules counts u _ (x .item)) λ rule e.
       absurd (never (sym e))
 
   witness-read : (width : ℕ) (s : List ℕ) → witnessOf width s ≡ refused r → Early (r .number)
@@ -185,7 +191,8 @@ module _ {r : Refusal} where
 
 -- ---- The tables
 
-module _ {A S : Type 0} (row : S → List ℕ → Out (Row A S)) (early : (q : Refusal) (u : S) (s : List ℕ) → row u s ≡ refused q → Early (q .number)) (r : Refusal) where
+module _ {A S : Type 0} (row : S → List ℕ → Out (Row A S)) (early : (q : Refusal) (u : S) (s : List ℕ) → row u s ≡ refused q → Early (q .number))
+    (r : Refusal) where
   rows-early : (n : ℕ) (u : S) (p : List ℕ) (at : ℕ) → rows row n u p at ≡ refused r → Early (r .number)
   unfolding rows
   rows-early zero u p at e = absurd (never (sym e))
@@ -200,13 +207,16 @@ module _ (rules : List Rule) (room : Room) where
   tables-early r p e =
       by-bind Early (headOf p) _ e (head-early p) λ head e.
       by-then Early (checkCounts room p head) _ e (check-counts-early room p head) λ e.
-      by-bind Early (rows propositionRow (head .counts .propositions) first p (head .next)) _ e (rows-early propositionRow (λ q. proposition-early {r = q}) r _ first p (head .next)) λ propositions e.
+      by-bind Early (rows propositionRow (head .counts .propositions) first p (head .next)) _ e
+      (rows-early propositionRow (λ q. proposition-early {r = q}) r _ first p (head .next)) λ propositions e.
       by-bind Early (rows (proofRow rules (head .counts)) (head .counts .proofs) none p (propositions .next)) _ e
       (rows-early (proofRow rules (head .counts)) (λ q. proof-early {r = q} rules (head .counts)) r _ none p (propositions .next)) λ proofs e.
-      by-test (eqb (proofs .state .witness) (head .counts .witnesses) && eqb (proofs .state .parent) (head .counts .parents)) 22 (proofs .next) _ e (omega arith) λ e.
+      by-test (eqb (proofs .state .witness) (head .counts .witnesses) && eqb (proofs .state .parent) (head .counts .parents)) 22 (proofs .next) _ e
+      (omega arith) λ e.
       by-bind Early (rows (witnessRow 4 (head .counts)) (head .counts .witnesses) 0 p (proofs .next)) _ e
       (rows-early (witnessRow 4 (head .counts)) (λ q. witness-early {r = q} 4 (head .counts)) r _ 0 p (proofs .next)) λ witnesses e.
-      by-bind Early (rows parentRow (head .counts .parents) tt p (witnesses .next)) _ e (rows-early parentRow (λ q. parent-early {r = q}) r _ tt p (witnesses .next)) λ parents e.
+      by-bind Early (rows parentRow (head .counts .parents) tt p (witnesses .next)) _ e
+      (rows-early parentRow (λ q. parent-early {r = q}) r _ tt p (witnesses .next)) λ parents e.
       by-test (eqb (parents .next) (length p)) 24 (parents .next) _ e (omega arith) λ e. absurd (never (sym e))
     where
       none : Unowned

@@ -42,7 +42,8 @@ module _ (rules : List Rule) (counts : Counts) where
   rule-known (known q) r e = ap known (ok-same e)
   rule-known unknown r e = cc
 
-  checked-name : (u : Unowned) (name : List ℕ) (r : ProofRecord) (rule : Rule) → checkProof rules counts u name r ≡ ok rule → ruleNamed rules name ≡ known rule
+  checked-name : (u : Unowned) (name : List ℕ) (r : ProofRecord) (rule : Rule) → checkProof rules counts u name r ≡ ok rule → ruleNamed rules name
+      ≡ known rule
   unfolding checkProof
   checked-name u name r rule e =
       let a = checked-ok (eqb (r .number) (u .proof) && ltb (r .proposition) (counts .propositions)) 17 0 _ e in

@@ -1,8 +1,7 @@
 -- Laws of a table: a turn of its reading, and the trace of a table that was read, over which the facts about tables go by induction.
-use Prim.Native.Nat.{ℕ, zero, suc, _+_, _≤_, _<_}
-use mathlib.Core.Path.{_≡_, refl, sym, ap, _∙_}
+use Prim.Native.Nat.{ℕ, zero, suc, _+_}
+use mathlib.Core.Path.{_≡_, refl, ap, _∙_}
 use mathlib.Core.List.{List, [], _∷_, _++_, append-assoc}
-use native.Mathlib.Omega.{arith}
 use lib.ListN.{length, drop}
 use Rattle.local_format.specs.Refusal.{Refusal}
 use Rattle.local_format.specs.Out.{Out, ok, refused, _>>=_, moved, atOffset}
@@ -34,7 +33,8 @@ module _ {A S : Type 0} (row : S → List ℕ → Out (Row A S)) (p : List ℕ) 
     unfolding rows
     rows-refused q e = rw e
 
-    rows-more : (r : Row A S) → row state (drop at p) ≡ ok r → rows row (suc n) state p at ≡ after (entry at r ∷ []) (rows row n (r .state) p (at + r .size))
+    rows-more : (r : Row A S) → row state (drop at p) ≡ ok r → rows row (suc n) state p at
+        ≡ after (entry at r ∷ []) (rows row n (r .state) p (at + r .size))
     unfolding rows
     rows-more r e = rw e
 
@@ -52,7 +52,8 @@ module _ {A S : Type 0} (row : S → List ℕ → Out (Row A S)) (p : List ℕ) 
     more : {n at end : ℕ} {state last : S} {es : List (Entry A)} (r : Row A S) → row state (drop at p) ≡ ok r
         → Trace n (r .state) (at + r .size) es last end → Trace (suc n) state at (entry at r ∷ es) last end
 
-  trace-end : (n at : ℕ) (state : S) (t u : Rows A S) → ok u ≡ ok t → Trace n state at (u .entries) (u .state) (u .next) → Trace n state at (t .entries) (t .state) (t .next)
+  trace-end : (n at : ℕ) (state : S) (t u : Rows A S) → ok u ≡ ok t → Trace n state at (u .entries) (u .state) (u .next)
+      → Trace n state at (t .entries) (t .state) (t .next)
   trace-end n at state t u e w = rw (ok-same e) at w
 
   pub trace : (n at : ℕ) (state : S) (t : Rows A S) → rows row n state p at ≡ ok t → Trace n state at (t .entries) (t .state) (t .next)

@@ -21,7 +21,8 @@ module _ (rules : List Rule) (room : Room) (bytes : List ℕ) (cursor : ℕ) whe
   abbrev payload : Frame → List ℕ
   payload f = bytesAt bytes (f .start) (f .len)
 
-  pub tables-of : (t : Tables) → tablesAt rules room bytes cursor ≡ ok t → (f : Frame) × (frameAt bytes cursor ≡ ok f) × (tablesOf rules room (payload f) ≡ ok t)
+  pub tables-of : (t : Tables) → tablesAt rules room bytes cursor ≡ ok t → (f : Frame) × (frameAt bytes cursor ≡ ok f)
+      × (tablesOf rules room (payload f) ≡ ok t)
   unfolding tablesAt
   tables-of t e = let a = bind-ok (frameAt bytes cursor) _ e in (a .0, a .1, moved-ok (a .0 .start) _ (a .2))
 

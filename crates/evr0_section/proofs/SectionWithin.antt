@@ -163,7 +163,8 @@ module _ (room : Room) (p : List ℕ) (h : Head) where
   checksIn : HeadEnds p h → Within (length p) (checkCounts room p h)
   unfolding checkCounts
   checksIn (a, b) =
-      andThen (length p) _ (withinLimits (listed (h .counts)) countLimits (h .countsAt)) _ (limitsIn (length p) (listed (h .counts)) countLimits (h .countsAt) (omega arith))
+      andThen (length p) _ (withinLimits (listed (h .counts)) countLimits (h .countsAt)) _
+      (limitsIn (length p) (listed (h .counts)) countLimits (h .countsAt) (omega arith))
       (onCheck (length p) _ (leb (sizes (h .counts) 15 35 84 4) (length p - h .next)) 13 (h .next) _ b
       (onCheck (length p) _ (leb (length p + sizes (h .counts) 40 64 84 4) 16777216) 14 (h .next) _ b
       (onCheck (length p) _ (leb (length p + sizes (h .counts) 1 1 1 1) 8388608) 15 (h .next) _ b
@@ -203,8 +204,10 @@ module _ (rules : List Rule) (room : Room) (p : List ℕ) where
       (on (length p) _ _ (rows propositionRow (head .counts .propositions) first p (head .next)) _
       (rowsIn propositionRow propositionRowIn p (head .counts .propositions) first (head .next) (a .1)) λ propositions b.
       on (length p) _ _ (rows (proofRow rules (head .counts)) (head .counts .proofs) noneOwned p (propositions .next)) _
-      (rowsIn (proofRow rules (head .counts)) (λ q. proofRowIn q rules (head .counts)) p (head .counts .proofs) noneOwned (propositions .next) (b .1)) λ proofs c.
-      onCheck (length p) _ (eqb (proofs .state .witness) (head .counts .witnesses) && eqb (proofs .state .parent) (head .counts .parents)) 22 (proofs .next) _ (c .1)
+      (rowsIn (proofRow rules (head .counts)) (λ q. proofRowIn q rules (head .counts)) p (head .counts .proofs) noneOwned (propositions .next) (b .1))
+      λ proofs c.
+      onCheck (length p) _ (eqb (proofs .state .witness) (head .counts .witnesses) && eqb (proofs .state .parent) (head .counts .parents)) 22
+      (proofs .next) _ (c .1)
       (on (length p) _ _ (rows (witnessRow 4 (head .counts)) (head .counts .witnesses) 0 p (proofs .next)) _
       (rowsIn (witnessRow 4 (head .counts)) (λ q. witnessRowIn q 4 (head .counts)) p (head .counts .witnesses) 0 (proofs .next) (c .1)) λ witnesses d.
       on (length p) _ _ (rows parentRow (head .counts .parents) tt p (witnesses .next)) _

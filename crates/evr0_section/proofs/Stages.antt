@@ -30,7 +30,8 @@ module _ (rules : List Rule) (room : Room) (bytes : List ℕ) (cursor : ℕ) whe
       let x : Out Tables = tablesOf rules room (bytesAt bytes (f .start) (f .len)) in
       ⊎-elim
       (λ a. let q : tablesAt rules room bytes cursor ≡ refused r = on-ok _ h ∙ a in inTables q (reading-early rules room r bytes cursor q))
-      (λ a. let l = rest-late r (f .start) _ (a .0) (λ ds. record { tables = a .0; depths = ds; cursor = next }) (a .2) in inLastPass (a .0) (on-ok _ h ∙ a .1) (l .0) (l .1))
+      (λ a. let l = rest-late r (f .start) _ (a .0) (λ ds. record { tables = a .0; depths = ds; cursor = next }) (a .2) in inLastPass (a .0)
+      (on-ok _ h ∙ a .1) (l .0) (l .1))
       (bind-refused (moved (f .start) x) _ (sym (moved-bind (f .start) x _) ∙ e))
 
   pub stage : (r : Refusal) → sectionAt rules room bytes cursor ≡ refused r → Stage rules room bytes cursor r

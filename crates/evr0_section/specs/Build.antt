@@ -70,15 +70,45 @@ framed p = evr0 ++ (number 4 (length p) ++ p)
 -- by a one-witness rule
 abbrev pub leaf : Rule → ℕ → ℕ → ℕ → Proof
 leaf rule n witness parent =
-    record { number = n; proposition = 0; rule = rule; authority = 7; firstWitness = witness; witnessCount = 1; firstParent = parent; parentCount = 0; operation = 0 }
+    record {
+      number = n;
+      proposition = 0;
+      rule = rule;
+      authority = 7;
+      firstWitness = witness;
+      witnessCount = 1;
+      firstParent = parent;
+      parentCount = 0;
+      operation = 0;
+    }
 
 abbrev pub join : ℕ → ℕ → ℕ → Proof
 join n witness parent =
-    record { number = n; proposition = 0; rule = joinSameP1; authority = 7; firstWitness = witness; witnessCount = 0; firstParent = parent; parentCount = 2; operation = 0 }
+    record {
+      number = n;
+      proposition = 0;
+      rule = joinSameP1;
+      authority = 7;
+      firstWitness = witness;
+      witnessCount = 0;
+      firstParent = parent;
+      parentCount = 2;
+      operation = 0;
+    }
 
 abbrev pub op : ℕ → ℕ → ℕ → ℕ → Proof
 op authority n witness parent =
-    record { number = n; proposition = 0; rule = opTOnly1; authority = authority; firstWitness = witness; witnessCount = 0; firstParent = parent; parentCount = 1; operation = 1 }
+    record {
+      number = n;
+      proposition = 0;
+      rule = opTOnly1;
+      authority = authority;
+      firstWitness = witness;
+      witnessCount = 0;
+      firstParent = parent;
+      parentCount = 1;
+      operation = 1;
+    }
 
 -- a witness of proposition 0, with an empty span
 abbrev pub witness : ℕ → ℕ → Witness

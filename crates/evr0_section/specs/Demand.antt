@@ -32,7 +32,8 @@ pub record Demand3 (rules : List Rule) (room : Room) (bytes : List ℕ) (cursor 
   pub tables : (d : Section) → sectionAt rules room bytes cursor ≡ ok d → tablesAt rules room bytes cursor ≡ ok (d .tables)
   pub accepted : (d : Section) → sectionAt rules room bytes cursor ≡ ok d → Accepted (d .tables) (d .depths)
   -- where the tables all read and pass their own checks
-  pub exactly : (t : Tables) → tablesAt rules room bytes cursor ≡ ok t → ((d : Section) × (sectionAt rules room bytes cursor ≡ ok d)) ↔ Derivable (sectionOf t)
+  pub exactly : (t : Tables) → tablesAt rules room bytes cursor ≡ ok t → ((d : Section) × (sectionAt rules room bytes cursor ≡ ok d))
+      ↔ Derivable (sectionOf t)
   pub stage : (r : Refusal) → sectionAt rules room bytes cursor ≡ refused r → Stage rules room bytes cursor r
 
 -- ---- The words at the four rules

@@ -5,7 +5,6 @@ use mathlib.Core.Bool.{Bool, _&&_}
 use lib.ListN.{length}
 use lib.Dec.{leb, eqb}
 use Rattle.local_format.specs.Out.{Out, ok, check, _>>=_, _>>_}
-use Rattle.local_format.specs.Field.{Got}
 use Rattle.local_format.specs.Text.{Span, bytesAt, sectionField, textAt}
 
 -- ---- Digests

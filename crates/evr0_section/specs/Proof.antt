@@ -4,7 +4,6 @@ use mathlib.Core.List.{List}
 use mathlib.Core.Bool.{Bool, _&&_}
 use lib.Dec.{ltb, leb, eqb}
 use Rattle.local_format.specs.Out.{Out, ok, refuse, check, _>>=_, _>>_}
-use Rattle.local_format.specs.Field.{Got}
 use Rattle.local_format.specs.Text.{Span, bytesAt, sectionField, textAt}
 use Rattle.derivation.specs.Rule.{Rule, Named, known, unknown, ruleNamed}
 use Rattle.evr0_section.specs.Rows.{Sized, Row}

@@ -4,7 +4,6 @@ use mathlib.Core.List.{List, [], _∷_}
 use mathlib.Core.Bool.{Bool, true, false, cond}
 use lib.Dec.{ltb}
 use Rattle.local_format.specs.Out.{Out, ok, check, _>>=_, _>>_}
-use Rattle.local_format.specs.Field.{Got}
 use Rattle.local_format.specs.Text.{Span, bytesAt, sectionField, textAt}
 use Rattle.evr0_section.specs.Rows.{Sized, Row}
 

@@ -5,7 +5,7 @@ use mathlib.Core.Bool.{_&&_}
 use lib.ListN.{length}
 use lib.Dec.{leb, eqb}
 use Rattle.local_format.specs.Out.{Out, ok, check, moved, _>>=_, _>>_}
-use Rattle.local_format.specs.Field.{Got, field}
+use Rattle.local_format.specs.Field.{field}
 use Rattle.local_format.specs.Text.{bytesAt}
 use Rattle.local_format.specs.Tag.{tagAt, evr0}
 use Rattle.derivation.specs.Rule.{Rule, fourRules}

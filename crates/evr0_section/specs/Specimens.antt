@@ -77,7 +77,15 @@ module _ (free : Free) where
       -- 4
       record {
         bytes = framed (both 0 7);
-        answer = ok (record { payload = 287; cursor = 295; counts = 1 ∷ 2 ∷ 1 ∷ 1 ∷ []; propositions = 92 ∷ []; proofs = 107 ∷ 154 ∷ []; depths = 1 ∷ 2 ∷ [] });
+        answer = ok (record {
+          payload = 287;
+          cursor = 295;
+          counts = 1 ∷ 2 ∷ 1 ∷ 1 ∷ [];
+          propositions = 92 ∷ [];
+          proofs = 107 ∷ 154 ∷ [];
+          depths = 1 ∷
+              2 ∷ [];
+        });
       } ∷
       -- 5
       record { bytes = framed (both 1 7); answer = refuse 25 291 } ∷

@@ -4,10 +4,9 @@ use mathlib.Core.List.{List}
 use mathlib.Core.Bool.{_&&_}
 use lib.Dec.{ltb, leb, eqb}
 use Rattle.local_format.specs.Out.{Out, ok, check, _>>=_, _>>_}
-use Rattle.local_format.specs.Field.{Got}
 use Rattle.local_format.specs.Text.{sectionField}
 use Rattle.evr0_section.specs.Rows.{Sized, Row}
-use Rattle.evr0_section.specs.Head.{Counts, Digest, digestAt}
+use Rattle.evr0_section.specs.Head.{Counts, digestAt}
 use Rattle.evr0_section.specs.Proof.{zerosAt}
 
 pub record WitnessRecord : Type 0 where

@@ -46,9 +46,12 @@ pub extern "C" fn falgnust_authorised(
 ) -> Authorised
     ensures { λ r.
         ⌜ r ≡
-        flatAuthorised (valueIn (λ v. v) (authorisedNumber proposition (decodeAnew (now (bytes .entry)) cursor (now (propositions .entry)) (now (proofs .entry)) (now (depths .entry))))) ⌝ }
+        flatAuthorised (valueIn (λ v. v)
+        (authorisedNumber proposition
+        (decodeAnew (now (bytes .entry)) cursor (now (propositions .entry)) (now (proofs .entry)) (now (depths .entry))))) ⌝ }
     ensures { λ r.
-        ⌜ Lent (authorisedNumber proposition (decodeAnew (now (bytes .entry)) cursor (now (propositions .entry)) (now (proofs .entry)) (now (depths .entry))))
+        ⌜ Lent (authorisedNumber proposition
+        (decodeAnew (now (bytes .entry)) cursor (now (propositions .entry)) (now (proofs .entry)) (now (depths .entry))))
         (now (propositions .entry)) (now (proofs .entry)) (now (depths .entry))
         (now (propositions .exit)) (now (proofs .exit)) (now (depths .exit)) ⌝ }
 {

@@ -73,19 +73,23 @@ pub extern "C" fn falgnust_parse_string_table_debug_and_ownership(
 ) -> Block
     ensures { λ r.
         ⌜ r ≡
-        flatBlock (layout (decodeBlock «base_offset» «header_rev» (roomsOf (now (strings .entry)) (length (now (symbols .entry))) (now (paths .entry))) (now (code .entry)))) ⌝ }
+        flatBlock (layout (decodeBlock «base_offset» «header_rev»
+        (roomsOf (now (strings .entry)) (length (now (symbols .entry))) (now (paths .entry))) (now (code .entry)))) ⌝ }
     ensures { λ r.
         ⌜ now (strings .exit) ≡
         lent (length (now (strings .entry)))
-        (stringStarts (decodeBlock «base_offset» «header_rev» (roomsOf (now (strings .entry)) (length (now (symbols .entry))) (now (paths .entry))) (now (code .entry)))) ⌝ }
+        (stringStarts (decodeBlock «base_offset» «header_rev» (roomsOf (now (strings .entry)) (length (now (symbols .entry))) (now (paths .entry)))
+        (now (code .entry)))) ⌝ }
     ensures { λ r.
         ⌜ now (paths .exit) ≡
         lent (length (now (paths .entry)))
-        (pathStarts (decodeBlock «base_offset» «header_rev» (roomsOf (now (strings .entry)) (length (now (symbols .entry))) (now (paths .entry))) (now (code .entry)))) ⌝ }
+        (pathStarts (decodeBlock «base_offset» «header_rev» (roomsOf (now (strings .entry)) (length (now (symbols .entry))) (now (paths .entry)))
+        (now (code .entry)))) ⌝ }
     ensures { λ r.
         ⌜ map symbolIs (now (symbols .exit)) ≡
         lentSymbols (length (now (symbols .entry)))
-        (blockSymbols (decodeBlock «base_offset» «header_rev» (roomsOf (now (strings .entry)) (length (now (symbols .entry))) (now (paths .entry))) (now (code .entry)))) ⌝ }
+        (blockSymbols (decodeBlock «base_offset» «header_rev» (roomsOf (now (strings .entry)) (length (now (symbols .entry))) (now (paths .entry)))
+        (now (code .entry)))) ⌝ }
 {
     let parse = parse_string_table_debug_and_ownership(
         base_offset,

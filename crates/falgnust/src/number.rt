@@ -60,7 +60,8 @@ pub extern "C" fn falgnust_symbol_number(
 ) -> Symbol
     ensures { λ r.
         ⌜ r ≡
-        flatSymbol (takenIn (symbolNumber number (decodeAnew «base_offset» «header_rev» (now (strings .entry)) (now (paths .entry)) (now (code .entry))))) ⌝ }
+        flatSymbol (takenIn (symbolNumber number
+        (decodeAnew «base_offset» «header_rev» (now (strings .entry)) (now (paths .entry)) (now (code .entry))))) ⌝ }
     ensures { λ r.
         ⌜ Lent (symbolNumber number (decodeAnew «base_offset» «header_rev» (now (strings .entry)) (now (paths .entry)) (now (code .entry))))
         (now (strings .entry))
@@ -107,7 +108,8 @@ pub extern "C" fn falgnust_component_number(
 ) -> Component
     ensures { λ r.
         ⌜ r ≡
-        flatComponent (takenIn (componentNumber number component (decodeAnew «base_offset» «header_rev» (now (strings .entry)) (now (paths .entry)) (now (code .entry))))) ⌝ }
+        flatComponent (takenIn (componentNumber number component
+        (decodeAnew «base_offset» «header_rev» (now (strings .entry)) (now (paths .entry)) (now (code .entry))))) ⌝ }
     ensures { λ r.
         ⌜ Lent (componentNumber number component (decodeAnew «base_offset» «header_rev» (now (strings .entry)) (now (paths .entry)) (now (code .entry))))
         (now (strings .entry))

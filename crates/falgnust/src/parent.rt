@@ -55,7 +55,8 @@ pub extern "C" fn falgnust_parent_number(
 ) -> Parent
     ensures { λ r.
         ⌜ r ≡
-        flatParent (valueIn (λ e. e) (parentNumber number (decodeAnew (now (bytes .entry)) cursor (now (propositions .entry)) (now (proofs .entry)) (now (depths .entry))))) ⌝ }
+        flatParent (valueIn (λ e. e) (parentNumber number
+        (decodeAnew (now (bytes .entry)) cursor (now (propositions .entry)) (now (proofs .entry)) (now (depths .entry))))) ⌝ }
     ensures { λ r.
         ⌜ Lent (parentNumber number (decodeAnew (now (bytes .entry)) cursor (now (propositions .entry)) (now (proofs .entry)) (now (depths .entry))))
         (now (propositions .entry)) (now (proofs .entry)) (now (depths .entry))

@@ -87,7 +87,8 @@ pub extern "C" fn falgnust_proof_number(
 ) -> Proof
     ensures { λ r.
         ⌜ r ≡
-        flatProof (valueIn (shown shownSettled) (proofNumber number (decodeAnew (now (bytes .entry)) cursor (now (propositions .entry)) (now (proofs .entry)) (now (depths .entry))))) ⌝ }
+        flatProof (valueIn (shown shownSettled)
+        (proofNumber number (decodeAnew (now (bytes .entry)) cursor (now (propositions .entry)) (now (proofs .entry)) (now (depths .entry))))) ⌝ }
     ensures { λ r.
         ⌜ Lent (proofNumber number (decodeAnew (now (bytes .entry)) cursor (now (propositions .entry)) (now (proofs .entry)) (now (depths .entry))))
         (now (propositions .entry)) (now (proofs .entry)) (now (depths .entry))

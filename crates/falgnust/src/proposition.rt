@@ -72,7 +72,8 @@ pub extern "C" fn falgnust_proposition_number(
 ) -> Proposition
     ensures { λ r.
         ⌜ r ≡
-        flatProposition (valueIn (shown shownProposition) (propositionNumber number (decodeAnew (now (bytes .entry)) cursor (now (propositions .entry)) (now (proofs .entry)) (now (depths .entry))))) ⌝ }
+        flatProposition (valueIn (shown shownProposition)
+        (propositionNumber number (decodeAnew (now (bytes .entry)) cursor (now (propositions .entry)) (now (proofs .entry)) (now (depths .entry))))) ⌝ }
     ensures { λ r.
         ⌜ Lent (propositionNumber number (decodeAnew (now (bytes .entry)) cursor (now (propositions .entry)) (now (proofs .entry)) (now (depths .entry))))
         (now (propositions .entry)) (now (proofs .entry)) (now (depths .entry))

@@ -67,7 +67,8 @@ pub extern "C" fn falgnust_way_down(
 ) -> WayDown
     ensures { λ r.
         ⌜ r ≡
-        flatWay (valueIn (λ v. v) (wayDownFrom limit from (decodeAnew (now (bytes .entry)) cursor (now (propositions .entry)) (now (proofs .entry)) (now (depths .entry))))) ⌝ }
+        flatWay (valueIn (λ v. v) (wayDownFrom limit from
+        (decodeAnew (now (bytes .entry)) cursor (now (propositions .entry)) (now (proofs .entry)) (now (depths .entry))))) ⌝ }
     ensures { λ r.
         ⌜ Lent (wayDownFrom limit from (decodeAnew (now (bytes .entry)) cursor (now (propositions .entry)) (now (proofs .entry)) (now (depths .entry))))
         (now (propositions .entry)) (now (proofs .entry)) (now (depths .entry))

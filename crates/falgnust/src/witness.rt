@@ -78,7 +78,8 @@ pub extern "C" fn falgnust_witness_number(
 ) -> Witness
     ensures { λ r.
         ⌜ r ≡
-        flatWitness (witnessBeside (valueIn (λ e. e) (witnessNumber number (decodeAnew (now (bytes .entry)) cursor (now (propositions .entry)) (now (proofs .entry)) (now (depths .entry)))))) ⌝ }
+        flatWitness (witnessBeside (valueIn (λ e. e)
+        (witnessNumber number (decodeAnew (now (bytes .entry)) cursor (now (propositions .entry)) (now (proofs .entry)) (now (depths .entry)))))) ⌝ }
     ensures { λ r.
         ⌜ Lent (witnessNumber number (decodeAnew (now (bytes .entry)) cursor (now (propositions .entry)) (now (proofs .entry)) (now (depths .entry))))
         (now (propositions .entry)) (now (proofs .entry)) (now (depths .entry))

@@ -61,7 +61,8 @@ module _ (s : List ℕ) (i : ℕ) (here : i < length s) where
       large-3 : 0x9F < (getD s i 0 % 16 * 64 + getD s (i + 1) 0 % 64) * 64 + getD s (i + 2) 0 % 64
       large-3 =
           let l = later-there low high s (i + 1) t in
-          ⊎-elim (λ p. ⊎-elim (λ q. omega arith) (λ q. omega arith) (bounds (getD s i 0) 0xED 0x9F 0xBF high eh)) (λ p. omega arith) (bounds (getD s i 0) 0xE0 0xA0 0x80 low el)
+          ⊎-elim (λ p. ⊎-elim (λ q. omega arith) (λ q. omega arith) (bounds (getD s i 0) 0xED 0x9F 0xBF high eh)) (λ p. omega arith)
+          (bounds (getD s i 0) 0xE0 0xA0 0x80 low el)
 
       pub three : laterAt 0x80 0xBF s (i + 2) ≡ true → joined 1 false (scanOf (decode (drop (i + 3) s))) ≡ scanOf (decode (drop i s))
       three u =
@@ -98,9 +99,11 @@ module _ (s : List ℕ) (i : ℕ) (here : i < length s) where
         large-4 : 0x9F < ((getD s i 0 % 8 * 64 + getD s (i + 1) 0 % 64) * 64 + getD s (i + 2) 0 % 64) * 64 + getD s (i + 3) 0 % 64
         large-4 =
             let l = later-there low high s (i + 1) t in
-            ⊎-elim (λ p. ⊎-elim (λ q. omega arith) (λ q. omega arith) (bounds (getD s i 0) 0xF4 0x8F 0xBF high eh)) (λ p. omega arith) (bounds (getD s i 0) 0xF0 0x90 0x80 low el)
+            ⊎-elim (λ p. ⊎-elim (λ q. omega arith) (λ q. omega arith) (bounds (getD s i 0) 0xF4 0x8F 0xBF high eh)) (λ p. omega arith)
+            (bounds (getD s i 0) 0xF0 0x90 0x80 low el)
 
         pub four : laterAt 0x80 0xBF s (i + 3) ≡ true → joined 1 false (scanOf (decode (drop (i + 4) s))) ≡ scanOf (decode (drop i s))
         four v =
             let e : i + 3 + 1 ≡ i + 4 = omega arith in
-            rw e at (later-char s i (i + 3) 0x80 0xBF ((getD s i 0 % 8 * 64 + getD s (i + 1) 0 % 64) * 64 + getD s (i + 2) 0 % 64) last-4 v false (no-control _ large-4))
+            rw e at (later-char s i (i + 3) 0x80 0xBF ((getD s i 0 % 8 * 64 + getD s (i + 1) 0 % 64) * 64 + getD s (i + 2) 0 % 64) last-4 v false
+            (no-control _ large-4))

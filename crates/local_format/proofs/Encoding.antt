@@ -99,7 +99,8 @@ module _ (b x y low high : ℕ) (g : 0xDF < b) (h : b ≤ 0xEF) (el : low ≡ co
   ends-3 =
       ⊎-elim
       (λ p. ⊎-elim (λ q. absurd (omega arith)) (λ q. (omega arith, omega arith, omega arith, inl (omega arith))) (bounds b 0xED 0x9F 0xBF high eh))
-      (λ p. ⊎-elim (λ q. (omega arith, omega arith, omega arith, inl (omega arith))) (λ q. (omega arith, omega arith, omega arith, sides (q .0) (omega arith) (omega arith) (decLe b 0xED))) (bounds b 0xED 0x9F 0xBF high eh))
+      (λ p. ⊎-elim (λ q. (omega arith, omega arith, omega arith, inl (omega arith)))
+      (λ q. (omega arith, omega arith, omega arith, sides (q .0) (omega arith) (omega arith) (decLe b 0xED))) (bounds b 0xED 0x9F 0xBF high eh))
       (bounds b 0xE0 0xA0 0x80 low el)
     where
       sides : (b ≡ 0xED → ⊥) → 0x80 ≤ x → x ≤ 0xBF → Dec (b ≤ 0xED) → Scalar ((b % 16 * 64 + x % 64) * 64 + y % 64)
@@ -110,7 +111,12 @@ module _ (b x y low high : ℕ) (g : 0xDF < b) (h : b ≤ 0xEF) (el : low ≡ co
   unfolding encode
   encode-3 =
       let (least, k, j, sc) = ends-3 in
-      simp (lt-leb ((b % 16 * 64 + x % 64) * 64 + y % 64) 0x7F (omega arith), lt-leb ((b % 16 * 64 + x % 64) * 64 + y % 64) 0x7FF least, le-leb ((b % 16 * 64 + x % 64) * 64 + y % 64) 0xFFFF (omega arith))
+      simp (
+        lt-leb ((b % 16 * 64 + x % 64) * 64 + y % 64) 0x7F (omega arith),
+        lt-leb ((b % 16 * 64 + x % 64) * 64 + y % 64) 0x7FF least,
+        le-leb
+            ((b % 16 * 64 + x % 64) * 64 + y % 64) 0xFFFF (omega arith),
+      )
       (three (omega arith) (omega arith) (omega arith))
     where
       three : {p q r p' q' r' : ℕ} → p ≡ p' → q ≡ q' → r ≡ r' → _≡_ {A = List ℕ} (p ∷ q ∷ r ∷ []) (p' ∷ q' ∷ r' ∷ [])
@@ -119,18 +125,26 @@ module _ (b x y low high : ℕ) (g : 0xDF < b) (h : b ≤ 0xEF) (el : low ≡ co
 module _ (b x y z low high : ℕ) (g : 0xEF < b) (h : b ≤ 0xF4) (el : low ≡ cond (eqb b 0xF0) 0x90 0x80) (eh : high ≡ cond (eqb b 0xF4) 0x8F 0xBF)
     (l : low ≤ x) (m : x ≤ high) (u : 0x80 ≤ y) (v : y ≤ 0xBF) (w : 0x80 ≤ z) (a : z ≤ 0xBF) where
   -- the least second byte after F0, and the greatest after F4
-  ends-4 : (0xFFFF < ((b % 8 * 64 + x % 64) * 64 + y % 64) * 64 + z % 64) × (0x80 ≤ x) × (x ≤ 0xBF) × (((b % 8 * 64 + x % 64) * 64 + y % 64) * 64 + z % 64 ≤ 0x10FFFF)
+  ends-4 : (0xFFFF < ((b % 8 * 64 + x % 64) * 64 + y % 64) * 64 + z % 64) × (0x80 ≤ x) × (x ≤ 0xBF)
+      × (((b % 8 * 64 + x % 64) * 64 + y % 64) * 64 + z % 64 ≤ 0x10FFFF)
   ends-4 =
       ⊎-elim
       (λ p. ⊎-elim (λ q. absurd (omega arith)) (λ q. (omega arith, omega arith, omega arith, omega arith)) (bounds b 0xF4 0x8F 0xBF high eh))
-      (λ p. ⊎-elim (λ q. (omega arith, omega arith, omega arith, omega arith)) (λ q. (omega arith, omega arith, omega arith, omega arith)) (bounds b 0xF4 0x8F 0xBF high eh))
+      (λ p. ⊎-elim (λ q. (omega arith, omega arith, omega arith, omega arith)) (λ q. (omega arith, omega arith, omega arith, omega arith))
+      (bounds b 0xF4 0x8F 0xBF high eh))
       (bounds b 0xF0 0x90 0x80 low el)
 
   encode-4 : encode (((b % 8 * 64 + x % 64) * 64 + y % 64) * 64 + z % 64) ≡ b ∷ x ∷ y ∷ z ∷ []
   unfolding encode
   encode-4 =
       let (least, k, j, most) = ends-4 in
-      simp (lt-leb (((b % 8 * 64 + x % 64) * 64 + y % 64) * 64 + z % 64) 0x7F (omega arith), lt-leb (((b % 8 * 64 + x % 64) * 64 + y % 64) * 64 + z % 64) 0x7FF (omega arith), lt-leb (((b % 8 * 64 + x % 64) * 64 + y % 64) * 64 + z % 64) 0xFFFF least)
+      simp (
+        lt-leb (((b % 8 * 64 + x % 64) * 64 + y % 64) * 64 + z % 64) 0x7F (omega arith),
+        lt-leb
+            (((b % 8 * 64 + x % 64) * 64 + y % 64) * 64 + z % 64) 0x7FF (omega arith),
+        lt-leb (((b % 8 * 64 + x % 64) * 64 + y % 64) * 64 + z % 64)
+            0xFFFF least,
+      )
       (four (omega arith) (omega arith) (omega arith) (omega arith))
     where
       four : {p q r t p' q' r' t' : ℕ} → p ≡ p' → q ≡ q' → r ≡ r' → t ≡ t' → _≡_ {A = List ℕ} (p ∷ q ∷ r ∷ t ∷ []) (p' ∷ q' ∷ r' ∷ t' ∷ [])
@@ -184,7 +198,8 @@ module _ (b : ℕ) (s cs : List ℕ) (e : decode (b ∷ s) ≡ points cs) where
               scalar = ends-3 b (x .byte) (y .byte) low high g h el eh (x .low-ok) (x .high-ok) (y .low-ok) (y .high-ok) .3;
               bytes =
                   ap (λ (r : List ℕ). b ∷ r) (x .bytes) ∙ ap (λ (r : List ℕ). b ∷ x .byte ∷ r) (y .bytes)
-                  ∙ ap (λ (q : List ℕ). q ++ y .rest) (sym (encode-3 b (x .byte) (y .byte) low high g h el eh (x .low-ok) (x .high-ok) (y .low-ok) (y .high-ok)));
+                  ∙ ap (λ (q : List ℕ). q ++ y .rest)
+                  (sym (encode-3 b (x .byte) (y .byte) low high g h el eh (x .low-ok) (x .high-ok) (y .low-ok) (y .high-ok)));
               all = a;
               text = t;
             }
@@ -201,7 +216,8 @@ module _ (b : ℕ) (s cs : List ℕ) (e : decode (b ∷ s) ≡ points cs) where
             → Taken 1 0x80 0xBF ((b % 8 * 64 + x .byte % 64) * 64 + y .byte % 64) (y .rest) cs → First (b ∷ s) cs
         last x y z =
             let (ds, t, a) = onto-char (((b % 8 * 64 + x .byte % 64) * 64 + y .byte % 64) * 64 + z .byte % 64) (decode (z .rest)) cs (z .on) in
-            let (least, k, j, most) = ends-4 b (x .byte) (y .byte) (z .byte) low high g h el eh (x .low-ok) (x .high-ok) (y .low-ok) (y .high-ok) (z .low-ok) (z .high-ok) in
+            let (least, k, j, most) = ends-4 b (x .byte) (y .byte) (z .byte) low high g h el eh (x .low-ok) (x .high-ok) (y .low-ok) (y .high-ok)
+            (z .low-ok) (z .high-ok) in
             record {
               value = ((b % 8 * 64 + x .byte % 64) * 64 + y .byte % 64) * 64 + z .byte % 64;
               rest = z .rest;
@@ -210,7 +226,9 @@ module _ (b : ℕ) (s cs : List ℕ) (e : decode (b ∷ s) ≡ points cs) where
               bytes =
                   ap (λ (r : List ℕ). b ∷ r) (x .bytes) ∙ ap (λ (r : List ℕ). b ∷ x .byte ∷ r) (y .bytes)
                   ∙ ap (λ (r : List ℕ). b ∷ x .byte ∷ y .byte ∷ r) (z .bytes)
-                  ∙ ap (λ (q : List ℕ). q ++ z .rest) (sym (encode-4 b (x .byte) (y .byte) (z .byte) low high g h el eh (x .low-ok) (x .high-ok) (y .low-ok) (y .high-ok) (z .low-ok) (z .high-ok)));
+                  ∙ ap (λ (q : List ℕ). q ++ z .rest)
+                  (sym (encode-4 b (x .byte) (y .byte) (z .byte) low high g h el eh (x .low-ok) (x .high-ok) (y .low-ok) (y .high-ok) (z .low-ok)
+                  (z .high-ok)));
               all = a;
               text = t;
             }
@@ -238,7 +256,8 @@ unfolding encode
 encode-some c = go (leb c 0x7F) (leb c 0x7FF) (leb c 0xFFFF)
   where
     go : (p q r : Bool)
-        → 0 < length (cond p (c ∷ []) (cond q ((0xC0 + c / 64) ∷ later c ∷ []) (cond r ((0xE0 + c / 4096) ∷ later (c / 64) ∷ later c ∷ []) ((0xF0 + c / 262144) ∷ later (c / 4096) ∷ later (c / 64) ∷ later c ∷ []))))
+        → 0 < length (cond p (c ∷ []) (cond q ((0xC0 + c / 64) ∷ later c ∷ [])
+        (cond r ((0xE0 + c / 4096) ∷ later (c / 64) ∷ later c ∷ []) ((0xF0 + c / 262144) ∷ later (c / 4096) ∷ later (c / 64) ∷ later c ∷ []))))
     go true q r = omega arith
     go false true r = omega arith
     go false false true = omega arith

@@ -69,7 +69,8 @@ module _ (s : List ℕ) (i : ℕ) where
         → In s i (k + 1) (part due 0x80 0xBF (point * 64 + getD s k 0 % 64))
     later-more due h e f = e ∙ later-on s k (suc due) low high point (omega arith) f ∙ rest due h
       where
-        rest : (d : ℕ) → 0 < d → goes (going (suc d - 1) 0x80 0xBF (point * 64 + getD s k 0 % 64)) s (k + 1) ≡ decodeFrom (part d 0x80 0xBF (point * 64 + getD s k 0 % 64)) (drop (k + 1) s)
+        rest : (d : ℕ) → 0 < d → goes (going (suc d - 1) 0x80 0xBF (point * 64 + getD s k 0 % 64)) s (k + 1)
+            ≡ decodeFrom (part d 0x80 0xBF (point * 64 + getD s k 0 % 64)) (drop (k + 1) s)
         rest zero g = absurd (omega arith)
         rest (suc d) g = let q : suc (suc d) - 1 ≡ suc d = omega arith in rw q
 

@@ -154,7 +154,8 @@ module _ (s : List ℕ) (at : ℕ) (here : at ≤ length s) where
       within-check (length s) (leb 1 (size .value) && leb (size .value) 4096) 6 (size .next) _ (next size f)
       (within-bind (length s) (sectionField (size .value) s (size .next)) _ (field-within 5 (size .value) s (size .next) (next size f)) λ body g.
       let k : body .next ≤ length s = let y = field-ok 5 (size .value) s (size .next) g in omega arith in
-      within-bind (length s) (orIll 7 (body .next) (decode (bytesAt s (size .next) (size .value)))) _ (ill-within 7 (body .next) (decode (bytesAt s (size .next) (size .value))) k) λ cs d.
+      within-bind (length s) (orIll 7 (body .next) (decode (bytesAt s (size .next) (size .value)))) _
+      (ill-within 7 (body .next) (decode (bytesAt s (size .next) (size .value))) k) λ cs d.
       within-check (length s) (not (anyControl cs)) 8 (body .next) _ k tt)
     where
       next : (size : Got) → sectionField 2 s at ≡ ok size → size .next ≤ length s
@@ -166,7 +167,8 @@ module _ (s : List ℕ) (at : ℕ) (here : at ≤ length s) where
       within-bind (length s) (field 32 2 s at) _ (field-within 32 2 s at here) λ size f.
       let k : size .next ≤ length s = let x = field-ok 32 2 s at f in omega arith in
       within-check (length s) (leb (size .value) 1024) 33 (size .next) _ k
-      (within-bind (length s) (orIll 34 (size .next) (decodeAt s (size .next) (size .value))) _ (ill-within 34 (size .next) (decodeAt s (size .next) (size .value)) k) λ cs d. tt)
+      (within-bind (length s) (orIll 34 (size .next) (decodeAt s (size .next) (size .value))) _
+      (ill-within 34 (size .next) (decodeAt s (size .next) (size .value)) k) λ cs d. tt)
 
   pub text-refused-within : {r : Refusal} → textAt s at ≡ refused r → r .offset ≤ length s
   text-refused-within e = refused-within (length s) e text-within

@@ -66,7 +66,8 @@ module _ (b : ℕ) where
   unfolding table
   lead-3 g h = go (decLe b 0xE0) (decLe b 0xEC) (decLe b 0xED)
     where
-      go : Dec (b ≤ 0xE0) → Dec (b ≤ 0xEC) → Dec (b ≤ 0xED) → leadOf table b ≡ more (part 2 (cond (eqb b 0xE0) 0xA0 0x80) (cond (eqb b 0xED) 0x9F 0xBF) (b % 16))
+      go : Dec (b ≤ 0xE0) → Dec (b ≤ 0xEC) → Dec (b ≤ 0xED) → leadOf table b
+          ≡ more (part 2 (cond (eqb b 0xE0) 0xA0 0x80) (cond (eqb b 0xED) 0x9F 0xBF) (b % 16))
       go (yes x) y z = simp (eq-eqb b 0xE0 (omega arith), ne-eqb b 0xED (omega arith)) (lead-has 2 table b (omega arith))
       go (no x) (yes y) z = simp (ne-eqb b 0xE0 (omega arith), ne-eqb b 0xED (omega arith)) (lead-has 3 table b (omega arith))
       go (no x) (no y) (yes z) = simp (ne-eqb b 0xE0 (omega arith), eq-eqb b 0xED (omega arith)) (lead-has 4 table b (omega arith))

@@ -1,7 +1,7 @@
 -- Texts: a 2-byte length and that many bytes of UTF-8.
 use Prim.Native.Nat.{ℕ, _+_}
 use mathlib.Core.List.{List}
-use mathlib.Core.Bool.{Bool, cond, not, _&&_}
+use mathlib.Core.Bool.{cond, not, _&&_}
 use lib.ListN.{length, take, drop}
 use lib.Dec.{leb}
 use Rattle.local_format.specs.Out.{Out, ok, refuse, check, _>>=_, _>>_}

@@ -1,7 +1,7 @@
 -- Well-formed UTF-8, as Table 3-7 of the Unicode Standard has it, its code points, and the control characters.
 use Prim.Native.Nat.{ℕ, zero, suc, _+_, _-_, _*_, _%_}
 use mathlib.Core.List.{List, [], _∷_}
-use mathlib.Core.Bool.{Bool, true, false, cond, _||_, _&&_}
+use mathlib.Core.Bool.{Bool, false, cond, _||_, _&&_}
 use lib.Dec.{leb, eqb}
 
 -- ---- Table 3-7

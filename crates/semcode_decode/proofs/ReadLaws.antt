@@ -3,7 +3,7 @@ use mathlib.Core.Path.{_≡_, refl, ap, sym, _∙_}
 use Prim.Native.Nat.{ℕ, zero, suc, _+_, _-_, _*_, _/_, _≤_, _<_}
 use native.Mathlib.Omega.{arith}
 use mathlib.Core.Bool.{Bool, true, false, cond}
-use mathlib.Core.List.{List, [], _∷_}
+use mathlib.Core.List.{List}
 use lib.Dec.{leb}
 use lib.ListN.{length, getD}
 use borrow.Author.Tests.{leb-true, leb-false}
@@ -100,7 +100,8 @@ module _ {A : Type 0} (read : ℕ → Out (Taken A)) where
   unfolding sectionAt
   section-read tag tableAt s at x each h = go (tagAt tag s at) h
     where
-      go : (b : Bool) → cond b (tableAt (at + length tag) >>= λ t. ok (record { found = true; table = t })) (ok (record { found = false; table = noRecords at })) ≡ ok x
+      go : (b : Bool) → cond b (tableAt (at + length tag) >>= λ t. ok (record { found = true; table = t }))
+          (ok (record { found = false; table = noRecords at })) ≡ ok x
           → ReadBy read (x .table)
       go true k = let p = bind-ok (tableAt (at + length tag)) _ k in rw (← ok-same (p .2)) (each (at + length tag) (p .0) (p .1))
       go false k = rw (← ok-same k) (0, none-left read at)
@@ -138,7 +139,8 @@ module _ (revision : ℕ) (rooms : Rooms) (s : List ℕ) where
       let o = bind-ok (sectionAt own0 (pathTable revision s (rooms .paths)) s (d .0 .table .end)) _ (d .2) in
       let strings = strings-read (rooms .strings) 0 (t .0) (t .1) in
       let symbols = section-read (symbolAt s) dbg0 (symbolTable s (rooms .symbols)) s (t .0 .end) (d .0) (symbols-read (rooms .symbols)) (d .1) in
-      let paths = section-read (pathAt revision s) own0 (pathTable revision s (rooms .paths)) s (d .0 .table .end) (o .0) (paths-read (rooms .paths)) (o .1) in
+      let paths = section-read (pathAt revision s) own0 (pathTable revision s (rooms .paths)) s (d .0 .table .end) (o .0) (paths-read (rooms .paths))
+      (o .1) in
       rw (← ok-same (o .2)) (strings, symbols, paths)
 
 -- ---- Symbols: each starts 10 bytes after the one before

@@ -35,7 +35,8 @@ after-none : (x : Out Kept) → x ≡ after [] x
 after-none (ok k) = refl
 after-none (refused r) = refl
 
-after-one : {A : Type 0} (xs : List ℕ) (e : Entry A) (x : Out (Table A)) → after xs (kept (x >>= λ t. ok (before e t))) ≡ after (xs ++ e .start ∷ []) (kept x)
+after-one : {A : Type 0} (xs : List ℕ) (e : Entry A) (x : Out (Table A)) → after xs (kept (x >>= λ t. ok (before e t)))
+    ≡ after (xs ++ e .start ∷ []) (kept x)
 after-one xs e (ok t) = simp append-assoc
 after-one xs e (refused r) = refl
 

@@ -27,7 +27,8 @@ module _ (base revision : ℕ) (strings paths s : List ℕ) where
   abbrev rooms : Rooms
   rooms = roomsOf strings 8192 paths
 
-  module _ (strings′ paths′ : List ℕ) (p : strings′ ≡ lent (length strings) (stringStarts block)) (q : paths′ ≡ lent (length paths) (pathStarts block)) where
+  module _ (strings′ paths′ : List ℕ) (p : strings′ ≡ lent (length strings) (stringStarts block))
+      (q : paths′ ≡ lent (length paths) (pathStarts block)) where
     pub refused-anew : {A : Type 0} (pick : Block → Out (Entry A)) {r : Refusal} → layout block ≡ refused r
         → (choose pick block ≡ refused r) × Lent (choose pick block) strings paths strings′ paths′
     refused-anew pick h =

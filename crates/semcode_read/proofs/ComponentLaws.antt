@@ -92,7 +92,8 @@ module _ (n k : ℕ) (x : Out Block) (b : Block) (e : Entry Path) (head : Head)
         let c = count in
         let components = e .value .components in
         let reader = componentAt revision (kindOfEvent (e .value .event)) s in
-        let t = there reader (length (components .entries)) (components .start) k components (path-components revision s (e .start) path-again) (omega arith) in
+        let t = there reader (length (components .entries)) (components .start) k components (path-components revision s (e .start) path-again)
+        (omega arith) in
         let p = picked (t .entry) (t .found) in (
           ap (λ (h : Head). componentAfter revision (kindOfEvent (h .event)) s k (h .start)) (sym read-back)
               ∙ on-ok reader (t .passed)

@@ -160,7 +160,8 @@ pub fn component_number(
 ) -> Component
     ensures { λ r.
         ⌜ componentOut r ≡
-        takenIn (componentNumber number component (decodeAnew «base_offset» «header_rev» (now (strings .entry)) (now (paths .entry)) (now (code .entry)))) ⌝ }
+        takenIn (componentNumber number component
+        (decodeAnew «base_offset» «header_rev» (now (strings .entry)) (now (paths .entry)) (now (code .entry)))) ⌝ }
     ensures { λ r.
         ⌜ Lent (componentNumber number component (decodeAnew «base_offset» «header_rev» (now (strings .entry)) (now (paths .entry)) (now (code .entry))))
         (now (strings .entry))

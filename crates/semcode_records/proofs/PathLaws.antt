@@ -27,7 +27,8 @@ headFrom kinded root count start end = do
   taken (record { event = event; root = root; count = count; start = start }) end
 
 counted : (read : ℕ → Out (Taken Component)) (kinded : Kinded) (root count at : ℕ) (x : Out (Table Component)) → records read count at ≡ x
-    → ((x >>= λ components. orUnknown 60 (components .end) kinded >>= λ event. taken (record { event = event; root = root; components = components }) (components .end))
+    → ((x >>= λ components. orUnknown 60 (components .end) kinded >>= λ event. taken (record { event = event; root = root; components = components })
+    (components .end))
     >>= λ path. taken (headOf (path .value)) (path .next))
     ≡ (ends x >>= λ end. headFrom kinded root count at end)
 counted read (known e) root count at (ok t) h = let m = as-many read count at h in rw (m .0, m .1)
@@ -48,7 +49,8 @@ head-steps revision s at =
     step (eventOf (kind .value) revision s (kind .next)) _ _ _ λ kinded.
     step (field 48 4 s (kinded .next)) _ _ _ λ root.
     step (field 49 2 s (root .next)) _ _ _ λ count.
-    counted (componentAt revision (kind .value) s) (kinded .value) (root .value) (count .value) (count .next) (records (componentAt revision (kind .value) s) (count .value) (count .next)) refl
+    counted (componentAt revision (kind .value) s) (kinded .value) (root .value) (count .value) (count .next)
+    (records (componentAt revision (kind .value) s) (count .value) (count .next)) refl
 
 -- ---- What a path read back says of the path
 module _ (revision : ℕ) (s : List ℕ) (at : ℕ) where
@@ -82,7 +84,8 @@ of-write x (borrow a) h = cc
 of-write x (write y) h = refl
 
 -- an event's kind is the byte that was read
-kind-read : (kind revision : ℕ) (s : List ℕ) (at : ℕ) {t : Taken Kinded} (e : Event) → eventOf kind revision s at ≡ ok t → t .value ≡ known e → kind ≡ kindOfEvent e
+kind-read : (kind revision : ℕ) (s : List ℕ) (at : ℕ) {t : Taken Kinded} (e : Event) → eventOf kind revision s at ≡ ok t → t .value ≡ known e → kind
+    ≡ kindOfEvent e
 unfolding eventOf
 kind-read kind revision s at {t} e h k = go (eqb kind 0) (eqb kind 1) refl refl h
   where
@@ -92,7 +95,8 @@ kind-read kind revision s at {t} e h k = go (eqb kind 0) (eqb kind 1) refl refl 
     writes : Out (Taken Execution)
     writes = modeAt revision noExecution (executionAt s) at
 
-    go : (b w : Bool) → eqb kind 0 ≡ b → eqb kind 1 ≡ w → cond b (borrowed borrows) (cond w (written writes) (taken unknown at)) ≡ ok t → kind ≡ kindOfEvent e
+    go : (b w : Bool) → eqb kind 0 ≡ b → eqb kind 1 ≡ w → cond b (borrowed borrows) (cond w (written writes) (taken unknown at)) ≡ ok t → kind
+        ≡ kindOfEvent e
     go true w p q r =
         let a = bind-ok borrows _ r in
         eqb-true kind 0 p ∙ of-borrow (a .0 .value) e (ap (λ (t : Taken Kinded). t .value) (ok-same (a .2)) ∙ k)

@@ -37,7 +37,8 @@ module _ (s : List ℕ) (entries at : ℕ) where
   section-room x h = go (tagAt dbg0 s at) h
     where
       go : (b : Bool)
-          → cond b (symbolTable s entries (at + length dbg0) >>= λ t. ok (record { found = true; table = t })) (ok (record { found = false; table = noRecords at })) ≡ ok x
+          → cond b (symbolTable s entries (at + length dbg0) >>= λ t. ok (record { found = true; table = t }))
+          (ok (record { found = false; table = noRecords at })) ≡ ok x
           → length (x .table .entries) ≤ entries
       go true k =
           let p = bind-ok (symbolTable s entries (at + length dbg0)) _ k in

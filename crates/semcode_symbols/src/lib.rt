@@ -105,19 +105,23 @@ pub fn parse_string_table_debug_and_ownership(
 ) -> Parse
     ensures { λ r.
         ⌜ parseOut r ≡
-        layout (decodeBlock «base_offset» «header_rev» (roomsOf (now (strings .entry)) (length (now (symbols .entry))) (now (paths .entry))) (now (code .entry))) ⌝ }
+        layout (decodeBlock «base_offset» «header_rev» (roomsOf (now (strings .entry)) (length (now (symbols .entry))) (now (paths .entry)))
+        (now (code .entry))) ⌝ }
     ensures { λ r.
         ⌜ now (strings .exit) ≡
         lent (length (now (strings .entry)))
-        (stringStarts (decodeBlock «base_offset» «header_rev» (roomsOf (now (strings .entry)) (length (now (symbols .entry))) (now (paths .entry))) (now (code .entry)))) ⌝ }
+        (stringStarts (decodeBlock «base_offset» «header_rev» (roomsOf (now (strings .entry)) (length (now (symbols .entry))) (now (paths .entry)))
+        (now (code .entry)))) ⌝ }
     ensures { λ r.
         ⌜ now (paths .exit) ≡
         lent (length (now (paths .entry)))
-        (pathStarts (decodeBlock «base_offset» «header_rev» (roomsOf (now (strings .entry)) (length (now (symbols .entry))) (now (paths .entry))) (now (code .entry)))) ⌝ }
+        (pathStarts (decodeBlock «base_offset» «header_rev» (roomsOf (now (strings .entry)) (length (now (symbols .entry))) (now (paths .entry)))
+        (now (code .entry)))) ⌝ }
     ensures { λ r.
         ⌜ map symbolIs (now (symbols .exit)) ≡
         lentSymbols (length (now (symbols .entry)))
-        (blockSymbols (decodeBlock «base_offset» «header_rev» (roomsOf (now (strings .entry)) (length (now (symbols .entry))) (now (paths .entry))) (now (code .entry)))) ⌝ }
+        (blockSymbols (decodeBlock «base_offset» «header_rev» (roomsOf (now (strings .entry)) (length (now (symbols .entry))) (now (paths .entry)))
+        (now (code .entry)))) ⌝ }
 {
     let answer = parse_block(base_offset, code, header_rev, symbols.len(), strings, paths);
     let at = symbols_start(answer);

@@ -27,14 +27,16 @@ pub block-held : (s : List ℕ) (at : ℕ) (code : List ℕ) (a c : ℕ) (x : Ou
 unfolding blockHeld
 block-held s at code a c x o strings paths r e f g m = m ∙ rw (e, f, g)
 
-module _ (s : List ℕ) (asked : Asked) (r : Held) (at : ℕ) (input : List ℕ) (place : at ≡ held (asked .start) (asked .len)) (part : input ≡ bytesAt s (asked .start) (asked .len)) where
+module _ (s : List ℕ) (asked : Asked) (r : Held) (at : ℕ) (input : List ℕ) (place : at ≡ held (asked .start) (asked .len))
+    (part : input ≡ bytesAt s (asked .start) (asked .len)) where
   pub section-asked : (f g h a b c : ℕ) → a ≡ min (asked .first) f → b ≡ min (asked .second) g → c ≡ min (asked .third) h
       → r ≡ sectionHeld s at (asked .origin) a b c (section.decodeSection (roomOf a b c) input (asked .origin)) → r ≡ askedSection s f g h asked
   unfolding askedSection
   section-asked f g h a b c j k l m = m ∙ rw (place, part, j, k, l)
 
   pub block-asked : (f h a c : ℕ) → a ≡ min (asked .first) f → c ≡ min (asked .third) h
-      → r ≡ blockHeld s at input a c (block.decodeBlock (asked .origin) (asked .revision) (record { strings = a; symbols = asked .second; paths = c }) input)
+      → r ≡ blockHeld s at input a c (block.decodeBlock (asked .origin) (asked .revision)
+      (record { strings = a; symbols = asked .second; paths = c }) input)
       → r ≡ askedBlock s f h asked
   unfolding askedBlock
   block-asked f h a c j l m = m ∙ rw (place, part, j, l)

@@ -8,7 +8,7 @@ use Rattle.local_format.specs.Out.{held}
 use Rattle.local_format.specs.Text.{bytesAt}
 use Rattle.evr0_section.specs.Section.{decodeSection}
 use Rattle.evr0.specs.Answer.{roomOf}
-use Rattle.semcode_decode.specs.Block.{decodeBlock, Rooms}
+use Rattle.semcode_decode.specs.Block.{decodeBlock}
 use Rattle.test_replay.specs.Held.{Held}
 use Rattle.test_replay.specs.ToldSection.{sectionHeld}
 use Rattle.test_replay.specs.ToldBlock.{blockHeld}

@@ -121,7 +121,8 @@ fn parsed(
     strings: &mut [u64],
     paths: &mut [u64],
 ) -> Held
-    ensures { λ r. ⌜ heldOut r ≡ blockHeld (now (list .entry)) at (now (input .entry)) (length (now (strings .entry))) (length (now (paths .entry))) (decodeBlock base revision (roomsOf (now (strings .entry)) room (now (paths .entry))) (now (input .entry))) ⌝ }
+    ensures { λ r. ⌜ heldOut r ≡ blockHeld (now (list .entry)) at (now (input .entry)) (length (now (strings .entry))) (length (now (paths .entry)))
+        (decodeBlock base revision (roomsOf (now (strings .entry)) room (now (paths .entry))) (now (input .entry))) ⌝ }
 {
     let parsed = semcode_decode::decode::parse_block(base, input, revision, room, strings, paths);
     answer(list, at, input, parsed, strings, paths)
@@ -138,7 +139,8 @@ pub fn block(
     strings: &mut [u64],
     paths: &mut [u64],
 ) -> Held
-    ensures { λ r. ⌜ heldOut r ≡ blockHeld (now (list .entry)) at (now (input .entry)) (length (now (strings .entry))) (length (now (paths .entry))) (decodeBlock base revision (roomsOf (now (strings .entry)) room (now (paths .entry))) (now (input .entry))) ⌝ }
+    ensures { λ r. ⌜ heldOut r ≡ blockHeld (now (list .entry)) at (now (input .entry)) (length (now (strings .entry))) (length (now (paths .entry)))
+        (decodeBlock base revision (roomsOf (now (strings .entry)) room (now (paths .entry))) (now (input .entry))) ⌝ }
 {
     crate::section::old(strings);
     crate::section::old(paths);

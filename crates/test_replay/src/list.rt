@@ -53,7 +53,8 @@ fn section(
     second: &mut [u64],
     third: &mut [u64],
 ) -> Held
-    ensures { λ r. ⌜ heldOut r ≡ askedSection (now (list .entry)) (length (now (first .entry))) (length (now (second .entry))) (length (now (third .entry))) (askedOut asked) ⌝ }
+    ensures { λ r. ⌜ heldOut r ≡ askedSection (now (list .entry)) (length (now (first .entry))) (length (now (second .entry)))
+        (length (now (third .entry))) (askedOut asked) ⌝ }
 {
     let at = local_format::refusal::diag_offset(asked.start, asked.len);
     let part = input(list, asked);
@@ -92,7 +93,8 @@ fn block(list: &[u8], asked: Asked, first: &mut [u64], third: &mut [u64]) -> Hel
 
 // The entry at `at`. One that is cut is not the same, and nothing follows it.
 fn entry(list: &[u8], at: usize, first: &mut [u64], second: &mut [u64], third: &mut [u64]) -> Held
-    ensures { λ r. ⌜ heldOut r ≡ entryAt (now (list .entry)) (tablesOf (length (now (first .entry))) (length (now (second .entry))) (length (now (third .entry)))) at ⌝ }
+    ensures { λ r. ⌜ heldOut r ≡ entryAt (now (list .entry))
+        (tablesOf (length (now (first .entry))) (length (now (second .entry))) (length (now (third .entry)))) at ⌝ }
 {
     let read = crate::asked::read_asked(list, at);
     let Read::Asked(asked) = read else {
@@ -119,7 +121,8 @@ fn next_entry(list: &[u8], at: usize) -> bool
 
 // No list has more entries than bytes.
 pub fn replay(list: &[u8], first: &mut [u64], second: &mut [u64], third: &mut [u64]) -> Tally
-    ensures { λ r. ⌜ tallyOut r ≡ replayed (length (now (list .entry))) (now (list .entry)) (tablesOf (length (now (first .entry))) (length (now (second .entry))) (length (now (third .entry)))) 0 none ⌝ }
+    ensures { λ r. ⌜ tallyOut r ≡ replayed (length (now (list .entry))) (now (list .entry))
+        (tablesOf (length (now (first .entry))) (length (now (second .entry))) (length (now (third .entry)))) 0 none ⌝ }
 {
     let mut at: usize = 0;
     let mut same: usize = 0;

@@ -98,7 +98,8 @@ fn tables(
     proofs: &[u64],
     depths: &[u64],
 ) -> Held
-    ensures { λ r. ⌜ heldOut r ≡ tablesHeld (now (list .entry)) (heldOut held) (outcomeOut outcome) (now (propositions .entry)) (now (proofs .entry)) (now (depths .entry)) ⌝ }
+    ensures { λ r. ⌜ heldOut r ≡ tablesHeld (now (list .entry)) (heldOut held) (outcomeOut outcome) (now (propositions .entry)) (now (proofs .entry))
+        (now (depths .entry)) ⌝ }
 {
     let starts = crate::held::table(list, held, propositions, propositions_in(outcome));
     let proved = crate::held::table(list, starts, proofs, proofs_in(outcome));
@@ -115,7 +116,10 @@ fn decoded(
     proofs: &mut [u64],
     depths: &mut [u64],
 ) -> Held
-    ensures { λ r. ⌜ heldOut r ≡ sectionHeld (now (list .entry)) at cursor (length (now (propositions .entry))) (length (now (proofs .entry))) (length (now (depths .entry))) (decodeSection (roomOf (length (now (propositions .entry))) (length (now (proofs .entry))) (length (now (depths .entry)))) (now (input .entry)) cursor) ⌝ }
+    ensures { λ r. ⌜ heldOut r ≡ sectionHeld (now (list .entry)) at cursor (length (now (propositions .entry))) (length (now (proofs .entry)))
+        (length (now (depths .entry)))
+        (decodeSection (roomOf (length (now (propositions .entry))) (length (now (proofs .entry))) (length (now (depths .entry))))
+        (now (input .entry)) cursor) ⌝ }
 {
     let decoded = evr0::section::decode_evr0_section(input, cursor, propositions, proofs, depths);
     let told = answer(list, at, decoded);
@@ -133,7 +137,10 @@ pub fn section(
     proofs: &mut [u64],
     depths: &mut [u64],
 ) -> Held
-    ensures { λ r. ⌜ heldOut r ≡ sectionHeld (now (list .entry)) at cursor (length (now (propositions .entry))) (length (now (proofs .entry))) (length (now (depths .entry))) (decodeSection (roomOf (length (now (propositions .entry))) (length (now (proofs .entry))) (length (now (depths .entry)))) (now (input .entry)) cursor) ⌝ }
+    ensures { λ r. ⌜ heldOut r ≡ sectionHeld (now (list .entry)) at cursor (length (now (propositions .entry))) (length (now (proofs .entry)))
+        (length (now (depths .entry)))
+        (decodeSection (roomOf (length (now (propositions .entry))) (length (now (proofs .entry))) (length (now (depths .entry))))
+        (now (input .entry)) cursor) ⌝ }
 {
     old(propositions);
     old(proofs);

@@ -15,7 +15,9 @@ use Rattle.evidence_output.proofs.evidence.Statement.{statement}
 use Rattle.evidence_output.proofs.evidence.Tie as tie
 
 returns : tie.Need-returns
-returns c = rw (← too-long _ (c .before .before .before .before .if1 .taken)) (c .before .before .put-too-long .ensures)
+returns c =
+    let at-if1 = c .before .before .before .before in
+    rw (← too-long _ (at-if1 .if1 .taken)) (c .before .before .put-too-long .ensures)
 
 -- what the decoder answers
 module _ (c : tie.After-decode-evr0-section) where
@@ -33,9 +35,11 @@ module _ (c : tie.After-outcome2) where
   abbrev decoding : tie.After-decode-evr0-section
   decoding = c .before .before .before .before .before
 
-  is-given : Given (start decoding .args .input .now) (short decoding) (decoding .decode-evr0-section .result .cursor) (countsOut (c .outcome2 .given .0 .0 .counts))
+  is-given : Given (start decoding .args .input .now) (short decoding) (decoding .decode-evr0-section .result .cursor)
+      (countsOut (c .outcome2 .given .0 .0 .counts))
   is-given =
-      given _ (short decoding) _ refl (ap (λ (a : Answer). a .cursor) (decoding .decode-evr0-section .ensures .0)) (told outcomeOut (answered decoding) (c .outcome2 .given .1))
+      given _ (short decoding) _ refl (ap (λ (a : Answer). a .cursor) (decoding .decode-evr0-section .ensures .0))
+      (told outcomeOut (answered decoding) (c .outcome2 .given .1))
 
 returns-2 : tie.Need-returns-2
 returns-2 c =
@@ -46,7 +50,8 @@ returns-2 c =
 
 requires : tie.Need-put-accepted-requires
 requires c κs =
-    let o = c .before .before .before .before .before in
+    let stage = c .before .before .before .before .before in
+    let o = stage in
     let d = decoding o .decode-evr0-section in
     let g = is-given o in
     ((g .start, g .end), (omega (arith, g .few, d .kept .1 .1 .1 .0), omega (arith, g .few, d .kept .1 .1 .1 .1 .0)))

@@ -7,7 +7,8 @@ use Rattle.lent_table.proofs.clear_from.Tie as tie
 
 returns : tie.Need-returns
 returns c =
-    let a = c .before .before .before .before .before .before .args in
+    let start = c .before .before .before .before .before .before in
+    let a = start .args in
     rw (c .before .before .clear .ensures) (cleared (a .from) (a .table .now) (omega arith))
 
 returns-2 : tie.Need-returns-2

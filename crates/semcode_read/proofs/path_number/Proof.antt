@@ -20,11 +20,14 @@ use Rattle.semcode_read.proofs.path_number.Tie as tie
 
 -- the call of the decoder, and the block that it speaks of
 abbrev parsed : tie.After-answer → tie.After-parse-block
-parsed k = k .before .before .before .before .before .before
+parsed k =
+    let stage = k .before .before .before .before .before .before in
+    stage
 
 abbrev block : tie.After-parse-block → Out Block
 block pt =
-    let a = pt .before .before .before .before .before .before .args in
+    let start = pt .before .before .before .before .before .before in
+    let a = start .args in
     decodeAnew (a .base-offset) (a .header-rev) (a .strings .now) (a .paths .now) (a .code .now)
 
 accepted : (k : tie.After-answer) → layout (block (parsed k)) ≡ ok (layoutIs (k .answer .given .0 .0))
@@ -79,19 +82,23 @@ returns-2 c =
 returns-3 : tie.Need-returns-3
 unfolding pathNumber
 returns-3 c =
-    let n = c .before .before .before .before in
+    let stage = c .before .before .before .before in
+    let n = stage in
     let i = n .before .before .before in
     let k = i .before .before .before in
     let a = parsed k .before .before .before .before .before .before .args in
     let p = parsed k .parse-block in
     let e =
-    missing-anew (a .base-offset) (a .header-rev) (a .strings .now) (a .paths .now) (a .code .now) (λ b. b .ownership .table .entries) (λ l. l .paths) (λ b. refl)
+    missing-anew (a .base-offset) (a .header-rev) (a .strings .now) (a .paths .now) (a .code .now) (λ b. b .ownership .table .entries) (λ l. l .paths)
+    (λ b. refl)
     (accepted k)
     (a .number)
     (i .if1 .left)
     in (
       rw (e, n .not-there .ensures .0),
-      tables-cleared (pathNumber (a .number) (block (parsed k))) (a .strings .now) (a .paths .now) (n .not-there .last .0) (n .not-there .last .1 .0) (p .last .1 .1 .1 .1 .0) (p .last .1 .1 .1 .1 .1 .0) e (p .kept .1 .1 .1 .1 .0) (p .kept .1 .1 .1 .1 .1 .0) (n .not-there .ensures .1 .0) (n .not-there .ensures .1 .1),
+      tables-cleared (pathNumber (a .number) (block (parsed k))) (a .strings .now) (a .paths .now) (n .not-there .last .0) (n .not-there .last .1 .0)
+          (p .last .1 .1 .1 .1 .0) (p .last .1 .1 .1 .1 .1 .0) e (p .kept .1 .1 .1 .1 .0) (p .kept .1 .1 .1 .1 .1 .0) (n .not-there .ensures .1 .0)
+          (n .not-there .ensures .1 .1),
     )
 
 pub path-number-spec : {M : Type 1} → statement M

@@ -10,7 +10,8 @@ returns c =
     let pc = line .before .before .before .before .before in
     let within = pc .before .before .before .before .before in
     let a = within .before .before .args in
-    symbol-here (a .code .now) (a .at) (a .count) (within .before .before .pre) (a .i) (within .if1 .taken) (pc .le32 .ensures) (line .le322 .ensures) (c .le16 .ensures)
+    symbol-here (a .code .now) (a .at) (a .count) (within .before .before .pre) (a .i) (within .if1 .taken) (pc .le32 .ensures) (line .le322 .ensures)
+    (c .le16 .ensures)
 
 returns-2 : tie.Need-returns-2
 returns-2 c =

@@ -24,7 +24,8 @@ abbrev below-measure : ℕ → In 1 kinds.ps
 below-measure t = and 1 kinds.ps (falls 1 kinds.ps _<_ μ-put-decimal t) put-decimal.Pre
 
 module _ (t : ℕ) where
-  requires : lts.Need-put-decimal-requires (last-digit.Asked, last-digit.Learnt, put.Asked, put.Learnt, below-measure t, put-decimal.Post) (at-measure t) put-decimal.Post
+  requires : lts.Need-put-decimal-requires (last-digit.Asked, last-digit.Learnt, put.Asked, put.Learnt, below-measure t, put-decimal.Post)
+      (at-measure t) put-decimal.Post
   requires c κs = (omega (arith, c .before .before .before .pre .0), tt)
 
   returns : lts.Need-returns (last-digit.Asked, last-digit.Learnt, put.Asked, put.Learnt, below-measure t, put-decimal.Post) (at-measure t) put-decimal.Post
@@ -35,12 +36,14 @@ module _ (t : ℕ) where
       let small : n < 10 = omega arith in
       rw (decimal-small n small, ← d) w
 
-  returns-2 : lts.Need-returns-2 (last-digit.Asked, last-digit.Learnt, put.Asked, put.Learnt, below-measure t, put-decimal.Post) (at-measure t) put-decimal.Post
+  returns-2 : lts.Need-returns-2 (last-digit.Asked, last-digit.Learnt, put.Asked, put.Learnt, below-measure t, put-decimal.Post) (at-measure t)
+      put-decimal.Post
   returns-2 c =
       let e = c .before .before .before .before .before .before .before in
       let n = e .before .before .before .before .args .n in
       let large : 10 ≤ n = omega arith in
-      rw (decimal-large n large, ← c .before .before .before .last-digit2 .ensures) (written-append (e .put-decimal .ensures) (c .before .before .put2 .ensures))
+      rw (decimal-large n large, ← c .before .before .before .last-digit2 .ensures)
+      (written-append (e .put-decimal .ensures) (c .before .before .put2 .ensures))
 
 pub +put-decimal-spec : {M : Type 1} → statement M
 +put-decimal-spec = close μ-put-decimal λ t. lts.spec (last-digit.Asked, last-digit.Learnt, put.Asked, put.Learnt, below-measure t, put-decimal.Post)

@@ -17,7 +17,8 @@ returns c =
     let tag = counts .before .before .before .before in
     let n = tag .before .before .before .before .args in
     let four = listed (countsOut (n .counts)) in
-    line-written (four ++ (n .cursor ∷ [])) (tag .put-bytes .ensures) (numbers-written four (n .cursor ∷ []) (counts .put-four .ensures) (cursor .put-number .ensures)) (end .put .ensures)
+    line-written (four ++ (n .cursor ∷ [])) (tag .put-bytes .ensures)
+    (numbers-written four (n .cursor ∷ []) (counts .put-four .ensures) (cursor .put-number .ensures)) (end .put .ensures)
 
 pub put-head-spec : {M : Type 1} → statement M
 put-head-spec =

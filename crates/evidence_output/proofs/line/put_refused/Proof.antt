@@ -12,7 +12,8 @@ returns c =
     let number = offset .before .before .before .before in
     let word = number .before .before .before .before in
     let n = word .before .before .before .before .args in
-    line-written (n .number ∷ n .offset ∷ []) (word .put-bytes .ensures) (numbers-written (n .number ∷ []) (n .offset ∷ []) (number .put-number .ensures) (offset .put-number2 .ensures)) (end .put .ensures)
+    line-written (n .number ∷ n .offset ∷ []) (word .put-bytes .ensures)
+    (numbers-written (n .number ∷ []) (n .offset ∷ []) (number .put-number .ensures) (offset .put-number2 .ensures)) (end .put .ensures)
 
 pub put-refused-spec : {M : Type 1} → statement M
 put-refused-spec =

@@ -28,7 +28,9 @@ returns c =
 
 loop-again : tie.Need-loop-again Inv-loop μ-loop
 loop-again c =
-    let l = c .before .before .before .before .before .before .before .before in
+    let on = c .before .before .before .before .before .before in
+    let stage = on .before .before in
+    let l = stage in
     let a = l .before .before .before .before .before .args in (
       omega arith,
       omega arith,

@@ -22,7 +22,8 @@ returns-2 c =
     let r = k .before .before in
     let e = told proofOut (r .read-proof .ensures) (k .read .given .1) in
     rw (← r .before .tail .ensures, e)
-    (rw (w .wide2 .ensures, w .before .wide .ensures, w .before .before .place2 .ensures, w .before .before .before .place .ensures) at (q .put-proof .ensures))
+    (rw (w .wide2 .ensures, w .before .wide .ensures, w .before .before .place2 .ensures, w .before .before .before .place .ensures) at
+    (q .put-proof .ensures))
 
 pub put-record-spec : {M : Type 1} → statement M
 put-record-spec =

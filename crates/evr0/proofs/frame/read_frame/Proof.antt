@@ -7,7 +7,7 @@ use native.Mathlib.Omega.{arith}
 use borrow.Author.Tests.{not-true, not-false}
 use lib.ListN.{length}
 use Rattle.local_format.specs.Out.{refused}
-use Rattle.local_format.specs.Field.{Got, whole, fieldAt, orCut}
+use Rattle.local_format.specs.Field.{whole, fieldAt, orCut}
 use Rattle.local_format.specs.Tag.{tagAt, evr0}
 use Rattle.local_format.specs.Maps.{u32Out}
 use Rattle.local_format.proofs.OutLaws.{told}
@@ -21,14 +21,17 @@ tag : (c : tie.Else1) → tagAt evr0 (c .before .before .before .before .args .b
 tag c = sym (c .before .tag-at .ensures) ∙ not-false _ (c .if1 .left)
 
 size : (c : tie.After-field)
-    → fieldAt 4 (c .before .before .before .before .before .before .before .args .bytes .now) (c .before .before .before .before .before .before .before .args .cursor + 4)
+    → fieldAt 4 (c .before .before .before .before .before .before .before .args .bytes .now)
+    (c .before .before .before .before .before .before .before .args .cursor + 4)
     ≡ whole (record { value = c .field .given .0 .0; next = c .field .given .0 .1 .0 })
 size c = told u32Out (c .before .before .read-u32-le .ensures) (c .field .given .1)
 
 within : (c : tie.After-field)
     → c .field .given .0 .1 .0 ≤ length (c .before .before .before .before .before .before .before .args .bytes .now)
 within c =
-    let a = c .before .before .before .before .before .before .before .args in
+    let on = c .before .before .before .before .before .before in
+    let start = on .before in
+    let a = start .args in
     let f = field-ok 0 4 (a .bytes .now) (a .cursor + 4) (ap (orCut 0 (a .cursor + 4)) (size c)) in
     omega arith
 
@@ -40,8 +43,9 @@ add-len-at c = omega (arith, tag-there _ _ _ (tag c))
 
 returns-2 : tie.Need-returns-2
 returns-2 c =
+    let stage = c .before .before .before .before in
     ap refused (c .refuse2 .ensures)
-    ∙ no-length _ _ (tag (c .before .before .before .before)) (told u32Out (c .before .before .before .read-u32-le .ensures) (c .before .enum-told .given .1))
+    ∙ no-length _ _ (tag (stage)) (told u32Out (c .before .before .before .read-u32-le .ensures) (c .before .enum-told .given .1))
 
 returns-3 : tie.Need-returns-3
 returns-3 c =
@@ -50,7 +54,8 @@ returns-3 c =
 
 returns-4 : tie.Need-returns-4
 returns-4 c =
-    let k = c .before .before .before .before in
+    let stage = c .before .before .before .before in
+    let k = stage in
     ap refused (c .refuse4 .ensures)
     ∙ too-long _ _ (tag (k .before .before .before)) _ _ (size k) (c .before .before .if2 .left) (c .before .if3 .taken)
 
@@ -59,14 +64,18 @@ sub-if4 c = within (c .before .before .before)
 
 returns-5 : tie.Need-returns-5
 returns-5 c =
-    let k = c .before .before .before .before .before in
+    let stage = c .before .before .before .before .before in
+    let k = stage in
     ap refused (c .refuse5 .ensures)
-    ∙ payload-cut _ _ (tag (k .before .before .before)) _ _ (size k) (c .before .before .before .if2 .left) (c .before .before .if3 .left) (omega (arith, c .before .if4 .taken, within k))
+    ∙ payload-cut _ _ (tag (k .before .before .before)) _ _ (size k) (c .before .before .before .if2 .left) (c .before .before .if3 .left)
+    (omega (arith, c .before .if4 .taken, within k))
 
 returns-6 : tie.Need-returns-6
 returns-6 c =
-    let k = c .before .before .before .before in
-    payload-there _ _ (tag (k .before .before .before)) _ _ (size k) (c .before .before .if2 .left) (c .before .if3 .left) (omega (arith, c .if4 .left, within k))
+    let stage = c .before .before .before .before in
+    let k = stage in
+    payload-there _ _ (tag (k .before .before .before)) _ _ (size k) (c .before .before .if2 .left) (c .before .if3 .left)
+    (omega (arith, c .if4 .left, within k))
 
 pub read-frame-spec : {M : Type 1} → statement M
 read-frame-spec =

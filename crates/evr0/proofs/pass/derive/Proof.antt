@@ -36,7 +36,8 @@ loop-holds c =
 
 proof-at-requires : tie.Need-proof-at-requires Inv-loop μ-loop
 proof-at-requires c κs =
-    let there = c .before .before .before .before .before .before .pre .0 .proofs (c .before .before .loop .i) (c .before .loop-test .taken) in
+    let at-pre = c .before .before .before .before .before .before in
+    let there = at-pre .pre .0 .proofs (c .before .before .loop .i) (c .before .loop-test .taken) in
     (there .inside, there .named)
 
 -- ---- A turn, once the proof is read
@@ -44,7 +45,8 @@ module _ (c : tie.After-proof-at Inv-loop μ-loop) where
   number-is : c .proof-at .result .«proof_id» .0 ≡ c .before .before .before .loop .i
   number-is =
       ap (λ (q : derivation.Proof). q .number) (c .proof-at .ensures)
-      ∙ c .before .before .before .before .before .before .before .pre .0 .proofs (c .before .before .before .loop .i) (c .before .before .loop-test .taken) .number
+      ∙ c .before .before .before .before .before .before .before .pre .0 .proofs (c .before .before .before .loop .i)
+      (c .before .before .loop-test .taken) .number
 
 depth-of-requires : tie.Need-depth-of-requires Inv-loop μ-loop
 depth-of-requires c κs =
@@ -53,8 +55,10 @@ depth-of-requires c κs =
     let there = s .pre .0 .proofs (t .before .before .before .loop .i) (t .before .before .loop-test .taken) in
     record {
       tables = s .pre .0;
-      witnesses = subst (λ (q : derivation.Proof). q .firstWitness + q .witnessCount ≤ s .args .tables .counts .witnesses) (sym (t .proof-at .ensures)) (there .witnesses);
-      parents = subst (λ (q : derivation.Proof). q .firstParent + q .parentCount ≤ s .args .tables .counts .parents) (sym (t .proof-at .ensures)) (there .parents);
+      witnesses = subst (λ (q : derivation.Proof). q .firstWitness + q .witnessCount ≤ s .args .tables .counts .witnesses)
+          (sym (t .proof-at .ensures)) (there .witnesses);
+      parents = subst (λ (q : derivation.Proof). q .firstParent + q .parentCount ≤ s .args .tables .counts .parents) (sym (t .proof-at .ensures))
+          (there .parents);
       started = omega (arith, number-is t);
       known = omega (arith, number-is t);
     }
@@ -70,7 +74,12 @@ depth-is c =
     let a = t .before .before .before .before .before .before .before .args in
     let l = t .before .before .before .loop in
     let s = tablesIn (a .payload .now) (a .starts .now) (a .tables) in
-    rw (proof-at fourRules (a .payload .now) (a .starts .now) (layoutOut (a .tables)) (l .i) (t .before .before .loop-test .taken), ← t .proof-at .ensures, ← number-is t)
+    rw (
+      proof-at fourRules (a .payload .now) (a .starts .now) (layoutOut (a .tables)) (l .i) (t .before .before .loop-test .taken),
+      ←
+          t .proof-at .ensures,
+      ← number-is t,
+    )
     (sym (c .depth-of .ensures))
 
 returns : tie.Need-returns Inv-loop μ-loop
@@ -94,14 +103,16 @@ loop-again c =
       omega arith,
       length-set (l .depths) (l .i) depth ∙ l .inv .1,
       rw (left, add-one (l .i), take-suc-set (l .depths) (l .i) depth h, ← add-one (l .i))
-          (sym (pass-turn (a .tables .«parents_at») (tablesIn (a .payload .now) (a .starts .now) (a .tables)) _ (l .i) (take (l .i) (l .depths)) depth (omega arith)
+          (sym (pass-turn (a .tables .«parents_at») (tablesIn (a .payload .now) (a .starts .now) (a .tables)) _ (l .i) (take (l .i) (l .depths)) depth
+          (omega arith)
           (depth-is d ∙ ap depthOut (c .before .found2 .given .1)))
           ∙ l .inv .2),
     )
 
 returns-2 : tie.Need-returns-2 Inv-loop μ-loop
 returns-2 c =
-    let a = c .before .before .before .before .before .args in
+    let start = c .before .before .before .before .before in
+    let a = start .args in
     let l = c .before .loop in
     let e : length (a .starts .now) ≡ l .i = omega arith in
     ap (λ (k : ℕ). ok (take k (l .depths))) e

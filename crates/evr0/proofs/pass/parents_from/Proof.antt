@@ -38,14 +38,16 @@ abbrev μ-loop : tie.MeasureT-loop
 
 loop-holds : tie.Need-loop-holds Inv-loop μ-loop
 loop-holds c =
-    let a = c .before .before .before .before .before .before .args in
+    let start = c .before .before .before .before .before .before in
+    let a = start .args in
     let e : c .before .wide .result + c .wide2 .result - c .before .wide .result ≡ a .proof .«parent_count» = omega arith in
     (c .before .before .place .ensures, omega arith, rw (e, c .before .wide .ensures))
 
 -- ---- A turn, once the parent's number is tested
 module _ (c : tie.After-rises Inv-loop μ-loop) where
   abbrev s : Section
-  s = let a = c .before .before .before .before .before .before .before .before .before .before .before .before .args in tablesIn (a .payload .now) (a .starts .now) (a .tables)
+  s = let a = c .before .before .before .before .before .before .before .before .before .before .before .before .args in tablesIn (a .payload .now)
+      (a .starts .now) (a .tables)
 
   parent-is : parentAt s (c .before .before .before .before .before .loop .cell) ≡ c .before .place2 .result
   parent-is =
@@ -54,13 +56,18 @@ module _ (c : tie.After-rises Inv-loop μ-loop) where
       ∙ sym (c .before .before .u32-at .ensures)
       ∙ sym (c .before .place2 .ensures)
 
-  rise-is : (ltb (parentAt s (c .before .before .before .before .before .loop .cell)) (c .before .before .before .before .before .before .before .before .before .before .before .before .args .proof .«proof_id» .0) && leb (c .before .before .before .before .before .loop .least) (parentAt s (c .before .before .before .before .before .loop .cell))) ≡ c .rises .result
+  rise-is : (ltb (parentAt s (c .before .before .before .before .before .loop .cell))
+      (c .before .before .before .before .before .before .before .before .before .before .before .before .args .proof .«proof_id» .0) && leb
+      (c .before .before .before .before .before .loop .least) (parentAt s (c .before .before .before .before .before .loop .cell))) ≡ c .rises .result
   rise-is = rw (parent-is, ← c .before .before .before .before .before .loop .inv .0) (sym (c .rises .ensures))
 
-  below : c .rises .result ≡ true → c .before .place2 .result < c .before .before .before .before .before .before .before .before .before .before .before .before .args .proof .«proof_id» .0
+  below : c .rises .result ≡ true
+      → c .before .place2 .result <
+      c .before .before .before .before .before .before .before .before .before .before .before .before .args .proof .«proof_id» .0
   below h =
       let number = c .before .before .before .before .before .before .before .before .place .result in
-      let test = both (ltb (c .before .place2 .result) number) (leb (c .before .before .before .before .before .loop .least) (c .before .place2 .result)) (sym (c .rises .ensures) ∙ h) in
+      let test = both (ltb (c .before .place2 .result) number)
+      (leb (c .before .before .before .before .before .loop .least) (c .before .place2 .result)) (sym (c .rises .ensures) ∙ h) in
       omega (arith, ltb-true (c .before .place2 .result) number (test .0))
 
 returns : tie.Need-returns Inv-loop μ-loop
@@ -69,7 +76,8 @@ returns c =
     let a = t .before .before .before .before .before .before .before .before .before .before .before .before .args in
     let l = t .before .before .before .before .before .loop in
     ap refused (c .refuse .ensures)
-    ∙ sym (parents-25 (a .tables .«parents_at») (s t) (proofOut (a .proof)) (take (a .proof .«proof_id» .0) (a .depths .now)) _ (l .cell) (l .least) (l .deepest) (omega arith)
+    ∙ sym (parents-25 (a .tables .«parents_at») (s t) (proofOut (a .proof)) (take (a .proof .«proof_id» .0) (a .depths .now)) _ (l .cell) (l .least)
+    (l .deepest) (omega arith)
     (rise-is t ∙ not-true (t .rises .result) (c .before .if1 .taken)))
     ∙ l .inv .2
 
@@ -81,22 +89,30 @@ module _ (c : tie.After-agrees Inv-loop μ-loop) where
   rise : turn .rises .result ≡ true
   rise = not-false (turn .rises .result) (c .before .before .if1 .left)
 
-  agree-is : let a = turn .before .before .before .before .before .before .before .before .before .before .before .before .args in pass.agrees (s turn) (proofOut (a .proof)) (parentAt (s turn) (turn .before .before .before .before .before .loop .cell)) ≡ c .agrees .result
+  agree-is : let a = turn .before .before .before .before .before .before .before .before .before .before .before .before .args in pass.agrees
+      (s turn) (proofOut (a .proof)) (parentAt (s turn) (turn .before .before .before .before .before .loop .cell)) ≡ c .agrees .result
   agree-is =
       let start = turn .before .before .before .before .before .before .before .before .before .before .before .before in
       let a = start .args in
       ap (pass.agrees (s turn) (proofOut (a .proof))) (parent-is turn)
-      ∙ agrees-at fourRules (a .payload .now) (a .starts .now) (layoutOut (a .tables)) (proofOut (a .proof)) (turn .before .place2 .result) (omega (arith, start .pre .started, below turn rise))
+      ∙ agrees-at fourRules (a .payload .now) (a .starts .now) (layoutOut (a .tables)) (proofOut (a .proof)) (turn .before .place2 .result)
+      (omega (arith, start .pre .started, below turn rise))
       ∙ sym (c .agrees .ensures)
 
 shared-slice-read-agrees : tie.Need-shared-slice-read-agrees Inv-loop μ-loop
-shared-slice-read-agrees c = let t = c .before .before in omega (arith, t .before .before .before .before .before .before .before .before .before .before .before .before .pre .started, below t (not-false (t .rises .result) (c .before .if1 .left)))
+shared-slice-read-agrees c = let t = c .before .before in omega (
+  arith,
+  t .before .before .before .before .before .before .before .before .before .before .before .before .pre .started,
+  below t
+      (not-false (t .rises .result) (c .before .if1 .left)),
+)
 
 agrees-requires : tie.Need-agrees-requires Inv-loop μ-loop
 agrees-requires c κs =
     let t = c .before .before in
     let start = t .before .before .before .before .before .before .before .before .before .before .before .before in
-    start .pre .tables .proofs (t .before .place2 .result) (omega (arith, start .pre .started, below t (not-false (t .rises .result) (c .before .if1 .left)))) .inside
+    start .pre .tables .proofs (t .before .place2 .result)
+    (omega (arith, start .pre .started, below t (not-false (t .rises .result) (c .before .if1 .left)))) .inside
 
 returns-2 : tie.Need-returns-2 Inv-loop μ-loop
 returns-2 c =
@@ -105,12 +121,17 @@ returns-2 c =
     let a = t .before .before .before .before .before .before .before .before .before .before .before .before .args in
     let l = t .before .before .before .before .before .loop in
     ap refused (c .refuse2 .ensures)
-    ∙ sym (parents-26 (a .tables .«parents_at») (s t) (proofOut (a .proof)) (take (a .proof .«proof_id» .0) (a .depths .now)) _ (l .cell) (l .least) (l .deepest) (omega arith)
+    ∙ sym (parents-26 (a .tables .«parents_at») (s t) (proofOut (a .proof)) (take (a .proof .«proof_id» .0) (a .depths .now)) _ (l .cell) (l .least)
+    (l .deepest) (omega arith)
     (rise-is t ∙ rise g) (agree-is g ∙ not-true (g .agrees .result) (c .before .if2 .taken)))
     ∙ l .inv .2
 
 shared-slice-read-larger : tie.Need-shared-slice-read-larger Inv-loop μ-loop
-shared-slice-read-larger c = let g = c .before .before in omega (arith, g .before .before .before .before .before .before .before .before .before .before .before .before .before .before .before .pre .known, below (turn g) (rise g))
+shared-slice-read-larger c = let g = c .before .before in omega (
+  arith,
+  g .before .before .before .before .before .before .before .before .before .before .before .before .before .before .before .pre .known,
+  below (turn g) (rise g),
+)
 
 add-least : tie.Need-add-least Inv-loop μ-loop
 add-least c = let g = c .before .before .before in omega (arith, below (turn g) (rise g))
@@ -127,16 +148,20 @@ loop-again c =
       l .inv .1,
       rw (left, c .larger .ensures)
           (sym (rw (parent-is t, getD-take (a .proof .«proof_id» .0) (a .depths .now) (t .before .place2 .result) 0 (below t (rise g)))
-          at (parents-turn (a .tables .«parents_at») (s t) (proofOut (a .proof)) (take (a .proof .«proof_id» .0) (a .depths .now)) (end - l .cell) (l .cell) (l .least) (l .deepest) (omega arith)
+          at (parents-turn (a .tables .«parents_at») (s t) (proofOut (a .proof)) (take (a .proof .«proof_id» .0) (a .depths .now)) (end - l .cell)
+          (l .cell) (l .least) (l .deepest) (omega arith)
           (rise-is t ∙ rise g) (agree-is g ∙ not-false (g .agrees .result) (c .before .before .if2 .left))))
           ∙ l .inv .2),
     )
 
 returns-3 : tie.Need-returns-3 Inv-loop μ-loop
 returns-3 c =
-    let a = c .before .before .before .before .before .before .before .before .args in
+    let on = c .before .before .before .before .before .before in
+    let start = on .before .before in
+    let a = start .args in
     let l = c .before .loop in
-    sym (parents-none (a .tables .«parents_at») (tablesIn (a .payload .now) (a .starts .now) (a .tables)) (proofOut (a .proof)) (take (a .proof .«proof_id» .0) (a .depths .now)) _ (l .cell) (l .least) (l .deepest) (omega arith))
+    sym (parents-none (a .tables .«parents_at») (tablesIn (a .payload .now) (a .starts .now) (a .tables)) (proofOut (a .proof))
+    (take (a .proof .«proof_id» .0) (a .depths .now)) _ (l .cell) (l .least) (l .deepest) (omega arith))
     ∙ l .inv .2
 
 pub parents-from-spec : {M : Type 1} → statement M

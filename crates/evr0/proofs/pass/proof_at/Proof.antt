@@ -20,17 +20,23 @@ rule-of-requires c κs =
 returns : tie.Need-returns
 unfolding proofView
 returns c =
-    let n = c .before .before .before .before .before .before .before .before in
+    let at-u32-at4 = c .before .before .before .before in
+    let at-u32-at3 = at-u32-at4 .before in
+    let at-u32-at2 = at-u32-at3 .before in
+    let at-u32-at = at-u32-at2 .before in
+    let stage = at-u32-at .before in
+    let n = stage in
     let b = n .before .before in
     let a = b .before .before .args in
     let e : b .after-name .result - (a .start + 10) ≡ le 2 (a .payload .now) (a .start + 8) = omega arith in
-    let rule : ruleNamed fourRules (take (le 2 (a .payload .now) (a .start + 8)) (drop (a .start + 10) (a .payload .now))) ≡ known (ruleOut (n .rule-of .result)) = rw e at (n .rule-of .ensures) in
+    let rule : ruleNamed fourRules (take (le 2 (a .payload .now) (a .start + 8)) (drop (a .start + 10) (a .payload .now)))
+    ≡ known (ruleOut (n .rule-of .result)) = rw e at (n .rule-of .ensures) in
     rw (
       rule,
-      c .before .before .before .before .before .before .before .u32-at .ensures,
-      c .before .before .before .before .before .before .u32-at2 .ensures,
-      c .before .before .before .before .before .u32-at3 .ensures,
-      c .before .before .before .before .u32-at4 .ensures,
+      at-u32-at .u32-at .ensures,
+      at-u32-at2 .u32-at2 .ensures,
+      at-u32-at3 .u32-at3 .ensures,
+      at-u32-at4 .u32-at4 .ensures,
       c .before .before .before .u32-at5 .ensures,
       c .before .before .u32-at6 .ensures,
       c .before .u32-at7 .ensures,

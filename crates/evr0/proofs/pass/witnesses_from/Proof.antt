@@ -41,9 +41,11 @@ loop-holds c =
 -- ---- A turn, once the witness's proposition is read
 module _ (c : tie.After-u32-at Inv-loop μ-loop) (starts : List ℕ) where
   abbrev witness : derivation.Witness
-  witness = let a = c .before .before .before .before .before .before .before .args in derivation.witnessAt (tablesIn (a .payload .now) starts (a .tables)) (c .before .before .before .loop .witness)
+  witness = let a = c .before .before .before .before .before .before .before .args in derivation.witnessAt
+      (tablesIn (a .payload .now) starts (a .tables)) (c .before .before .before .loop .witness)
 
-  witness-is : let a = c .before .before .before .before .before .before .before .args in witness ≡ witnessView (a .payload .now) (a .tables .«witnesses_at» + 84 * c .before .before .before .loop .witness)
+  witness-is : let a = c .before .before .before .before .before .before .before .args in witness
+      ≡ witnessView (a .payload .now) (a .tables .«witnesses_at» + 84 * c .before .before .before .loop .witness)
   witness-is =
       let a = c .before .before .before .before .before .before .before .args in
       witness-at fourRules (a .payload .now) starts (layoutOut (a .tables)) (c .before .before .before .loop .witness) (omega arith)
@@ -70,12 +72,14 @@ module _ (c : tie.After-polarity-fits Inv-loop μ-loop) (starts : List ℕ) wher
   same-proposition : witness turn starts .proposition ≡ turn .before .before .before .before .before .before .before .args .proof .«proposition_index» .0
   same-proposition = proposition-is turn starts ∙ c .before .before .if1 .left
 
-  fits-is : polarityFits (proofOut (turn .before .before .before .before .before .before .before .args .proof) .rule) (witness turn starts .polarity) ≡ c .polarity-fits .result
+  fits-is : polarityFits (proofOut (turn .before .before .before .before .before .before .before .args .proof) .rule) (witness turn starts .polarity)
+      ≡ c .polarity-fits .result
   unfolding witnessView
   fits-is =
       let a = turn .before .before .before .before .before .before .before .args in
       ap (polarityFits (proofOut (a .proof) .rule))
-      (ap (λ (w : derivation.Witness). w .polarity) (witness-is turn starts) ∙ sym (le-1 (a .payload .now) (a .tables .«witnesses_at» + 84 * turn .before .before .before .loop .witness + 8)))
+      (ap (λ (w : derivation.Witness). w .polarity) (witness-is turn starts)
+      ∙ sym (le-1 (a .payload .now) (a .tables .«witnesses_at» + 84 * turn .before .before .before .loop .witness + 8)))
       ∙ sym (c .polarity-fits .ensures)
 
 returns-2 : tie.Need-returns-2 Inv-loop μ-loop
@@ -106,9 +110,11 @@ loop-again c =
 
 returns-3 : tie.Need-returns-3 Inv-loop μ-loop
 returns-3 c starts =
-    let a = c .before .before .before .before .before .args in
+    let start = c .before .before .before .before .before in
+    let a = start .args in
     let l = c .before .loop in
-    sym (witnesses-none (a .tables .«parents_at») (tablesIn (a .payload .now) starts (a .tables)) (proofOut (a .proof)) _ (l .witness) (omega arith)) ∙ l .inv .1 starts
+    sym (witnesses-none (a .tables .«parents_at») (tablesIn (a .payload .now) starts (a .tables)) (proofOut (a .proof)) _ (l .witness) (omega arith))
+    ∙ l .inv .1 starts
 
 pub witnesses-from-spec : {M : Type 1} → statement M
 witnesses-from-spec =

@@ -2,8 +2,6 @@
 use borrow.Author.Tests.{eq-eqb, ne-eqb}
 use Rattle.evr0.proofs.payload.all_owned.Statement.{statement}
 use Rattle.evr0.proofs.payload.all_owned.Tie as tie
-use Rattle.evr0.proofs.payload.all_owned.Reads as reads
-use Rattle.evr0.proofs.payload.all_owned.Lts as lts
 
 -- src/payload.rt:56:9
 returns : tie.Need-returns

@@ -5,9 +5,6 @@ use Rattle.evr0.specs.Maps.{proofTableOut}
 use borrow.Author.Needs.{needs}
 use Rattle.evr0.proofs.payload.proofs_refusal.Statement.{statement}
 use Rattle.evr0.proofs.payload.proofs_refusal.Tie as tie
-use Rattle.evr0.proofs.payload.proofs_refusal.Reads as reads
-use Rattle.evr0.proofs.payload.proofs_refusal.Lts as lts
-use Rattle.local_format.proofs.refusal.refuse.Reads as refuse-reads
 
 -- src/payload.rt:43:29
 enum-known-table : tie.Need-enum-known-table

@@ -5,9 +5,6 @@ use Rattle.evr0.specs.Maps.{tableOut}
 use borrow.Author.Needs.{needs}
 use Rattle.evr0.proofs.payload.table_refusal.Statement.{statement}
 use Rattle.evr0.proofs.payload.table_refusal.Tie as tie
-use Rattle.evr0.proofs.payload.table_refusal.Reads as reads
-use Rattle.evr0.proofs.payload.table_refusal.Lts as lts
-use Rattle.local_format.proofs.refusal.refuse.Reads as refuse-reads
 
 -- src/payload.rt:34:24
 enum-known-table : tie.Need-enum-known-table

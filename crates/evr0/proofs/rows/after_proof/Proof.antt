@@ -4,7 +4,15 @@ use Rattle.evr0.proofs.rows.after_proof.Statement.{statement}
 use Rattle.evr0.proofs.rows.after_proof.Tie as tie
 
 returns : tie.Need-returns
-returns c = rw (c .before .before .before .before .place .ensures, c .before .before .before .place2 .ensures, c .before .before .wide .ensures, c .before .wide2 .ensures, c .wide3 .ensures)
+returns c =
+    let at-place = c .before .before .before .before in
+    rw (
+      at-place .place .ensures,
+      c .before .before .before .place2 .ensures,
+      c .before .before .wide .ensures,
+      c .before .wide2 .ensures,
+      c .wide3 .ensures,
+    )
 
 pub after-proof-spec : {M : Type 1} → statement M
 after-proof-spec =

@@ -22,7 +22,14 @@ unfolding propositionRow
 returns-3 c =
     let k = c .before .before in
     let r = k .before .before .before .before in
-    rw (c .refuse .ensures, ← r .before .tail .ensures, ← r .read-proposition .ensures, k .before .before .read .given .1, ← k .rises .ensures, c .before .if1 .left)
+    rw (
+      c .refuse .ensures,
+      ← r .before .tail .ensures,
+      ← r .read-proposition .ensures,
+      k .before .before .read .given .1,
+      ← k .rises .ensures,
+      c .before .if1 .left,
+    )
 
 pub next-proposition-spec : {M : Type 1} → statement M
 next-proposition-spec =

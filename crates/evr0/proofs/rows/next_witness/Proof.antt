@@ -9,7 +9,12 @@ returns : tie.Need-returns
 unfolding witnessRow
 returns c =
     let r = c .before .before .before in
-    rw (← r .before .tail .ensures, ← answered (λ x. x .item .fileDigest) (λ x. x .item .originDigest) (witnessOf 4 (r .before .tail .result .now)) (r .read-witness .ensures), c .before .answer .given .1)
+    rw (
+      ← r .before .tail .ensures,
+      ← answered (λ x. x .item .fileDigest) (λ x. x .item .originDigest) (witnessOf 4 (r .before .tail .result .now))
+          (r .read-witness .ensures),
+      c .before .answer .given .1,
+    )
 
 returns-2 : tie.Need-returns-2
 unfolding witnessRow

@@ -4,15 +4,13 @@ use borrow.Author.Needs.{needs}
 use Prim.Native.Nat.{_+_, _-_, _≤_}
 use mathlib.Core.Path.{_≡_, refl, ap, _∙_}
 use native.Mathlib.Omega.{arith}
-use native.Mathlib.Numerals.{add-one}
-use lib.ListN.{length, take, drop, set, length-drop, length-set}
-use lib.Seq.{take-suc-set}
+use lib.ListN.{length, take, drop, length-set}
 use Rattle.local_format.specs.Out.{ok, refused}
 use Rattle.local_format.specs.Maps.{refusalOut}
 use Rattle.local_format.proofs.OutLaws.{told}
 use Rattle.evr0_section.specs.Proposition.{first, after, keyOf, propositionRow}
-use Rattle.evr0_section.proofs.Inside.{inside-ok, inside-refused, propositionRowIn}
-use Rattle.evr0_section.proofs.Progress.{Progress, begun, turn, refused-at, ended}
+use Rattle.evr0_section.proofs.Inside.{propositionRowIn}
+use Rattle.evr0_section.proofs.Progress.{Progress, begun, refused-at, ended}
 use Rattle.evr0_records.specs.Maps.{propositionRecord}
 use Rattle.evr0.specs.Maps.{beforeOut, propositionRowOut}
 use Rattle.evr0.proofs.TableLaws.{stored, fits, refused-fits, read-next, read-front, refused-next, refused-front}
@@ -21,39 +19,53 @@ use Rattle.evr0.proofs.tables.read_propositions.Tie as tie
 
 abbrev Inv-loop : tie.InvT-loop
 Inv-loop payload count at starts₀ prior₀ place₀ i₀ starts prior place i =
-    (i ≤ count) × (place ≤ length payload) × (length starts ≡ length starts₀) × Progress propositionRow payload count at first i place (beforeOut payload prior) (take i starts)
+    (i ≤ count) × (place ≤ length payload) × (length starts ≡ length starts₀)
+    × Progress propositionRow payload count at first i place (beforeOut payload prior) (take i starts)
 
 abbrev μ-loop : tie.MeasureT-loop
 μ-loop payload count at starts₀ prior₀ place₀ i₀ starts prior place i = count - i
 
 -- the record that was read, and the one that was refused
 read-row : (c : tie.After-row Inv-loop μ-loop)
-    → propositionRow (beforeOut (c .before .before .before .before .before .before .before .args .payload .now) (c .before .before .before .before .loop .prior)) (drop (c .before .before .before .before .loop .place) (c .before .before .before .before .before .before .before .args .payload .now))
+    → propositionRow (beforeOut (c .before .before .before .before .before .before .before .args .payload .now)
+    (c .before .before .before .before .loop .prior))
+    (drop (c .before .before .before .before .loop .place) (c .before .before .before .before .before .before .before .args .payload .now))
     ≡ ok (record {
       item = propositionRecord (c .row .given .0 .0);
       size = c .row .given .0 .1 .0;
-      state = after (keyOf (drop (c .before .before .before .before .loop .place) (c .before .before .before .before .before .before .before .args .payload .now)) (propositionRecord (c .row .given .0 .0)));
+      state = after (keyOf (drop (c .before .before .before .before .loop .place)
+          (c .before .before .before .before .before .before .before .args .payload .now)) (propositionRecord (c .row .given .0 .0)));
     })
 read-row c = told (propositionRowOut _) (c .before .before .next-proposition .ensures) (c .row .given .1)
 
 refused-row : (c : tie.After-row2 Inv-loop μ-loop)
-    → propositionRow (beforeOut (c .before .before .before .before .before .before .before .args .payload .now) (c .before .before .before .before .loop .prior)) (drop (c .before .before .before .before .loop .place) (c .before .before .before .before .before .before .before .args .payload .now))
+    → propositionRow (beforeOut (c .before .before .before .before .before .before .before .args .payload .now)
+    (c .before .before .before .before .loop .prior))
+    (drop (c .before .before .before .before .loop .place) (c .before .before .before .before .before .before .before .args .payload .now))
     ≡ refused (refusalOut (c .row2 .given .0 .0))
 refused-row c = told (propositionRowOut _) (c .before .before .next-proposition .ensures) (c .row2 .given .1)
 
 in-payload : (c : tie.After-row Inv-loop μ-loop)
-    → c .before .before .before .before .loop .place + c .row .given .0 .1 .0 ≤ length (c .before .before .before .before .before .before .before .args .payload .now)
+    → c .before .before .before .before .loop .place + c .row .given .0 .1 .0 ≤ length
+    (c .before .before .before .before .before .before .before .args .payload .now)
 in-payload c =
-    let l = c .before .before .before .before .loop in
-    let a = c .before .before .before .before .before .before .before .args in
-    fits propositionRow (a .payload .now) (a .count) (a .at) first (l .place) _ (propositionRowIn (drop (l .place) (a .payload .now)) _) (l .inv .1) _ (read-row c)
+    let at-loop = c .before .before .before .before in
+    let start = at-loop .before .before .before in
+    let l = at-loop .loop in
+    let a = start .args in
+    fits propositionRow (a .payload .now) (a .count) (a .at) first (l .place) _ (propositionRowIn (drop (l .place) (a .payload .now)) _) (l .inv .1) _
+    (read-row c)
 
 refusal-in-payload : (c : tie.After-row2 Inv-loop μ-loop)
-    → c .before .before .before .before .loop .place + c .row2 .given .0 .0 .offset ≤ length (c .before .before .before .before .before .before .before .args .payload .now)
+    → c .before .before .before .before .loop .place + c .row2 .given .0 .0 .offset ≤ length
+    (c .before .before .before .before .before .before .before .args .payload .now)
 refusal-in-payload c =
-    let l = c .before .before .before .before .loop in
-    let a = c .before .before .before .before .before .before .before .args in
-    refused-fits propositionRow (a .payload .now) (a .count) (a .at) first (l .place) _ (propositionRowIn (drop (l .place) (a .payload .now)) _) (l .inv .1) _ (refused-row c)
+    let at-loop = c .before .before .before .before in
+    let start = at-loop .before .before .before in
+    let l = at-loop .loop in
+    let a = start .args in
+    refused-fits propositionRow (a .payload .now) (a .count) (a .at) first (l .place) _ (propositionRowIn (drop (l .place) (a .payload .now)) _)
+    (l .inv .1) _ (refused-row c)
 
 loop-holds : tie.Need-loop-holds Inv-loop μ-loop
 loop-holds c =
@@ -65,12 +77,15 @@ add-place c = omega (arith, in-payload (c .before))
 
 loop-again : tie.Need-loop-again Inv-loop μ-loop
 loop-again c =
-    let l = c .before .before .before .before .before .loop in
-    let a = c .before .before .before .before .before .before .before .before .args in (
+    let at-loop = c .before .before .before .before .before in
+    let start = at-loop .before .before .before in
+    let l = at-loop .loop in
+    let a = start .args in (
       omega arith,
       in-payload (c .before),
       simp length-set (l .inv .2),
-      stored propositionRow (a .payload .now) (a .count) (a .at) first (l .starts) (l .i) (l .place) _ (l .inv .3) (omega arith) (omega arith) _ (read-row (c .before)),
+      stored propositionRow (a .payload .now) (a .count) (a .at) first (l .starts) (l .i) (l .place) _ (l .inv .3) (omega arith) (omega arith) _
+          (read-row (c .before)),
     )
 
 moved-requires : tie.Need-moved-requires Inv-loop μ-loop
@@ -88,8 +103,9 @@ returns c =
 
 returns-2 : tie.Need-returns-2 Inv-loop μ-loop
 returns-2 c =
+    let start = c .before .before .before .before in
     let l = c .before .loop in
-    let a = c .before .before .before .before .args in
+    let a = start .args in
     let h : l .i ≡ a .count = omega arith in
     let d = rw h at (ended propositionRow (a .payload .now) (a .count) (a .at) first (l .i) (l .place) _ _ (l .inv .3) (omega arith)) in (
       read-next propositionRow (a .payload .now) (a .count) (a .at) first d,

@@ -9,8 +9,10 @@ use Rattle.evr0_head.proofs.head.check_counts.Tie as tie
 
 check-sizes-requires : tie.Need-check-sizes-requires
 check-sizes-requires c κs =
-    let w = c .before .before in
-    (limited (countsOut (w .before .before .before .args .head .counts)) _ (sym (w .within-limits .ensures) ∙ ap checkedOut (c .enum-told .given .1)), w .before .before .before .pre .1)
+    let w = c .before .before in (
+      limited (countsOut (w .before .before .before .args .head .counts)) _ (sym (w .within-limits .ensures) ∙ ap checkedOut (c .enum-told .given .1)),
+      w .before .before .before .pre .1,
+    )
 
 returns : tie.Need-returns
 unfolding checkCounts

@@ -14,7 +14,13 @@ returns c =
     let t = c .before .before in
     let s = t .before .before .before in
     let a = s .args in
-    rw (c .refused .ensures, within (countsOut (a .head .counts)) (a .head .«counts_at») (s .pre .0), ← t .table-sizes .ensures .0, lt-leb _ _ (c .before .if1 .taken))
+    rw (
+      c .refused .ensures,
+      within (countsOut (a .head .counts)) (a .head .«counts_at») (s .pre .0),
+      ← t .table-sizes .ensures .0,
+      lt-leb _ _
+          (c .before .if1 .taken),
+    )
 
 returns-2 : tie.Need-returns-2
 unfolding checkCounts
@@ -77,8 +83,9 @@ returns-4 c =
 returns-5 : tie.Need-returns-5
 unfolding checkCounts
 returns-5 c =
+    let stage = c .before .before .before .before in
     λ source contract.
-    let v = c .before .before .before .before in
+    let v = stage in
     let u = v .before .before in
     let t = u .before .before in
     let s = t .before .before .before in

@@ -26,19 +26,24 @@ check-counts-requires c κs =
 
 returns-2 : tie.Need-returns-2
 returns-2 c =
-    let r = c .before .before .before .before .before .before .before .before in
+    let at-check-counts = c .before .before .before .before in
+    let at-answer = at-check-counts .before .before in
+    let stage = at-answer .before .before in
+    let r = stage in
     let a = r .before .before .args in
     let p = a .payload .now in
-    let k = head-told (r .read-head .result) (headOf p) (r .read-head .ensures) (c .before .before .before .before .before .before .answer .given .1) in
-    let m = c .before .before .before .before .check-counts .ensures (r .read-head .result .«source_set») (r .read-head .result .«compiler_contract») in
+    let k = head-told (r .read-head .result) (headOf p) (r .read-head .ensures) (at-answer .answer .given .1) in
+    let m = at-check-counts .check-counts .ensures (r .read-head .result .«source_set») (r .read-head .result .«compiler_contract») in
     rw (c .refused-head .ensures, checked-as (roomOut (a .room)) p k, ← m, c .before .before .checked .given .1)
 
 returns-3 : tie.Need-returns-3
 returns-3 c =
-    let r = c .before .before .before .before .before .before in
+    let at-answer = c .before .before .before .before in
+    let stage = at-answer .before .before in
+    let r = stage in
     let a = r .before .before .args in
     let p = a .payload .now in
-    let k = head-told (r .read-head .result) (headOf p) (r .read-head .ensures) (c .before .before .before .before .answer .given .1) in
+    let k = head-told (r .read-head .result) (headOf p) (r .read-head .ensures) (at-answer .answer .given .1) in
     let m = c .before .before .check-counts .ensures (r .read-head .result .«source_set») (r .read-head .result .«compiler_contract») in
     r .read-head .ensures ∙ ap headBeside (k ∙ sym (checked-as (roomOut (a .room)) p k ∙ rw (← m, c .enum-told2 .given .1)))
 

@@ -8,7 +8,8 @@ use Rattle.evr0_head.proofs.head.read_head.Tie as tie
 returns : tie.Need-returns
 unfolding headOf
 returns c =
-    let p4 = c .before .before .before .before in
+    let stage = c .before .before .before .before in
+    let p4 = stage in
     rw (
       c .refused-head .ensures,
       c .before .refuse .ensures,
@@ -19,7 +20,8 @@ returns c =
 returns-2 : tie.Need-returns-2
 unfolding headOf
 returns-2 c =
-    let p4 = c .before .before .before .before in
+    let stage = c .before .before .before .before in
+    let p4 = stage in
     let p6 = p4 .before .before in
     rw (
       c .refused-head2 .ensures,
@@ -32,7 +34,8 @@ returns-2 c =
 returns-3 : tie.Need-returns-3
 unfolding headOf
 returns-3 c =
-    let p4 = c .before .before .before .before in
+    let stage = c .before .before .before .before in
+    let p4 = stage in
     let p5 = p4 .before in
     let p7 = p5 .before .before in
     let p9 = p7 .before .before in
@@ -49,7 +52,8 @@ returns-3 c =
 returns-4 : tie.Need-returns-4
 unfolding headOf
 returns-4 c =
-    let p4 = c .before .before .before .before in
+    let stage = c .before .before .before .before in
+    let p4 = stage in
     let p6 = p4 .before .before in
     let p7 = p6 .before in
     let p9 = p7 .before .before in
@@ -68,7 +72,8 @@ returns-4 c =
 returns-5 : tie.Need-returns-5
 unfolding headOf
 returns-5 c =
-    let p4 = c .before .before .before .before in
+    let stage = c .before .before .before .before in
+    let p4 = stage in
     let p5 = p4 .before in
     let p7 = p5 .before .before in
     let p9 = p7 .before .before in
@@ -91,7 +96,8 @@ returns-5 c =
 returns-6 : tie.Need-returns-6
 unfolding headOf
 returns-6 c =
-    let p4 = c .before .before .before .before in
+    let stage = c .before .before .before .before in
+    let p4 = stage in
     let p6 = p4 .before .before in
     let p8 = p6 .before .before in
     let p9 = p8 .before in
@@ -118,7 +124,8 @@ returns-6 c =
 returns-7 : tie.Need-returns-7
 unfolding headOf
 returns-7 c =
-    let p4 = c .before .before .before .before in
+    let stage = c .before .before .before .before in
+    let p4 = stage in
     let p6 = p4 .before .before in
     let p8 = p6 .before .before in
     let p10 = p8 .before .before in
@@ -149,7 +156,8 @@ returns-7 c =
 returns-8 : tie.Need-returns-8
 unfolding headOf
 returns-8 c =
-    let p4 = c .before .before .before .before in
+    let stage = c .before .before .before .before in
+    let p4 = stage in
     let p6 = p4 .before .before in
     let p8 = p6 .before .before in
     let p10 = p8 .before .before in
@@ -184,7 +192,8 @@ returns-8 c =
 returns-9 : tie.Need-returns-9
 unfolding headOf
 returns-9 c =
-    let p4 = c .before .before .before .before in
+    let stage = c .before .before .before .before in
+    let p4 = stage in
     let p6 = p4 .before .before in
     let p8 = p6 .before .before in
     let p10 = p8 .before .before in
@@ -223,7 +232,8 @@ returns-9 c =
 returns-10 : tie.Need-returns-10
 unfolding headOf
 returns-10 c =
-    let p4 = c .before .before .before .before in
+    let stage = c .before .before .before .before in
+    let p4 = stage in
     let p6 = p4 .before .before in
     let p8 = p6 .before .before in
     let p10 = p8 .before .before in

@@ -10,24 +10,29 @@ returns c = rw (c .refuse .ensures) (zeros-cut _ _ (c .before .before .tail .ens
 
 add-refuse : tie.Need-add-refuse
 add-refuse c =
-    let t = c .before .before .before .before .before .before in
+    let stage = c .before .before .before .before .before .before in
+    let t = stage in
     let a = t .before .before .args in
     omega (arith, ends (a .bytes .now) (a .at) (t .tail .ensures) 3 (omega arith) (omega arith))
 
 returns-2 : tie.Need-returns-2
 returns-2 c =
-    let t = c .before .before .before .before .before .before .before in
+    let on = c .before .before .before .before .before .before in
+    let stage = on .before in
+    let t = stage in
     rw (c .refuse2 .ensures) (zeros-bad _ _ (t .tail .ensures) _ (omega arith) (c .before .before .le24 .ensures) (c .before .if2 .taken))
 
 add-t4 : tie.Need-add-t4
 add-t4 c =
-    let t = c .before .before .before .before .before .before in
+    let stage = c .before .before .before .before .before .before in
+    let t = stage in
     let a = t .before .before .args in
     omega (arith, ends (a .bytes .now) (a .at) (t .tail .ensures) 3 (omega arith) (omega arith))
 
 returns-3 : tie.Need-returns-3
 returns-3 c =
-    let t = c .before .before .before .before .before .before in
+    let stage = c .before .before .before .before .before .before in
+    let t = stage in
     zeros-good _ _ (t .tail .ensures) _ (omega arith) (c .before .le24 .ensures) (c .if2 .left)
 
 pub read-zeros-spec : {M : Type 1} → statement M

@@ -27,7 +27,8 @@ returns-2 c x h =
     let k = o .before .before .before .args .number in
     let n = o .outcome2 .given .0 .0 .counts .parents in
     c .parent-in .ensures
-    ∙ ap (λ (q : List ℕ). entryAt (parentRow tt) placedParent q n (parentPlace (length q) n k) k) (p .payload-of .ensures (starts-after _ _ h is) (ends-within _ _ h is))
+    ∙ ap (λ (q : List ℕ). entryAt (parentRow tt) placedParent q n (parentPlace (length q) n k) k)
+    (p .payload-of .ensures (starts-after _ _ h is) (ends-within _ _ h is))
     ∙ parent-asked _ _ h is k
 
 pub parent-of-spec : {M : Type 1} → statement M

@@ -12,7 +12,8 @@ use Rattle.evr0_read.proofs.ask.proposition_number.Tie as tie
 returns : tie.Need-returns
 unfolding propositionNumber
 returns c =
-    let w = c .before .before .before .before .before .before in
+    let stage = c .before .before .before .before .before .before in
+    let w = stage in
     let no = w .before .before .before .before in
     let of = no .before in
     let dec = of .before .before .before .before .before .before .before .before in
@@ -21,7 +22,8 @@ returns c =
     let x = decodeAnew (a .bytes .now) (a .cursor) (a .propositions .now) (a .proofs .now) (a .depths .now) in
     let value = of .proposition-of .ensures x _ (record { room = _; is = refl; answered = d .ensures .0 }) (d .ensures .1 .0) in (
       value,
-      lent-settled (shown shownProposition) (λ y. numbered (a .number .0) (y .tables .propositions .entries)) x _ _ _ (no .no-proposition .ensures ∙ ap isRefused value)
+      lent-settled (shown shownProposition) (λ y. numbered (a .number .0) (y .tables .propositions .entries)) x _ _ _
+          (no .no-proposition .ensures ∙ ap isRefused value)
           (d .ensures .1 .0) (d .ensures .1 .1 .0) (d .ensures .1 .1 .1 .0) (d .kept .1 .1 .0) (d .kept .1 .1 .1 .0) (d .kept .1 .1 .1 .1 .0)
           (w .settle .ensures .0) (w .settle .ensures .1 .0) (w .settle .ensures .1 .1),
     )

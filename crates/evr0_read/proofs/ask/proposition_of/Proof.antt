@@ -17,7 +17,8 @@ use Rattle.evr0_read.proofs.ask.proposition_of.Tie as tie
 returns : tie.Need-returns
 unfolding propositionNumber
 returns c x n h e =
-    not-decoded (shown shownProposition) (λ y. numbered _ (y .tables .propositions .entries)) x (refusal-is _ _ h (ap outcomeOut (c .before .outcome .given .1)))
+    not-decoded (shown shownProposition) (λ y. numbered _ (y .tables .propositions .entries)) x
+    (refusal-is _ _ h (ap outcomeOut (c .before .outcome .given .1)))
 
 returns-2 : tie.Need-returns-2
 returns-2 c x n h e =

@@ -15,7 +15,8 @@ use Rattle.evr0_read.proofs.ask.witness_number.Tie as tie
 returns : tie.Need-returns
 unfolding witnessNumber
 returns c =
-    let w = c .before .before .before .before .before .before in
+    let stage = c .before .before .before .before .before .before in
+    let w = stage in
     let no = w .before .before .before .before in
     let of = no .before in
     let dec = of .before .before .before .before .before .before .before in
@@ -24,7 +25,9 @@ returns c =
     let x = decodeAnew (a .bytes .now) (a .cursor) (a .propositions .now) (a .proofs .now) (a .depths .now) in
     let value = of .witness-of .ensures x (record { room = _; is = refl; answered = d .ensures .0 }) in (
       value,
-      lent-settled (λ e. e) (λ y. numbered (a .number .0) (y .tables .witnesses .entries)) x _ _ _ (no .is-no-witness .ensures ∙ ap (λ (b : Beside (Entry WitnessRecord)). isRefused (b .answer)) value ∙ ap isRefused (beside-is (valueIn (λ e. e) (witnessNumber (a .number .0) x))))
+      lent-settled (λ e. e) (λ y. numbered (a .number .0) (y .tables .witnesses .entries)) x _ _ _
+          (no .is-no-witness .ensures ∙ ap (λ (b : Beside (Entry WitnessRecord)). isRefused (b .answer)) value
+          ∙ ap isRefused (beside-is (valueIn (λ e. e) (witnessNumber (a .number .0) x))))
           (d .ensures .1 .0) (d .ensures .1 .1 .0) (d .ensures .1 .1 .1 .0) (d .kept .1 .1 .0) (d .kept .1 .1 .1 .0) (d .kept .1 .1 .1 .1 .0)
           (w .settle .ensures .0) (w .settle .ensures .1 .0) (w .settle .ensures .1 .1),
     )

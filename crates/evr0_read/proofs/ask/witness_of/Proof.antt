@@ -20,7 +20,8 @@ returns : tie.Need-returns
 unfolding witnessNumber
 returns c x h =
     c .no-witness .ensures
-    ∙ ap witnessBeside (not-decoded (λ e. e) (λ y. numbered _ (y .tables .witnesses .entries)) x (refusal-is _ _ h (ap outcomeOut (c .before .before .outcome .given .1))))
+    ∙ ap witnessBeside (not-decoded (λ e. e) (λ y. numbered _ (y .tables .witnesses .entries)) x
+    (refusal-is _ _ h (ap outcomeOut (c .before .before .outcome .given .1))))
 
 returns-2 : tie.Need-returns-2
 returns-2 c x h =

@@ -31,14 +31,16 @@ returns-2 c d h =
     let o = c .before in
     let k = o .before .before in
     let q = k .before .before in
-    found-here _ _ d h _ _ (q .before .before .loop .inv d h) _ (q .before .loop-test .taken) (told proofOut (q .proof-in .ensures) (k .read .given .1)) (sym (o .operates .ensures) ∙ c .if1 .taken)
+    found-here _ _ d h _ _ (q .before .before .loop .inv d h) _ (q .before .loop-test .taken)
+    (told proofOut (q .proof-in .ensures) (k .read .given .1)) (sym (o .operates .ensures) ∙ c .if1 .taken)
 
 loop-again : tie.Need-loop-again Inv-loop μ-loop
 loop-again c d h =
     let o = c .before in
     let k = o .before .before in
     let q = k .before .before in
-    goes-on _ _ d h _ _ (q .before .before .loop .inv d h) _ (q .before .loop-test .taken) (told proofOut (q .proof-in .ensures) (k .read .given .1)) (sym (o .operates .ensures) ∙ c .if1 .left)
+    goes-on _ _ d h _ _ (q .before .before .loop .inv d h) _ (q .before .loop-test .taken) (told proofOut (q .proof-in .ensures) (k .read .given .1))
+    (sym (o .operates .ensures) ∙ c .if1 .left)
 
 returns-3 : tie.Need-returns-3 Inv-loop μ-loop
 returns-3 c d h = none-left _ _ d h _ _ (c .before .loop .inv d h) (c .loop-test .left)

@@ -29,13 +29,16 @@ module _ (c : tie.After-read-witness) where
 
 returns : tie.Need-returns
 returns c =
-    let q = c .before .before .before .before .before in
+    let stage = c .before .before .before .before .before in
+    let q = stage in
     ap witnessBeside (record-found (witnessOf 4) placedWitness _ _ (told (witnessIn _ _) (answered q) (c .before .answer .given .1)) refl)
 
 returns-2 : tie.Need-returns-2
 returns-2 c =
-    let q = c .before .before .before .before .before in
-    let e = told (witnessIn (q .read-witness .result .«file_digest») (q .read-witness .result .«origin_digest»)) (answered q) (c .before .answer2 .given .1) in
+    let stage = c .before .before .before .before .before in
+    let q = stage in
+    let e = told (witnessIn (q .read-witness .result .«file_digest») (q .read-witness .result .«origin_digest»)) (answered q)
+    (c .before .answer2 .given .1) in
     refused-beside _ (at-place q) e ∙ ap witnessBeside (record-refused (witnessOf 4) placedWitness _ _ e)
 
 pub witness-at-spec : {M : Type 1} → statement M

@@ -28,7 +28,9 @@ loop-holds c = (omega arith, λ d h e l. reached-start _ d _ _ l)
 
 -- what was read is the record with the number reached
 module _ (c : tie.After-proof-in Inv-loop μ-loop) where
-  numbered : proofOut (c .proof-in .result) ≡ proofIn (c .before .before .before .before .before .before .args .payload .now) (c .before .before .before .before .before .before .args .starts .now) (c .before .before .loop .number)
+  numbered : proofOut (c .proof-in .result)
+      ≡ proofIn (c .before .before .before .before .before .before .args .payload .now)
+      (c .before .before .before .before .before .before .args .starts .now) (c .before .before .loop .number)
   numbered = c .proof-in .ensures ∙ ap (proofIn _ _) (c .before .wide .ensures)
 
 returns : tie.Need-returns Inv-loop μ-loop
@@ -38,15 +40,18 @@ returns c d h e l =
 
 returns-2 : tie.Need-returns-2 Inv-loop μ-loop
 returns-2 c d h e l =
-    let k = c .before .before .before .before in
+    let stage = c .before .before .before .before in
+    let k = stage in
     let q = k .before .before in
     ends-here _ _ d h _ _ _ _ (q .before .before .loop .inv .1 d h e l) _ (told proofOut (numbered q) (k .read .given .1)) (c .before .if1 .taken)
 
 returns-3 : tie.Need-returns-3 Inv-loop μ-loop
 returns-3 c d h e l =
-    let k = c .before .before .before .before in
+    let stage = c .before .before .before .before in
+    let k = stage in
     let q = k .before .before in
-    spent-here _ _ d h _ _ _ _ (q .before .before .loop .inv .1 d h e l) _ (told proofOut (numbered q) (k .read .given .1)) (c .before .if1 .left) (c .if2 .taken)
+    spent-here _ _ d h _ _ _ _ (q .before .before .loop .inv .1 d h e l) _ (told proofOut (numbered q) (k .read .given .1)) (c .before .if1 .left)
+    (c .if2 .taken)
 
 -- what was read is the first parent's cell
 module _ (c : tie.After-read-u32-le Inv-loop μ-loop) where
@@ -56,7 +61,9 @@ module _ (c : tie.After-read-u32-le Inv-loop μ-loop) where
   abbrev at-loop : tie.At-loop Inv-loop μ-loop
   at-loop = record-read .before .before .before .before
 
-  celled : u32Out (c .read-u32-le .result) ≡ fieldAt 4 (drop (at-loop .before .before .before .before .args .cells) (at-loop .before .before .before .before .args .payload .now)) (4 * record-read .read .given .0 .0 .«parent_first»)
+  celled : u32Out (c .read-u32-le .result)
+      ≡ fieldAt 4 (drop (at-loop .before .before .before .before .args .cells) (at-loop .before .before .before .before .args .payload .now))
+      (4 * record-read .read .given .0 .0 .«parent_first»)
   celled = c .read-u32-le .ensures ∙ ap₂ (fieldAt 4) (at-loop .before .tail .ensures) (c .before .first-cell .ensures)
 
 returns-4 : tie.Need-returns-4 Inv-loop μ-loop
@@ -64,7 +71,8 @@ returns-4 c d h e l =
     let u = c .before .before in
     let k = record-read u in
     let q = k .before .before in
-    absurd (cell-there _ _ d h _ _ _ _ (q .before .before .loop .inv .1 d h e l) _ (told proofOut (numbered q) (k .read .given .1)) (u .before .before .before .if1 .left)
+    absurd (cell-there _ _ d h _ _ _ _ (q .before .before .loop .inv .1 d h e l) _ (told proofOut (numbered q) (k .read .given .1))
+    (u .before .before .before .if1 .left)
     _ e (told u32Out (celled u) (c .enum-told2 .given .1)))
 
 add-moves : tie.Need-add-moves Inv-loop μ-loop
@@ -80,7 +88,8 @@ loop-again c =
     let q = k .before .before in
     let lp = at-loop u in (
       omega (arith, lp .loop .inv .0, u .before .before .if2 .left),
-      λ d h e l. moves-on _ _ d h _ _ _ _ (lp .loop .inv .1 d h e l) _ (told proofOut (numbered q) (k .read .given .1)) (u .before .before .before .if1 .left)
+      λ d h e l. moves-on _ _ d h _ _ _ _ (lp .loop .inv .1 d h e l) _ (told proofOut (numbered q) (k .read .given .1))
+          (u .before .before .before .if1 .left)
           _ e (u .before .before .if2 .left) (lp .loop .inv .0) (told u32Out (celled u) (c .before .cell .given .1)),
     )
 

@@ -11,7 +11,8 @@ use Rattle.evr0_read.proofs.down.way_down.Tie as tie
 returns : tie.Need-returns
 unfolding wayDownFrom
 returns c =
-    let w = c .before .before .before .before .before .before in
+    let stage = c .before .before .before .before .before .before in
+    let w = stage in
     let no = w .before .before .before .before in
     let of = no .before in
     let dec = of .before .before .before .before .before .before .before .before in

@@ -32,7 +32,8 @@ returns : tie.Need-returns
 returns c x n h e =
     let f = c .before .before .before in
     ap refused (c .refuse .ensures)
-    ∙ way-not-there _ _ h (is (f .before) h) n e _ _ (omega (arith, c .before .if1 .taken, ap length (f .front .ensures), c .before .before .place .ensures))
+    ∙ way-not-there _ _ h (is (f .before) h) n e _ _
+    (omega (arith, c .before .if1 .taken, ap length (f .front .ensures), c .before .before .place .ensures))
 
 returns-2 : tie.Need-returns-2
 unfolding wayDownFrom

@@ -7,7 +7,9 @@ use Rattle.evr0_read.proofs.entry.place_proof.Statement.{statement}
 use Rattle.evr0_read.proofs.entry.place_proof.Tie as tie
 
 returns : tie.Need-returns
-returns c = ap (withRule (proofRecord (c .before .before .before .before .before .args .proof))) (c .place-text .ensures)
+returns c =
+    let start = c .before .before .before .before .before in
+    ap (withRule (proofRecord (start .args .proof))) (c .place-text .ensures)
 
 pub place-proof-spec : {M : Type 1} → statement M
 place-proof-spec = tie.close (tie.spec (λ c κs. search needs) returns)

@@ -25,10 +25,12 @@ requires c κs =
 returns : tie.Need-returns
 returns c =
     let k = c .before .before in
-    record-found propositionOf placedProposition _ _ (told propositionOut (at-place (k .before .before)) (k .read .given .1)) (c .place-proposition .ensures)
+    record-found propositionOf placedProposition _ _ (told propositionOut (at-place (k .before .before)) (k .read .given .1))
+    (c .place-proposition .ensures)
 
 returns-2 : tie.Need-returns-2
-returns-2 c = let k = c .before in record-refused propositionOf placedProposition _ _ (told propositionOut (at-place (k .before .before)) (k .read2 .given .1))
+returns-2 c = let k = c .before in record-refused propositionOf placedProposition _ _
+    (told propositionOut (at-place (k .before .before)) (k .read2 .given .1))
 
 pub proposition-at-spec : {M : Type 1} → statement M
 proposition-at-spec =

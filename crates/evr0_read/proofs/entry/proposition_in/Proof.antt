@@ -17,7 +17,8 @@ module _ (c : tie.After-place) where
   start = c .before .before .before
 
   abbrev numberedBy : ℕ → Out (Entry Proposition)
-  numberedBy i = entryAt propositionOf placedProposition (start .args .payload .now) (length (start .args .starts .now)) (getD (start .args .starts .now) i 0) i
+  numberedBy i = entryAt propositionOf placedProposition (start .args .payload .now) (length (start .args .starts .now))
+      (getD (start .args .starts .now) i 0) i
 
   numbered : numberedBy (c .place .result) ≡ numberedBy (start .args .number .0)
   numbered = ap numberedBy (c .place .ensures)

@@ -29,7 +29,8 @@ returns c =
 returns-2 : tie.Need-returns-2 Inv-loop μ-loop
 unfolding compare
 returns-2 c =
-    let l = c .before .before .before .before .before in
+    let stage = c .before .before .before .before .before in
+    let l = stage in
     let a = l .before .args .a .now in
     let b = l .before .args .b .now in
     rw (l .loop .inv .2, both-go-on a b (l .loop .i) (omega arith) (omega arith), lt-ltb _ _ (c .if2 .taken))
@@ -37,7 +38,8 @@ returns-2 c =
 returns-3 : tie.Need-returns-3 Inv-loop μ-loop
 unfolding compare
 returns-3 c =
-    let l = c .before .before .before .before .before .before in
+    let stage = c .before .before .before .before .before .before in
+    let l = stage in
     let a = l .before .args .a .now in
     let b = l .before .args .b .now in
     rw (l .loop .inv .2, both-go-on a b (l .loop .i) (omega arith) (omega arith), le-ltb _ _ (c .before .if2 .left), lt-ltb _ _ (c .if3 .taken))
@@ -45,10 +47,20 @@ returns-3 c =
 loop-again : tie.Need-loop-again Inv-loop μ-loop
 unfolding compare
 loop-again c =
-    let l = c .before .before .before .before .before .before in
+    let stage = c .before .before .before .before .before .before in
+    let l = stage in
     let a = l .before .args .a .now in
-    let b = l .before .args .b .now in
-    (omega arith, omega arith, rw (l .loop .inv .2, both-go-on a b (l .loop .i) (omega arith) (omega arith), le-ltb _ _ (c .before .if2 .left), le-ltb _ _ (c .if3 .left)))
+    let b = l .before .args .b .now in (
+      omega arith,
+      omega arith,
+      rw (
+        l .loop .inv .2,
+        both-go-on a b (l .loop .i) (omega arith) (omega arith),
+        le-ltb _ _ (c .before .if2 .left),
+        le-ltb
+            _ _ (c .if3 .left),
+      ),
+    )
 
 returns-4 : tie.Need-returns-4 Inv-loop μ-loop
 returns-4 c =

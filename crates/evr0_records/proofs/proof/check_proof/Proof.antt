@@ -34,7 +34,9 @@ returns-2 c =
 returns-3 : tie.Need-returns-3
 unfolding checkProof
 returns-3 c =
-    let a = c .before .before .before .before .before .before .before .before .args in
+    let on = c .before .before .before .before .before .before in
+    let start = on .before .before in
+    let a = start .args in
     let p3 = c .before .before .before in
     let p4 = p3 .before in
     let p5 = p4 .before in
@@ -45,7 +47,8 @@ returns-3 c =
       not-false (p6 .is-next .result) (p5 .if1 .left),
       ← p4 .is-contiguous .ensures,
       not-false (p4 .is-contiguous .result) (p3 .if2 .left),
-      same-range (countsOut (a .counts)) (unownedOut (a .unowned)) (proofRecord (a .proof)) (sym (p4 .is-contiguous .ensures) ∙ not-false (p4 .is-contiguous .result) (p3 .if2 .left)),
+      same-range (countsOut (a .counts)) (unownedOut (a .unowned)) (proofRecord (a .proof))
+          (sym (p4 .is-contiguous .ensures) ∙ not-false (p4 .is-contiguous .result) (p3 .if2 .left)),
       ← c .before .before .ends-within .ensures,
       not-true (c .before .before .ends-within .result) (c .before .if3 .taken),
     )
@@ -53,7 +56,9 @@ returns-3 c =
 returns-4 : tie.Need-returns-4
 unfolding checkProof
 returns-4 c =
-    let a = c .before .before .before .before .before .before .before .before .before .before .before .args in
+    let on = c .before .before .before .before .before .before in
+    let start = on .before .before .before .before .before in
+    let a = start .args in
     let p3 = c .before .before .before in
     let p4 = p3 .before in
     let p5 = p4 .before in
@@ -67,7 +72,8 @@ returns-4 c =
       not-false (p9 .is-next .result) (p8 .if1 .left),
       ← p7 .is-contiguous .ensures,
       not-false (p7 .is-contiguous .result) (p6 .if2 .left),
-      same-range (countsOut (a .counts)) (unownedOut (a .unowned)) (proofRecord (a .proof)) (sym (p7 .is-contiguous .ensures) ∙ not-false (p7 .is-contiguous .result) (p6 .if2 .left)),
+      same-range (countsOut (a .counts)) (unownedOut (a .unowned)) (proofRecord (a .proof))
+          (sym (p7 .is-contiguous .ensures) ∙ not-false (p7 .is-contiguous .result) (p6 .if2 .left)),
       ← p5 .ends-within .ensures,
       not-false (p5 .ends-within .result) (p4 .if3 .left),
       ← p3 .rule-named .ensures,
@@ -77,8 +83,11 @@ returns-4 c =
 returns-5 : tie.Need-returns-5
 unfolding checkProof
 returns-5 c =
-    let a = c .before .before .before .before .before .before .before .before .before .before .before .before .before .before .args in
-    let p4 = c .before .before .before .before in
+    let stage = c .before .before .before .before in
+    let on = stage .before .before .before .before .before .before in
+    let start = on .before .before .before .before in
+    let a = start .args in
+    let p4 = stage in
     let p6 = p4 .before .before in
     let p7 = p6 .before in
     let p8 = p7 .before in
@@ -92,7 +101,8 @@ returns-5 c =
       not-false (p12 .is-next .result) (p11 .if1 .left),
       ← p10 .is-contiguous .ensures,
       not-false (p10 .is-contiguous .result) (p9 .if2 .left),
-      same-range (countsOut (a .counts)) (unownedOut (a .unowned)) (proofRecord (a .proof)) (sym (p10 .is-contiguous .ensures) ∙ not-false (p10 .is-contiguous .result) (p9 .if2 .left)),
+      same-range (countsOut (a .counts)) (unownedOut (a .unowned)) (proofRecord (a .proof))
+          (sym (p10 .is-contiguous .ensures) ∙ not-false (p10 .is-contiguous .result) (p9 .if2 .left)),
       ← p8 .ends-within .ensures,
       not-false (p8 .ends-within .result) (p7 .if3 .left),
       ← p6 .rule-named .ensures,
@@ -104,7 +114,10 @@ returns-5 c =
 returns-6 : tie.Need-returns-6
 unfolding checkProof
 returns-6 c =
-    let a = c .before .before .before .before .before .before .before .before .before .before .before .before .before .args in
+    let on = c .before .before .before .before .before .before in
+    let on2 = on .before .before .before .before .before .before in
+    let start = on2 .before in
+    let a = start .args in
     let p3 = c .before .before .before in
     let p5 = p3 .before .before in
     let p6 = p5 .before in
@@ -118,7 +131,8 @@ returns-6 c =
       not-false (p11 .is-next .result) (p10 .if1 .left),
       ← p9 .is-contiguous .ensures,
       not-false (p9 .is-contiguous .result) (p8 .if2 .left),
-      same-range (countsOut (a .counts)) (unownedOut (a .unowned)) (proofRecord (a .proof)) (sym (p9 .is-contiguous .ensures) ∙ not-false (p9 .is-contiguous .result) (p8 .if2 .left)),
+      same-range (countsOut (a .counts)) (unownedOut (a .unowned)) (proofRecord (a .proof))
+          (sym (p9 .is-contiguous .ensures) ∙ not-false (p9 .is-contiguous .result) (p8 .if2 .left)),
       ← p7 .ends-within .ensures,
       not-false (p7 .ends-within .result) (p6 .if3 .left),
       ← p5 .rule-named .ensures,

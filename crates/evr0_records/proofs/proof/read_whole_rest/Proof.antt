@@ -17,7 +17,8 @@ returns c =
     let a = s .args in
     let alone : l .le32 .result ≡ getD (a .tail .now) (a .rule-id .next + 20) 0 = omega (arith, l .le32 .ensures) in
     rw (c .refuse .ensures)
-    (rest-bad (a .tail .now) (a .proof-id) (a .proposition-index) (spanOut (a .rule-id)) (s .pre) λ k. c .before .if1 .taken (f6 .four-at6 .ensures ∙ k ∙ sym alone))
+    (rest-bad (a .tail .now) (a .proof-id) (a .proposition-index) (spanOut (a .rule-id)) (s .pre) λ k. c .before .if1 .taken
+    (f6 .four-at6 .ensures ∙ k ∙ sym alone))
 
 returns-2 : tie.Need-returns-2
 returns-2 c =

@@ -12,7 +12,8 @@ returns c =
     let t = c .before .before .before in
     let s = t .before .before in
     rw (c .refuse .ensures, s .pre .1)
-    (zeros-cut (s .args .bytes .now) (s .args .at) (s .pre .2) (field-told u32Out 5 (s .args .at) (t .read-u32-le .ensures) (c .before .enum-told .given .1)))
+    (zeros-cut (s .args .bytes .now) (s .args .at) (s .pre .2)
+    (field-told u32Out 5 (s .args .at) (t .read-u32-le .ensures) (c .before .enum-told .given .1)))
 
 returns-2 : tie.Need-returns-2
 returns-2 c =
@@ -20,7 +21,8 @@ returns-2 c =
     let t = f .before .before in
     let s = t .before .before in
     rw (c .refuse2 .ensures, s .pre .1)
-    (zeros-bad (s .args .bytes .now) (s .args .at) (field-told u32Out 5 (s .args .at) (t .read-u32-le .ensures) (f .four .given .1)) λ k. c .before .if1 .taken (k ∙ sym (s .pre .0)))
+    (zeros-bad (s .args .bytes .now) (s .args .at) (field-told u32Out 5 (s .args .at) (t .read-u32-le .ensures) (f .four .given .1)) λ k.
+    c .before .if1 .taken (k ∙ sym (s .pre .0)))
 
 returns-3 : tie.Need-returns-3
 returns-3 c =
@@ -28,7 +30,8 @@ returns-3 c =
     let t = f .before .before in
     let s = t .before .before in
     rw (s .pre .1)
-    (zeros-good (s .args .bytes .now) (s .args .at) (field-told u32Out 5 (s .args .at) (t .read-u32-le .ensures) (f .four .given .1)) (c .if1 .left ∙ s .pre .0))
+    (zeros-good (s .args .bytes .now) (s .args .at) (field-told u32Out 5 (s .args .at) (t .read-u32-le .ensures) (f .four .given .1))
+    (c .if1 .left ∙ s .pre .0))
 
 pub zeros-after-spec : {M : Type 1} → statement M
 zeros-after-spec =

@@ -7,7 +7,8 @@ use Rattle.evr0_records.proofs.proposition.precedes.Tie as tie
 returns : tie.Need-returns
 unfolding compareKeys
 returns c =
-    let types = c .before .before .before .before in
+    let stage = c .before .before .before .before in
+    let types = stage in
     let kinds = types .before .before .before in
     rw (
       c .is-less .ensures,

@@ -12,11 +12,13 @@ returns c = λ file origin. rw (c .refused .ensures, ← c .before .before .plac
 returns-2 : tie.Need-returns-2
 unfolding checkWitness
 returns-2 c =
+    let at-if1 = c .before .before .before .before in
+    let at-place = at-if1 .before in
     λ file origin.
     rw (
       c .refused2 .ensures,
-      ← c .before .before .before .before .before .place .ensures,
-      eq-eqb _ _ (c .before .before .before .before .if1 .left),
+      ← at-place .place .ensures,
+      eq-eqb _ _ (at-if1 .if1 .left),
       ← c .before .before .before .place2 .ensures,
       le-ltb _ _ (c .before .if2 .taken),
     )

@@ -7,7 +7,8 @@ use Rattle.evr0_records.proofs.witness.read_witness.Tie as tie
 returns : tie.Need-returns
 unfolding witnessOf
 returns c =
-    let p4 = c .before .before .before .before in
+    let stage = c .before .before .before .before in
+    let p4 = stage in
     rw (
       c .refused-witness .ensures,
       c .before .refuse .ensures,
@@ -18,7 +19,8 @@ returns c =
 returns-2 : tie.Need-returns-2
 unfolding witnessOf
 returns-2 c =
-    let p4 = c .before .before .before .before in
+    let stage = c .before .before .before .before in
+    let p4 = stage in
     let p6 = p4 .before .before in
     let p8 = p6 .before .before in
     rw (
@@ -33,7 +35,8 @@ returns-2 c =
 returns-3 : tie.Need-returns-3
 unfolding witnessOf
 returns-3 c =
-    let p4 = c .before .before .before .before in
+    let stage = c .before .before .before .before in
+    let p4 = stage in
     let p6 = p4 .before .before in
     let p8 = p6 .before .before in
     let p10 = p8 .before .before in
@@ -52,7 +55,8 @@ returns-3 c =
 returns-4 : tie.Need-returns-4
 unfolding witnessOf
 returns-4 c =
-    let p4 = c .before .before .before .before in
+    let stage = c .before .before .before .before in
+    let p4 = stage in
     let p6 = p4 .before .before in
     let p8 = p6 .before .before in
     let p10 = p8 .before .before in
@@ -75,7 +79,8 @@ returns-4 c =
 returns-5 : tie.Need-returns-5
 unfolding witnessOf
 returns-5 c =
-    let p4 = c .before .before .before .before in
+    let stage = c .before .before .before .before in
+    let p4 = stage in
     let p6 = p4 .before .before in
     let p8 = p6 .before .before in
     let p10 = p8 .before .before in
@@ -102,7 +107,8 @@ returns-5 c =
 returns-6 : tie.Need-returns-6
 unfolding witnessOf
 returns-6 c =
-    let p4 = c .before .before .before .before in
+    let stage = c .before .before .before .before in
+    let p4 = stage in
     let p6 = p4 .before .before in
     let p8 = p6 .before .before in
     let p10 = p8 .before .before in
@@ -133,7 +139,8 @@ returns-6 c =
 returns-7 : tie.Need-returns-7
 unfolding witnessOf
 returns-7 c =
-    let p4 = c .before .before .before .before in
+    let stage = c .before .before .before .before in
+    let p4 = stage in
     let p6 = p4 .before .before in
     let p8 = p6 .before .before in
     let p10 = p8 .before .before in
@@ -168,7 +175,8 @@ returns-7 c =
 returns-8 : tie.Need-returns-8
 unfolding witnessOf
 returns-8 c =
-    let p4 = c .before .before .before .before in
+    let stage = c .before .before .before .before in
+    let p4 = stage in
     let p6 = p4 .before .before in
     let p8 = p6 .before .before in
     let p10 = p8 .before .before in

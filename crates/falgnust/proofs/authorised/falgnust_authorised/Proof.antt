@@ -7,7 +7,9 @@ use Rattle.falgnust.proofs.authorised.falgnust_authorised.Tie as tie
 
 returns : tie.Need-returns
 returns c =
-    let read = c .before .before .before .before .before .before .before .authorised .ensures in
+    let on = c .before .before .before .before .before .before in
+    let at-authorised = on .before in
+    let read = at-authorised .authorised .ensures in
     (c .flat-authorised .ensures ∙ ap flatAuthorised (read .0), read .1)
 
 pub falgnust-authorised-spec : {M : Type 1} → statement M

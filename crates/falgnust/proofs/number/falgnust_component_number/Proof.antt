@@ -7,7 +7,8 @@ use Rattle.falgnust.proofs.number.falgnust_component_number.Tie as tie
 
 returns : tie.Need-returns
 returns c =
-    let read = c .before .before .before .before .before .component-number .ensures in
+    let at-component-number = c .before .before .before .before .before in
+    let read = at-component-number .component-number .ensures in
     (c .flat-component .ensures ∙ ap flatComponent (read .0), read .1)
 
 pub falgnust-component-number-spec : {M : Type 1} → statement M

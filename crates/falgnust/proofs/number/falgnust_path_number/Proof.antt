@@ -7,7 +7,8 @@ use Rattle.falgnust.proofs.number.falgnust_path_number.Tie as tie
 
 returns : tie.Need-returns
 returns c =
-    let read = c .before .before .before .before .before .path-number .ensures in
+    let at-path-number = c .before .before .before .before .before in
+    let read = at-path-number .path-number .ensures in
     (c .flat-path .ensures ∙ ap flatPath (read .0), read .1)
 
 pub falgnust-path-number-spec : {M : Type 1} → statement M

@@ -7,7 +7,8 @@ use Rattle.falgnust.proofs.number.falgnust_string_number.Tie as tie
 
 returns : tie.Need-returns
 returns c =
-    let read = c .before .before .before .before .before .string-number .ensures in
+    let at-string-number = c .before .before .before .before .before in
+    let read = at-string-number .string-number .ensures in
     (c .flat-text .ensures ∙ ap flatText (read .0), read .1)
 
 pub falgnust-string-number-spec : {M : Type 1} → statement M

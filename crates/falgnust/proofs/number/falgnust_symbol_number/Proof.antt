@@ -7,7 +7,8 @@ use Rattle.falgnust.proofs.number.falgnust_symbol_number.Tie as tie
 
 returns : tie.Need-returns
 returns c =
-    let read = c .before .before .before .before .before .symbol-number .ensures in
+    let at-symbol-number = c .before .before .before .before .before in
+    let read = at-symbol-number .symbol-number .ensures in
     (c .flat-symbol .ensures ∙ ap flatSymbol (read .0), read .1)
 
 pub falgnust-symbol-number-spec : {M : Type 1} → statement M

@@ -7,7 +7,9 @@ use Rattle.falgnust.proofs.parent.falgnust_parent_number.Tie as tie
 
 returns : tie.Need-returns
 returns c =
-    let read = c .before .before .before .before .before .before .before .parent-number .ensures in
+    let on = c .before .before .before .before .before .before in
+    let at-parent-number = on .before in
+    let read = at-parent-number .parent-number .ensures in
     (c .flat-parent .ensures ∙ ap flatParent (read .0), read .1)
 
 pub falgnust-parent-number-spec : {M : Type 1} → statement M

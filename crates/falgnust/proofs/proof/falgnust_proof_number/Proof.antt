@@ -7,7 +7,9 @@ use Rattle.falgnust.proofs.proof.falgnust_proof_number.Tie as tie
 
 returns : tie.Need-returns
 returns c =
-    let read = c .before .before .before .before .before .before .before .proof-number .ensures in
+    let on = c .before .before .before .before .before .before in
+    let at-proof-number = on .before in
+    let read = at-proof-number .proof-number .ensures in
     (c .flat-proof .ensures ∙ ap flatProof (read .0), read .1)
 
 pub falgnust-proof-number-spec : {M : Type 1} → statement M

@@ -7,7 +7,9 @@ use Rattle.falgnust.proofs.proposition.falgnust_proposition_number.Tie 
 
 returns : tie.Need-returns
 returns c =
-    let read = c .before .before .before .before .before .before .before .proposition-number .ensures in
+    let on = c .before .before .before .before .before .before in
+    let at-proposition-number = on .before in
+    let read = at-proposition-number .proposition-number .ensures in
     (c .flat-proposition .ensures ∙ ap flatProposition (read .0), read .1)
 
 pub falgnust-proposition-number-spec : {M : Type 1} → statement M

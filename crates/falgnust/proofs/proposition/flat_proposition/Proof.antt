@@ -5,7 +5,9 @@ use Rattle.falgnust.proofs.proposition.flat_proposition.Statement.{stat
 use Rattle.falgnust.proofs.proposition.flat_proposition.Tie as tie
 
 returns : tie.Need-returns
-returns c = rw (c .flat-span .ensures, c .before .no-refusal .ensures, c .before .before .before .before .entry .given .1) refl
+returns c =
+    let at-entry = c .before .before .before .before in
+    rw (c .flat-span .ensures, c .before .no-refusal .ensures, at-entry .entry .given .1) refl
 
 returns-2 : tie.Need-returns-2
 returns-2 c = rw (c .flat-refusal .ensures, c .before .before .entry2 .given .1) refl

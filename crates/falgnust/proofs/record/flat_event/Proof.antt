@@ -26,16 +26,22 @@ returns-2 : tie.Need-returns-2
 returns-2 c = borrowIs (c .before .before .before .event .given .1) (c .enum-told2 .given .1)
 
 returns-3 : tie.Need-returns-3
-returns-3 c = borrowIs (c .before .before .before .before .event .given .1) (c .before .activation .given .1)
+returns-3 c =
+    let at-event = c .before .before .before .before in
+    borrowIs (at-event .event .given .1) (c .before .activation .given .1)
 
 returns-4 : tie.Need-returns-4
 returns-4 c = writeIs (c .before .before .before .event2 .given .1) (c .enum-told3 .given .1)
 
 returns-5 : tie.Need-returns-5
-returns-5 c = writeIs (c .before .before .before .before .event2 .given .1) (c .before .execution .given .1)
+returns-5 c =
+    let at-event2 = c .before .before .before .before in
+    writeIs (at-event2 .event2 .given .1) (c .before .execution .given .1)
 
 returns-6 : tie.Need-returns-6
-returns-6 c = writeIs (c .before .before .before .before .event2 .given .1) (c .before .execution2 .given .1)
+returns-6 c =
+    let at-event2 = c .before .before .before .before in
+    writeIs (at-event2 .event2 .given .1) (c .before .execution2 .given .1)
 
 pub flat-event-spec : {M : Type 1} → statement M
 flat-event-spec =

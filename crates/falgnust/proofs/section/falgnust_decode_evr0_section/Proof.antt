@@ -7,7 +7,9 @@ use Rattle.falgnust.proofs.section.falgnust_decode_evr0_section.Tie as 
 
 returns : tie.Need-returns
 returns c =
-    let decoded = c .before .before .before .before .before .before .before .decode-evr0-section .ensures in
+    let on = c .before .before .before .before .before .before in
+    let at-decode-evr0-section = on .before in
+    let decoded = at-decode-evr0-section .decode-evr0-section .ensures in
     (c .flat-section .ensures ∙ ap flatSection (decoded .0), (decoded .1 .0, (decoded .1 .1 .0, decoded .1 .1 .1 .0)))
 
 pub falgnust-decode-evr0-section-spec : {M : Type 1} → statement M

@@ -9,17 +9,19 @@ use Rattle.falgnust.proofs.utf8.falgnust_scan.Tie as tie
 
 returns : tie.Need-returns
 returns c =
+    let at-scan = c .before .before .before .before in
     ap flatScan
     (ap (text (c .before .before .scanned .given .0 .0)) (sym (c .if1 .taken))
     ∙ sym (ap scannedOut (c .before .before .scanned .given .1))
-    ∙ c .before .before .before .before .scan .ensures)
+    ∙ at-scan .scan .ensures)
 
 returns-2 : tie.Need-returns-2
 returns-2 c =
+    let at-scan = c .before .before .before .before in
     ap flatScan
     (ap (text (c .before .before .scanned .given .0 .0)) (sym (c .if1 .left))
     ∙ sym (ap scannedOut (c .before .before .scanned .given .1))
-    ∙ c .before .before .before .before .scan .ensures)
+    ∙ at-scan .scan .ensures)
 
 returns-3 : tie.Need-returns-3
 returns-3 c = ap flatScan (sym (ap scannedOut (c .enum-told .given .1)) ∙ c .before .before .scan .ensures)

@@ -7,7 +7,9 @@ use Rattle.falgnust.proofs.way_down.falgnust_way_down.Tie as tie
 
 returns : tie.Need-returns
 returns c =
-    let read = c .before .before .before .before .before .before .before .way-down .ensures in
+    let on = c .before .before .before .before .before .before in
+    let at-way-down = on .before in
+    let read = at-way-down .way-down .ensures in
     (c .flat-way-down .ensures ∙ ap flatWay (read .0), read .1)
 
 pub falgnust-way-down-spec : {M : Type 1} → statement M

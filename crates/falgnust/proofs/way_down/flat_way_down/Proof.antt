@@ -5,10 +5,14 @@ use Rattle.falgnust.proofs.way_down.flat_way_down.Statement.{statement}
 use Rattle.falgnust.proofs.way_down.flat_way_down.Tie as tie
 
 returns : tie.Need-returns
-returns c = rw (c .no-refusal .ensures, c .before .before .before .before .before .way .given .1, c .before .before .down .given .1) refl
+returns c =
+    let at-way = c .before .before .before .before .before in
+    rw (c .no-refusal .ensures, at-way .way .given .1, c .before .before .down .given .1) refl
 
 returns-2 : tie.Need-returns-2
-returns-2 c = rw (c .no-refusal2 .ensures, c .before .before .before .before .before .way .given .1, c .before .before .down2 .given .1) refl
+returns-2 c =
+    let at-way = c .before .before .before .before .before in
+    rw (c .no-refusal2 .ensures, at-way .way .given .1, c .before .before .down2 .given .1) refl
 
 returns-3 : tie.Need-returns-3
 returns-3 c = rw (c .flat-refusal .ensures, c .before .before .way2 .given .1) refl

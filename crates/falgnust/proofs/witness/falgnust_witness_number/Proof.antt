@@ -7,7 +7,9 @@ use Rattle.falgnust.proofs.witness.falgnust_witness_number.Tie as tie
 
 returns : tie.Need-returns
 returns c =
-    let read = c .before .before .before .before .before .before .before .witness-number .ensures in
+    let on = c .before .before .before .before .before .before in
+    let at-witness-number = on .before in
+    let read = at-witness-number .witness-number .ensures in
     (c .flat-witness .ensures ∙ ap flatWitness (read .0), read .1)
 
 pub falgnust-witness-number-spec : {M : Type 1} → statement M

@@ -25,7 +25,8 @@ returns c =
 returns-2 : tie.Need-returns-2
 returns-2 c =
     let r = c .before .before .match .rest .1 in
-    none _ (omega arith) (omega arith) (omega arith) (omega arith) (λ e. r (inr (inr (inl e)))) (λ e. r (inr (inr (inr (inl e))))) (λ e. r (inr (inr (inr (inr e)))))
+    none _ (omega arith) (omega arith) (omega arith) (omega arith) (λ e. r (inr (inr (inl e)))) (λ e. r (inr (inr (inr (inl e)))))
+    (λ e. r (inr (inr (inr (inr e)))))
 
 returns-3 : tie.Need-returns-3
 unfolding among

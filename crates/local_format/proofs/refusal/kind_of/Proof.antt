@@ -19,26 +19,55 @@ returns-2 c =
 returns-3 : tie.Need-returns-3
 unfolding kindOf
 returns-3 c =
-    let n = c .before .before .before .before .args .number in
+    let start = c .before .before .before .before in
+    let n = start .args .number in
     simp (sym (c .before .before .before .is-limit .ensures) ∙ c .before .before .if1 .left, lt-leb n 29 (omega arith), le-leb n 34 (omega arith))
 
 returns-4 : tie.Need-returns-4
 unfolding kindOf
 returns-4 c =
-    let n = c .before .before .before .before .before .args .number in
-    simp (sym (c .before .before .before .before .is-limit .ensures) ∙ c .before .before .before .if1 .left, lt-leb n 29 (omega arith), lt-leb n 34 (omega arith), le-leb n 39 (omega arith))
+    let at-is-limit = c .before .before .before .before in
+    let start = at-is-limit .before in
+    let n = start .args .number in
+    simp (
+      sym (at-is-limit .is-limit .ensures)
+          ∙ c .before .before .before .if1 .left,
+      lt-leb n 29 (omega arith),
+      lt-leb n 34 (omega arith),
+      le-leb n 39 (omega arith),
+    )
 
 returns-5 : tie.Need-returns-5
 unfolding kindOf
 returns-5 c =
-    let n = c .before .before .before .before .before .before .args .number in
-    simp (sym (c .before .before .before .before .before .is-limit .ensures) ∙ c .before .before .before .before .if1 .left, lt-leb n 29 (omega arith), lt-leb n 34 (omega arith), lt-leb n 39 (omega arith), le-leb n 60 (omega arith))
+    let at-if1 = c .before .before .before .before in
+    let at-is-limit = at-if1 .before in
+    let start = at-is-limit .before in
+    let n = start .args .number in
+    simp (
+      sym (at-is-limit .is-limit .ensures)
+          ∙ at-if1 .if1 .left,
+      lt-leb n 29 (omega arith),
+      lt-leb n 34 (omega arith),
+      lt-leb n 39 (omega arith),
+      le-leb n 60 (omega arith),
+    )
 
 returns-6 : tie.Need-returns-6
 unfolding kindOf
 returns-6 c =
-    let n = c .before .before .before .before .before .before .args .number in
-    simp (sym (c .before .before .before .before .before .is-limit .ensures) ∙ c .before .before .before .before .if1 .left, lt-leb n 29 (omega arith), lt-leb n 34 (omega arith), lt-leb n 39 (omega arith), lt-leb n 60 (omega arith))
+    let at-if1 = c .before .before .before .before in
+    let at-is-limit = at-if1 .before in
+    let start = at-is-limit .before in
+    let n = start .args .number in
+    simp (
+      sym (at-is-limit .is-limit .ensures)
+          ∙ at-if1 .if1 .left,
+      lt-leb n 29 (omega arith),
+      lt-leb n 34 (omega arith),
+      lt-leb n 39 (omega arith),
+      lt-leb n 60 (omega arith),
+    )
 
 pub kind-of-spec : {M : Type 1} → statement M
 kind-of-spec = tie.close (tie.spec (λ c κs. search needs) returns returns-2 returns-3 returns-4 returns-5 returns-6)

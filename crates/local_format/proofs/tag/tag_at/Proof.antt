@@ -17,7 +17,8 @@ returns-2 c = tag-cut _ _ _ (omega arith)
 
 returns-3 : tie.Need-returns-3
 returns-3 c =
-    let a = c .before .before .before .before .before .before .args in
+    let start = c .before .before .before .before .before .before in
+    let a = start .args in
     c .same .ensures
     ∙ ap (λ (k : ℕ). equal (take k (drop (a .at) (a .bytes .now))) (a .tag .now)) (add-sub-cancel-left (a .at) (length (a .tag .now)))
     ∙ tag-whole _ _ _ (omega arith)

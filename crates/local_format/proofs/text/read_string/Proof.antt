@@ -17,9 +17,12 @@ size c = rw (c .before .size .given .1) at (c .before .before .before .read-u16-
 -- the string, from what its bytes are
 body : (c : tie.After-read-utf8)
     → stringFrom (c .before .before .before .size .given .0 .1 .0) (c .before .before .before .size .given .0 .0) (utf8Out (c .read-utf8 .result))
-    ≡ stringAt (c .before .before .before .before .before .before .before .args .bytes .now) (c .before .before .before .before .before .before .before .args .at)
+    ≡ stringAt (c .before .before .before .before .before .before .before .args .bytes .now)
+    (c .before .before .before .before .before .before .before .args .at)
 body c =
-    let a = c .before .before .before .before .before .before .before .args in
+    let on = c .before .before .before .before .before .before in
+    let start = on .before in
+    let a = start .args in
     let g = c .before .before .before .size .given .0 in
     ap (stringFrom _ _) (c .read-utf8 .ensures) ∙ string-is (a .bytes .now) (a .at) (g .0) (g .1 .0) (size (c .before .before)) (omega arith)
 
@@ -28,7 +31,9 @@ returns c = c .refused .ensures ∙ string-no-length _ _ (rw (c .before .enum-to
 
 returns-2 : tie.Need-returns-2
 returns-2 c =
-    let a = c .before .before .before .before .before .before .before .args in
+    let on = c .before .before .before .before .before .before in
+    let start = on .before in
+    let a = start .args in
     let g = c .before .before .before .size .given .0 in
     c .refused2 .ensures ∙ string-long (a .bytes .now) (a .at) (g .0) (g .1 .0) (size (c .before .before)) (omega arith)
 

@@ -19,8 +19,10 @@ loop-holds c = (omega arith, refl)
 
 loop-again : tie.Need-loop-again Inv-loop μ-loop
 loop-again c =
-    let l = c .before .before .before .before .loop in
-    let s = c .before .before .before .before .before .before .args .bytes .now in (
+    let at-loop = c .before .before .before .before in
+    let start = at-loop .before .before in
+    let l = at-loop .loop in
+    let s = start .args .bytes .now in (
       omega arith,
       rw (c .greatest .ensures) (printable-turn s (l .i) (l .high) _ (omega arith) (c .before .above-space .ensures) ∙ l .inv .1),
     )

@@ -22,21 +22,27 @@ loop-holds c = (omega arith, omega arith, joined-none _)
 
 loop-again : tie.Need-loop-again Inv-loop μ-loop
 loop-again c =
-    let l = c .before .before .before .before .loop in
-    let s = c .before .before .before .before .before .before .args .bytes .now in
+    let at-loop = c .before .before .before .before in
+    let start = at-loop .before .before in
+    let l = at-loop .loop in
+    let s = start .args .bytes .now in
     let one = printable-on s (l .i) (omega arith) (sym (c .before .is-printable .ensures) ∙ c .if1 .taken) in
     (omega arith, omega arith, scan-turn s (l .i) (l .i + 1) (l .chars) (l .control) false (l .control) one (sym (or-false (l .control))) (l .inv .2))
 
 loop-less-2 : tie.Need-loop-less-2 Inv-loop μ-loop
 loop-less-2 c =
-    let within = rw (c .before .before .c .given .1) at (c .before .before .before .before .char-at .ensures .1) in
+    let at-char-at = c .before .before .before .before in
+    let within = rw (c .before .before .c .given .1) at (at-char-at .char-at .ensures .1) in
     omega arith
 
 loop-again-2 : tie.Need-loop-again-2 Inv-loop μ-loop
 loop-again-2 c =
-    let l = c .before .before .before .before .before .before .before .before .before .loop in
-    let s = c .before .before .before .before .before .before .before .before .before .before .before .args .bytes .now in
-    let k = c .before .before .before .before in
+    let stage = c .before .before .before .before in
+    let at-loop = stage .before .before .before .before .before in
+    let start = at-loop .before .before in
+    let l = at-loop .loop in
+    let s = start .args .bytes .now in
+    let k = stage in
     let g = c .before .before .c .given in
     let within = rw (g .1) at (k .char-at .ensures .1) in
     let one = rw (g .1) at (k .char-at .ensures .0) in
@@ -44,7 +50,9 @@ loop-again-2 c =
 
 returns : tie.Need-returns Inv-loop μ-loop
 returns c =
-    let l = c .before .before .before .before .before .before .before .loop in
+    let on = c .before .before .before .before .before .before in
+    let at-loop = on .before in
+    let l = at-loop .loop in
     ap (joined (l .chars) (l .control)) (rw (c .enum-told .given .1) at (c .before .before .char-at .ensures .0)) ∙ l .inv .2
 
 returns-2 : tie.Need-returns-2 Inv-loop μ-loop

@@ -24,7 +24,8 @@ use Rattle.semcode_decode.proofs.decode.parse_block.Tie as tie
 -- the block with places in it
 abbrev block : tie.After-parse-tables → Out Block
 block pt =
-    let a = pt .before .before .before .before .before .before .args in
+    let start = pt .before .before .before .before .before .before in
+    let a = start .args in
     blockOf (a .header-rev) (roomsOf (a .strings .now) (a .symbols) (a .paths .now)) (a .code .now)
 
 returns : tie.Need-returns
@@ -53,8 +54,10 @@ returns-2 c =
     let pt = k .before .before .before .before .before .before in
     let a = pt .before .before .before .before .before .before .args in
     let w = accepted (a .base-offset) (block pt) (sym (ap parseOut (k .answer .given .1)) ∙ pt .parse-tables .ensures .0) in
-    let strings = front-lent (k .answer .given .0 .0 .«string_count») (length (a .strings .now)) (pt .parse-tables .last .1 .1 .1 .0) (stringStarts (block pt)) (pt .parse-tables .kept .1 .1 .1 .0) (w .3) (pt .parse-tables .ensures .1 .0) in
-    let paths = front-lent (k .answer .given .0 .0 .«path_count») (length (a .paths .now)) (pt .parse-tables .last .1 .1 .1 .1 .0) (pathStarts (block pt)) (pt .parse-tables .kept .1 .1 .1 .1 .0) (w .4) (pt .parse-tables .ensures .1 .1) in (
+    let strings = front-lent (k .answer .given .0 .0 .«string_count») (length (a .strings .now)) (pt .parse-tables .last .1 .1 .1 .0)
+    (stringStarts (block pt)) (pt .parse-tables .kept .1 .1 .1 .0) (w .3) (pt .parse-tables .ensures .1 .0) in
+    let paths = front-lent (k .answer .given .0 .0 .«path_count») (length (a .paths .now)) (pt .parse-tables .last .1 .1 .1 .1 .0)
+    (pathStarts (block pt)) (pt .parse-tables .kept .1 .1 .1 .1 .0) (w .4) (pt .parse-tables .ensures .1 .1) in (
       w .0,
       (
         f1 .clear-from .ensures ∙ strings ∙ ap (lent (length (a .strings .now))) (w .1),

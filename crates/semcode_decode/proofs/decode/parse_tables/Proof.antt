@@ -11,7 +11,8 @@ use Rattle.semcode_decode.proofs.decode.parse_tables.Tie as tie
 
 abbrev rooms : tie.After-string-table → Rooms
 rooms st =
-    let a = st .before .before .before .before .before .args in
+    let start = st .before .before .before .before .before in
+    let a = start .args in
     roomsOf (a .strings .now) (a .symbols) (a .paths .now)
 
 returns : tie.Need-returns

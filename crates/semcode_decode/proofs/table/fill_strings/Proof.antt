@@ -55,7 +55,8 @@ loop-again c =
     let more = r .before .loop-test .taken in (
       omega arith,
       simp length-set (l .loop .inv .1),
-      fill-on (reader l) (a .count) (a .at) (l .loop .i) (l .loop .cursor) (l .loop .strings) (l .loop .inv .2) more (omega arith) (on-ok asRecord (told textOut (r .read-string .ensures) (k .answer .given .1))),
+      fill-on (reader l) (a .count) (a .at) (l .loop .i) (l .loop .cursor) (l .loop .strings) (l .loop .inv .2) more (omega arith)
+          (on-ok asRecord (told textOut (r .read-string .ensures) (k .answer .given .1))),
     )
 
 returns-2 : tie.Need-returns-2 Inv-loop μ-loop

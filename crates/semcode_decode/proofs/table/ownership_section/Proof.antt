@@ -17,9 +17,12 @@ use Rattle.semcode_decode.proofs.table.ownership_section.Tie as tie
 
 -- where the tag was found: the table that follows it
 abbrev table : tie.Then1 → ℕ → Out (Table Path)
-table i = let a = i .before .before .before .before .before .args in pathTable (a .header-rev) (a .bytes .now) (length (a .paths .now))
+table i =
+    let start = i .before .before .before .before .before in
+    let a = start .args in pathTable (a .header-rev) (a .bytes .now) (length (a .paths .now))
 
-is-own0 : (i : tie.Then1) → tagAt own0 (i .before .before .before .before .before .args .bytes .now) (i .before .before .before .before .before .args .at) ≡ true
+is-own0 : (i : tie.Then1) → tagAt own0 (i .before .before .before .before .before .args .bytes .now)
+    (i .before .before .before .before .before .args .at) ≡ true
 is-own0 i = sym (i .before .tag-at .ensures) ∙ i .if1 .taken
 
 add-ownership-table : tie.Need-add-ownership-table
@@ -35,7 +38,12 @@ returns c =
     let d = k .before .before .before .before in
     let i = d .before .before in
     let a = i .before .before .before .before .before .args in (
-      rw (found-tagged own0 (table i) (a .bytes .now) (a .at) (is-own0 i), c .table-refusal .ensures, ← d .ownership-table .ensures .0, k .enum-told .given .1),
+      rw (
+        found-tagged own0 (table i) (a .bytes .now) (a .at) (is-own0 i),
+        c .table-refusal .ensures,
+        ← d .ownership-table .ensures .0,
+        k .enum-told .given .1,
+      ),
       rw (found-starts own0 (table i) (a .bytes .now) (a .at) (is-own0 i)) (d .ownership-table .ensures .1),
     )
 
@@ -53,7 +61,8 @@ returns-3 : tie.Need-returns-3
 returns-3 c =
     let t = c .before in
     let a = t .before .before .before .before .args in
-    rw (absent own0 (pathTable (a .header-rev) (a .bytes .now) (length (a .paths .now))) (a .bytes .now) (a .at) (sym (t .tag-at .ensures) ∙ c .if1 .left)) (refl, refl)
+    rw (absent own0 (pathTable (a .header-rev) (a .bytes .now) (length (a .paths .now))) (a .bytes .now) (a .at)
+    (sym (t .tag-at .ensures) ∙ c .if1 .left)) (refl, refl)
 
 pub ownership-section-spec : {M : Type 1} → statement M
 ownership-section-spec =

@@ -36,7 +36,16 @@ returns-4 c =
     let p4 = p3 .before .before in
     let p5 = p4 .before in
     let p6 = p5 .before in
-    rw (c .refuse4 .ensures, ne-eqb _ _ (p6 .if1 .left), le-leb _ _ (p5 .if2 .left), ← p4 .read-u32-le .ensures, p3 .first .given .1, ← p2 .read-u16-le .ensures, p1 .enum-told2 .given .1)
+    rw (
+      c .refuse4 .ensures,
+      ne-eqb _ _ (p6 .if1 .left),
+      le-leb _ _ (p5 .if2 .left),
+      ← p4 .read-u32-le .ensures,
+      p3 .first .given .1,
+      ←
+          p2 .read-u16-le .ensures,
+      p1 .enum-told2 .given .1,
+    )
 
 returns-5 : tie.Need-returns-5
 unfolding variantAt
@@ -47,7 +56,14 @@ returns-5 c =
     let p4 = p3 .before .before in
     let p5 = p4 .before in
     let p6 = p5 .before in
-    rw (ne-eqb _ _ (p6 .if1 .left), le-leb _ _ (p5 .if2 .left), ← p4 .read-u32-le .ensures, p3 .first .given .1, ← p2 .read-u16-le .ensures, p1 .second .given .1)
+    rw (
+      ne-eqb _ _ (p6 .if1 .left),
+      le-leb _ _ (p5 .if2 .left),
+      ← p4 .read-u32-le .ensures,
+      p3 .first .given .1,
+      ← p2 .read-u16-le .ensures,
+      p1 .second .given .1,
+    )
 
 pub read-adt-payload-spec : {M : Type 1} → statement M
 read-adt-payload-spec =

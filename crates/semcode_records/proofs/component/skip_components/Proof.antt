@@ -37,7 +37,8 @@ returns c =
     let k = c .before in
     let r = k .before .before in
     let l = r .before .before in
-    let e = first-refused (reader l) (count l) (l .loop .i) (l .loop .cursor) (r .before .loop-test .taken) (told componentOut (r .read-component .ensures) (k .enum-told .given .1)) in
+    let e = first-refused (reader l) (count l) (l .loop .i) (l .loop .cursor) (r .before .loop-test .taken)
+    (told componentOut (r .read-component .ensures) (k .enum-told .given .1)) in
     rw (l .loop .inv .1, e, c .component-refusal .ensures, k .enum-told .given .1)
 
 loop-again : tie.Need-loop-again Inv-loop μ-loop
@@ -47,7 +48,8 @@ loop-again c =
     let l = r .before .before in
     let more = r .before .loop-test .taken in (
       omega arith,
-      l .loop .inv .1 ∙ ends-on (reader l) (count l) (l .loop .i) (l .loop .cursor) more (told componentOut (r .read-component .ensures) (a .answer .given .1)),
+      l .loop .inv .1 ∙ ends-on (reader l) (count l) (l .loop .i) (l .loop .cursor) more
+          (told componentOut (r .read-component .ensures) (a .answer .given .1)),
     )
 
 returns-2 : tie.Need-returns-2 Inv-loop μ-loop

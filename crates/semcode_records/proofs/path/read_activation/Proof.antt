@@ -38,7 +38,16 @@ returns-4 c =
     let p4 = p3 .before in
     let p5 = p4 .before .before in
     let p6 = p5 .before .before in
-    rw (c .refuse3 .ensures, ← p6 .read-u8 .ensures, p5 .first .given .1, le-leb _ _ (p4 .if1 .left), ne-eqb _ _ (p3 .if2 .left), ← p2 .read-u32-le .ensures, p1 .enum-told2 .given .1)
+    rw (
+      c .refuse3 .ensures,
+      ← p6 .read-u8 .ensures,
+      p5 .first .given .1,
+      le-leb _ _ (p4 .if1 .left),
+      ne-eqb _ _ (p3 .if2 .left),
+      ←
+          p2 .read-u32-le .ensures,
+      p1 .enum-told2 .given .1,
+    )
 
 returns-5 : tie.Need-returns-5
 unfolding activationAt
@@ -49,7 +58,16 @@ returns-5 c =
     let p4 = p3 .before in
     let p5 = p4 .before .before in
     let p6 = p5 .before .before in
-    rw (c .borrow-of2 .ensures, ← p6 .read-u8 .ensures, p5 .first .given .1, le-leb _ _ (p4 .if1 .left), ne-eqb _ _ (p3 .if2 .left), ← p2 .read-u32-le .ensures, p1 .second .given .1)
+    rw (
+      c .borrow-of2 .ensures,
+      ← p6 .read-u8 .ensures,
+      p5 .first .given .1,
+      le-leb _ _ (p4 .if1 .left),
+      ne-eqb _ _ (p3 .if2 .left),
+      ←
+          p2 .read-u32-le .ensures,
+      p1 .second .given .1,
+    )
 
 pub read-activation-spec : {M : Type 1} → statement M
 read-activation-spec =

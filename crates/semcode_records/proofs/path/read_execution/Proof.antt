@@ -39,7 +39,15 @@ returns-4 c =
     let p4 = p3 .before in
     let p5 = p4 .before .before in
     let p6 = p5 .before .before in
-    rw (c .write-of .ensures, ← p6 .read-u8 .ensures, p5 .first .given .1, le-leb _ _ (p4 .if1 .left), ← p3 .read-u32-le .ensures, p2 .second .given .1, eq-eqb _ _ (p1 .if2 .taken))
+    rw (
+      c .write-of .ensures,
+      ← p6 .read-u8 .ensures,
+      p5 .first .given .1,
+      le-leb _ _ (p4 .if1 .left),
+      ← p3 .read-u32-le .ensures,
+      p2 .second .given .1,
+      eq-eqb _ _ (p1 .if2 .taken),
+    )
 
 returns-5 : tie.Need-returns-5
 unfolding executionAt
@@ -50,7 +58,15 @@ returns-5 c =
     let p4 = p3 .before in
     let p5 = p4 .before .before in
     let p6 = p5 .before .before in
-    rw (c .write-of2 .ensures, ← p6 .read-u8 .ensures, p5 .first .given .1, le-leb _ _ (p4 .if1 .left), ← p3 .read-u32-le .ensures, p2 .second .given .1, ne-eqb _ _ (p1 .if2 .left))
+    rw (
+      c .write-of2 .ensures,
+      ← p6 .read-u8 .ensures,
+      p5 .first .given .1,
+      le-leb _ _ (p4 .if1 .left),
+      ← p3 .read-u32-le .ensures,
+      p2 .second .given .1,
+      ne-eqb _ _ (p1 .if2 .left),
+    )
 
 pub read-execution-spec : {M : Type 1} → statement M
 read-execution-spec =

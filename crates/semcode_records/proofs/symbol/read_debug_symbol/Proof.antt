@@ -29,7 +29,16 @@ returns-3 c =
     let p4 = p3 .before .before in
     let p5 = p4 .before .before in
     let p6 = p5 .before .before in
-    rw (c .refuse3 .ensures, ← p6 .read-u32-le .ensures, p5 .first .given .1, ← p4 .read-u32-le2 .ensures, p3 .second .given .1, ← p2 .read-u16-le .ensures, p1 .enum-told3 .given .1)
+    rw (
+      c .refuse3 .ensures,
+      ← p6 .read-u32-le .ensures,
+      p5 .first .given .1,
+      ← p4 .read-u32-le2 .ensures,
+      p3 .second .given .1,
+      ←
+          p2 .read-u16-le .ensures,
+      p1 .enum-told3 .given .1,
+    )
 
 returns-4 : tie.Need-returns-4
 unfolding symbolAt

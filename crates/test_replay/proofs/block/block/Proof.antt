@@ -4,7 +4,11 @@ use Rattle.test_replay.proofs.block.block.Statement.{statement}
 use Rattle.test_replay.proofs.block.block.Tie as tie
 
 returns : tie.Need-returns
-returns c = rw (← c .before .before .before .before .before .before .before .before .before .before .before .before .before .old .ensures, ← c .before .before .before .before .before .before .before .before .before .old2 .ensures) (c .before .before .before .before .parsed .ensures)
+returns c =
+    let at-parsed = c .before .before .before .before in
+    let at-old2 = at-parsed .before .before .before .before .before in
+    let at-old = at-old2 .before .before .before .before in
+    rw (← at-old .old .ensures, ← at-old2 .old2 .ensures) (at-parsed .parsed .ensures)
 
 pub block-spec : {M : Type 1} → statement M
 block-spec =

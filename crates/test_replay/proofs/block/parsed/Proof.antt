@@ -7,7 +7,9 @@ use Rattle.test_replay.proofs.block.parsed.Tie as tie
 
 returns : tie.Need-returns
 returns c =
-    let k = c .before .before .before .before .before .before .before .parse-block in
+    let on = c .before .before .before .before .before .before in
+    let at-parse-block = on .before in
+    let k = at-parse-block .parse-block in
     let e = k .ensures in
     block-held _ _ _ _ _ _ (parseOut (k .result)) _ _ _ (e .0) (e .1 .0) (e .1 .1) (c .answer .ensures)
 

@@ -24,8 +24,9 @@ loop-holds c =
 
 loop-again : tie.Need-loop-again Inv-loop μ-loop
 loop-again c =
+    let start = c .before .before .before .before .before .before in
     let l = c .before .before .before .loop in
-    let a = c .before .before .before .before .before .before .args in (
+    let a = start .args in (
       omega arith,
       ap₂ (symbolsHeld (a .list .now) (a .code .now) (a .count - (l .i + 1))) (c .before .symbol .ensures) (c .diag-offset .ensures) ∙
           symbols-turn (a .list .now) (a .code .now) (heldOut (l .so-far)) (a .count) (l .i) (l .at) (omega arith) ∙

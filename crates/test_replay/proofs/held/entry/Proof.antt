@@ -15,7 +15,8 @@ returns c =
 returns-2 : tie.Need-returns-2
 unfolding entryHeld
 returns-2 c =
-    let a = c .before .before .before .before .args in
+    let start = c .before .before .before .before in
+    let a = start .args in
     rw (le-ltb (a .i) (a .count) (omega arith), c .both .ensures, c .before .equal .ensures)
 
 pub entry-spec : {M : Type 1} → statement M

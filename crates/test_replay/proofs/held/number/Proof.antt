@@ -10,7 +10,9 @@ returns c = rw (← c .before .before .read-u32-le .ensures, c .enum-told .given
 
 returns-2 : tie.Need-returns-2
 unfolding numberHeld
-returns-2 c = rw (c .both .ensures, c .before .equal .ensures, ← c .before .before .before .before .before .read-u32-le .ensures, c .before .before .before .read .given .1)
+returns-2 c =
+    let at-read-u32-le = c .before .before .before .before .before in
+    rw (c .both .ensures, c .before .equal .ensures, ← at-read-u32-le .read-u32-le .ensures, c .before .before .before .read .given .1)
 
 pub number-spec : {M : Type 1} → statement M
 number-spec =

@@ -8,7 +8,8 @@ use Rattle.test_replay.proofs.held.refusal.Tie as tie
 returns : tie.Need-returns
 unfolding refusalHeld
 returns c =
-    let a = c .before .before .before .before .before .before .args in
+    let start = c .before .before .before .before .before .before in
+    let a = start .args in
     let s = a .list .now in
     c .wide .ensures ∙
     ap (λ (h : Held). wideHeld s h (a .refused .offset))

@@ -19,8 +19,9 @@ abbrev μ-loop : tie.MeasureT-loop
 
 loop-again : tie.Need-loop-again Inv-loop μ-loop
 loop-again c =
+    let start = c .before .before .before .before .before .before in
     let l = c .before .before .before .loop in
-    let a = c .before .before .before .before .before .before .args in
+    let a = start .args in
     let s = a .list .now in (
       omega arith,
       ap (λ (h : Held). tableFrom s h (l .i + 1) (a .count) (drop (l .i + 1) (a .table .now))) (c .entry .ensures) ∙
@@ -30,8 +31,9 @@ loop-again c =
 
 returns : tie.Need-returns Inv-loop μ-loop
 returns c =
+    let start = c .before .before .before .before in
     let l = c .before .loop in
-    let a = c .before .before .before .before .args in
+    let a = start .args in
     table-end (a .list .now) (a .table .now) (heldOut (l .so-far)) (a .count) (l .i) (omega arith) ∙ l .inv .1
 
 pub table-spec : {M : Type 1} → statement M

@@ -12,11 +12,22 @@ returns c = rw (← c .before .before .read-asked .ensures, c .enum-told .given 
 
 returns-2 : tie.Need-returns-2
 unfolding entryAt
-returns-2 c = rw (← c .before .before .before .before .before .before .before .before .before .before .before .before .before .before .before .read-asked .ensures, c .before .before .before .before .before .before .before .before .before .before .before .before .before .read .given .1, eq-eqb (c .before .before .before .before .before .before .before .before .before .before .before .before .before .read .given .0 .0 .decoder) 0 (omega arith)) (c .before .before .before .before .before .before .section .ensures)
+returns-2 c =
+    let at-section = c .before .before .before .before .before .before in
+    let on = at-section .before .before .before .before .before .before in
+    let at-read = on .before in
+    let at-read-asked = at-read .before .before in
+    rw (← at-read-asked .read-asked .ensures, at-read .read .given .1, eq-eqb (at-read .read .given .0 .0 .decoder) 0 (omega arith))
+    (at-section .section .ensures)
 
 returns-3 : tie.Need-returns-3
 unfolding entryAt
-returns-3 c = rw (← c .before .before .before .before .before .before .before .before .before .before .before .before .read-asked .ensures, c .before .before .before .before .before .before .before .before .before .before .read .given .1, ne-eqb (c .before .before .before .before .before .before .before .before .before .before .read .given .0 .0 .decoder) 0 (λ e. omega arith)) (c .before .before .before .before .block .ensures)
+returns-3 c =
+    let at-block = c .before .before .before .before in
+    let at-read = at-block .before .before .before .before .before .before in
+    let at-read-asked = at-read .before .before in
+    rw (← at-read-asked .read-asked .ensures, at-read .read .given .1, ne-eqb (at-read .read .given .0 .0 .decoder) 0 (λ e. omega arith))
+    (at-block .block .ensures)
 
 pub entry-spec : {M : Type 1} → statement M
 entry-spec =

@@ -27,43 +27,64 @@ loop-holds c = ((omega arith, omega arith), (refl, refl, refl), refl)
 
 loop-again : tie.Need-loop-again Inv-loop μ-loop
 loop-again c =
-    let l = c .before .before .before .before .before .before .before .before .before .before .before .before .before .before .loop in
-    let a = c .before .before .before .before .before .before .before .before .before .before .before .before .before .before .before .before .before .before .before .args in
-    let k = c .before .before .before .before .before .before .before .entry in
-    let e = sym (c .before .before .before .before .before .before .before .before .before .before .before .before .next-entry .ensures) ∙ c .before .before .before .before .before .before .before .before .before .before .before .if1 .taken in (
+    let on = c .before .before .before .before .before .before in
+    let at-entry = on .before in
+    let at-if1 = at-entry .before .before .before .before in
+    let at-next-entry = at-if1 .before in
+    let at-loop = at-next-entry .before .before in
+    let start = at-loop .before .before .before .before .before in
+    let l = at-loop .loop in
+    let a = start .args in
+    let k = at-entry .entry in
+    let e = sym (at-next-entry .next-entry .ensures) ∙ at-if1 .if1 .taken in (
       (omega arith, omega arith),
       (search needs, search needs, search needs),
-      replay-turn (a .list .now) (tablesOf (length (a .first .now)) (length (a .second .now)) (length (a .third .now))) (l .at) (record { same = l .same; others = l .others }) (l .turns) (heldOut (k .result)) true _ _ _ (l .inv .1 .0) (l .inv .1 .1) (l .inv .1 .2) (omega arith) e (k .ensures) (c .if2 .taken) ∙
+      replay-turn (a .list .now) (tablesOf (length (a .first .now)) (length (a .second .now)) (length (a .third .now))) (l .at)
+          (record { same = l .same; others = l .others }) (l .turns) (heldOut (k .result)) true _ _ _ (l .inv .1 .0) (l .inv .1 .1) (l .inv .1 .2)
+          (omega arith) e (k .ensures) (c .if2 .taken) ∙
           l .inv .2,
     )
 
 loop-again-2 : tie.Need-loop-again-2 Inv-loop μ-loop
 loop-again-2 c =
-    let l = c .before .before .before .before .before .before .before .before .before .before .before .before .before .before .loop in
-    let a = c .before .before .before .before .before .before .before .before .before .before .before .before .before .before .before .before .before .before .before .args in
-    let k = c .before .before .before .before .before .before .before .entry in
-    let e = sym (c .before .before .before .before .before .before .before .before .before .before .before .before .next-entry .ensures) ∙ c .before .before .before .before .before .before .before .before .before .before .before .if1 .taken in (
+    let on = c .before .before .before .before .before .before in
+    let at-entry = on .before in
+    let at-if1 = at-entry .before .before .before .before in
+    let at-next-entry = at-if1 .before in
+    let at-loop = at-next-entry .before .before in
+    let start = at-loop .before .before .before .before .before in
+    let l = at-loop .loop in
+    let a = start .args in
+    let k = at-entry .entry in
+    let e = sym (at-next-entry .next-entry .ensures) ∙ at-if1 .if1 .taken in (
       (omega arith, omega arith),
       (search needs, search needs, search needs),
-      replay-turn (a .list .now) (tablesOf (length (a .first .now)) (length (a .second .now)) (length (a .third .now))) (l .at) (record { same = l .same; others = l .others }) (l .turns) (heldOut (k .result)) false _ _ _ (l .inv .1 .0) (l .inv .1 .1) (l .inv .1 .2) (omega arith) e (k .ensures) (c .if2 .left) ∙
+      replay-turn (a .list .now) (tablesOf (length (a .first .now)) (length (a .second .now)) (length (a .third .now))) (l .at)
+          (record { same = l .same; others = l .others }) (l .turns) (heldOut (k .result)) false _ _ _ (l .inv .1 .0) (l .inv .1 .1) (l .inv .1 .2)
+          (omega arith) e (k .ensures) (c .if2 .left) ∙
           l .inv .2,
     )
 
 loop-again-3 : tie.Need-loop-again-3 Inv-loop μ-loop
 loop-again-3 c =
+    let on = c .before .before .before .before .before .before in
+    let start = on .before .before in
     let l = c .before .before .before .loop in
-    let a = c .before .before .before .before .before .before .before .before .args in
+    let a = start .args in
     let e = sym (c .before .next-entry .ensures) ∙ c .if1 .left in (
       (omega arith, omega arith),
       l .inv .1,
-      replay-done (a .list .now) (tablesOf (length (a .first .now)) (length (a .second .now)) (length (a .third .now))) (l .at) (record { same = l .same; others = l .others }) (l .turns) e ∙ l .inv .2,
+      replay-done (a .list .now) (tablesOf (length (a .first .now)) (length (a .second .now)) (length (a .third .now))) (l .at)
+          (record { same = l .same; others = l .others }) (l .turns) e ∙ l .inv .2,
     )
 
 returns : tie.Need-returns Inv-loop μ-loop
 returns c =
+    let start = c .before .before .before .before .before .before in
     let l = c .before .loop in
-    let a = c .before .before .before .before .before .before .args in
-    replay-end (a .list .now) (tablesOf (length (a .first .now)) (length (a .second .now)) (length (a .third .now))) (l .at) (record { same = l .same; others = l .others }) (l .turns) (omega arith) ∙ l .inv .2
+    let a = start .args in
+    replay-end (a .list .now) (tablesOf (length (a .first .now)) (length (a .second .now)) (length (a .third .now))) (l .at)
+    (record { same = l .same; others = l .others }) (l .turns) (omega arith) ∙ l .inv .2
 
 pub replay-spec : {M : Type 1} → statement M
 replay-spec =

@@ -9,21 +9,38 @@ use Rattle.test_replay.proofs.list.section.Statement.{statement}
 use Rattle.test_replay.proofs.list.section.Tie as tie
 
 slice-aggregate-section : tie.Need-slice-aggregate-section
-slice-aggregate-section c = sym (length-take-le (c .before .before .before .least .result) (c .before .before .before .before .before .before .before .before .before .before .args .first .now) (omega arith))
+slice-aggregate-section c =
+    let on = c .before .before .before .before .before .before in
+    let start = on .before .before .before .before in
+    sym (length-take-le (c .before .before .before .least .result) (start .args .first .now) (omega arith))
 
 slice-aggregate-section-2 : tie.Need-slice-aggregate-section-2
-slice-aggregate-section-2 c = sym (length-take-le (c .before .before .before .least2 .result) (c .before .before .before .before .before .before .before .before .before .before .before .args .second .now) (omega arith))
+slice-aggregate-section-2 c =
+    let on = c .before .before .before .before .before .before in
+    let start = on .before .before .before .before .before in
+    sym (length-take-le (c .before .before .before .least2 .result) (start .args .second .now) (omega arith))
 
 slice-aggregate-section-3 : tie.Need-slice-aggregate-section-3
-slice-aggregate-section-3 c = sym (length-take-le (c .before .before .before .least3 .result) (c .before .before .before .before .before .before .before .before .before .before .before .before .args .third .now) (omega arith))
+slice-aggregate-section-3 c =
+    let on = c .before .before .before .before .before .before in
+    let start = on .before .before .before .before .before .before in
+    sym (length-take-le (c .before .before .before .least3 .result) (start .args .third .now) (omega arith))
 
 returns : tie.Need-returns
 returns c =
-    let a = c .before .before .before .before .before .before .before .before .before .before .before .before .before .before .before .before .before .before .before .args in
-    let f = length-take-le (c .before .before .before .before .before .before .before .before .before .before .before .before .least .result) (a .first .now) (omega arith) ∙ c .before .before .before .before .before .before .before .before .before .before .before .before .least .ensures in
-    let g = length-take-le (c .before .before .before .before .before .before .before .before .before .before .before .least2 .result) (a .second .now) (omega arith) ∙ c .before .before .before .before .before .before .before .before .before .before .before .least2 .ensures in
-    let h = length-take-le (c .before .before .before .before .before .before .before .before .before .before .least3 .result) (a .third .now) (omega arith) ∙ c .before .before .before .before .before .before .before .before .before .before .least3 .ensures in
-    section-asked _ (askedOut (a .asked)) _ _ _ (c .before .before .before .before .before .before .before .before .before .before .before .before .before .before .diag-offset .ensures) (c .before .before .before .before .before .before .before .before .before .before .before .before .before .input .ensures) _ _ _ _ _ _ f g h (c .before .before .before .before .before .before .section .ensures)
+    let at-section = c .before .before .before .before .before .before in
+    let at-least3 = at-section .before .before .before .before in
+    let at-least2 = at-least3 .before in
+    let at-least = at-least2 .before in
+    let at-input = at-least .before in
+    let at-diag-offset = at-input .before in
+    let start = at-diag-offset .before .before .before .before .before in
+    let a = start .args in
+    let f = length-take-le (at-least .least .result) (a .first .now) (omega arith) ∙ at-least .least .ensures in
+    let g = length-take-le (at-least2 .least2 .result) (a .second .now) (omega arith) ∙ at-least2 .least2 .ensures in
+    let h = length-take-le (at-least3 .least3 .result) (a .third .now) (omega arith) ∙ at-least3 .least3 .ensures in
+    section-asked _ (askedOut (a .asked)) _ _ _ (at-diag-offset .diag-offset .ensures) (at-input .input .ensures) _ _ _ _ _ _ f g h
+    (at-section .section .ensures)
 
 pub section-spec : {M : Type 1} → statement M
 section-spec =

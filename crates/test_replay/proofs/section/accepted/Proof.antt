@@ -6,7 +6,21 @@ use Rattle.test_replay.proofs.section.accepted.Tie as tie
 
 returns : tie.Need-returns
 unfolding acceptedHeld
-returns c = rw (c .number8 .ensures, c .before .number7 .ensures, c .before .before .number6 .ensures, c .before .before .before .number5 .ensures, c .before .before .before .before .number4 .ensures, c .before .before .before .before .before .number3 .ensures, c .before .before .before .before .before .before .number2 .ensures, c .before .before .before .before .before .before .before .before .number .ensures)
+returns c =
+    let at-number4 = c .before .before .before .before in
+    let at-number3 = at-number4 .before in
+    let at-number2 = at-number3 .before in
+    let at-number = at-number2 .before .before in
+    rw (
+      c .number8 .ensures,
+      c .before .number7 .ensures,
+      c .before .before .number6 .ensures,
+      c .before .before .before .number5 .ensures,
+      at-number4 .number4 .ensures,
+      at-number3 .number3 .ensures,
+      at-number2 .number2 .ensures,
+      at-number .number .ensures,
+    )
 
 pub accepted-spec : {M : Type 1} → statement M
 accepted-spec =

@@ -7,9 +7,13 @@ use Rattle.test_replay.proofs.section.decoded.Tie as tie
 
 returns : tie.Need-returns
 returns c =
-    let k = c .before .before .before .before .before .before .before .before .before .before .before .decode-evr0-section in
+    let at-answer = c .before .before .before .before in
+    let on = at-answer .before .before .before .before .before .before in
+    let at-decode-evr0-section = on .before in
+    let k = at-decode-evr0-section .decode-evr0-section in
     let e = k .ensures in
-    section-held _ _ _ _ _ _ _ (answerOut (k .result)) _ _ _ _ _ (e .0) (e .1 .0) (e .1 .1 .0) (e .1 .1 .1 .0) (c .before .before .before .before .answer .ensures) (c .tables .ensures)
+    section-held _ _ _ _ _ _ _ (answerOut (k .result)) _ _ _ _ _ (e .0) (e .1 .0) (e .1 .1 .0) (e .1 .1 .1 .0) (at-answer .answer .ensures)
+    (c .tables .ensures)
 
 pub decoded-spec : {M : Type 1} → statement M
 decoded-spec =

@@ -1,7 +1,6 @@
 -- Meets its contract. The table keeps its length. The measure: the entries left.
 use borrow.Author.Needs.{needs}
-use native.Mathlib.Omega.{arith}
-use Prim.Native.Nat.{_+_, _-_, _≤_}
+use Prim.Native.Nat.{_-_, _≤_}
 use mathlib.Core.Path.{_≡_}
 use lib.ListN.{length}
 use Rattle.test_replay.proofs.section.old.Statement.{statement}
