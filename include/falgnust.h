@@ -25,6 +25,10 @@ extern "C" {
 #define FALGNUST_ASSERT _Static_assert
 #endif
 
+/* The version of this header: ten thousand times the first number, a hundred times the second, and the third. The first rises where a
+ * struct, an argument or an answer changes, and the second where something is added. */
+#define FALGNUST_VERSION 10000
+
 /* Layouts: the size of each struct below is that of the struct in crates/falgnust/src. */
 #define FALGNUST_SIZE(type, size) FALGNUST_ASSERT(sizeof(type) == (size), #type " has another layout")
 
@@ -48,6 +52,73 @@ typedef struct FalgnustRefusal {
     size_t offset;
 } FalgnustRefusal;
 FALGNUST_SIZE(FalgnustRefusal, 16);
+
+/* The message of each number, in the Rust's words; after those of 31 and 36 the Rust writes the count. 0 stands for no refusal. */
+static const char *const FALGNUST_MESSAGES[63] = {
+    "accepted",
+    "missing mandatory EVR0 section",
+    "EVR0 length truncated",
+    "EVR0 payload exceeds bounded section budget or is empty",
+    "EVR0 payload truncated",
+    "EVR0 truncated field",
+    "EVR0 empty or overlong text field",
+    "EVR0 invalid UTF-8",
+    "EVR0 control character in text field",
+    "EVR0 nonzero reserved bytes",
+    "unsupported EVR0 schema",
+    "EVR0 flags must be zero",
+    "EVR0 table count exceeds limit",
+    "EVR0 count exceeds remaining payload",
+    "EVR0 allocation budget exceeded",
+    "EVR0 work budget exceeded",
+    "EVR0 proposition table not strictly ordered",
+    "EVR0 proof identity or order invalid",
+    "EVR0 witness or parent ranges are not contiguous",
+    "EVR0 proof range exceeds table",
+    "EVR0 unknown proof rule",
+    "EVR0 invalid proof rule shape",
+    "EVR0 witness or parent table not fully owned",
+    "EVR0 witness identity, polarity or source span invalid",
+    "EVR0 payload has trailing bytes",
+    "EVR0 invalid or noncanonical parent reference",
+    "EVR0 parent identity or authority mismatch",
+    "EVR0 derivation depth limit exceeded",
+    "EVR0 witness and proof proposition mismatch",
+    "EVR0 witness polarity contradicts rule",
+    "missing string table header",
+    "too many strings in function: ",
+    "missing string length",
+    "string too long in function string table",
+    "invalid utf8 in string table",
+    "missing debug symbol count",
+    "too many debug symbols: ",
+    "missing debug pc",
+    "missing debug line",
+    "missing debug col",
+    "missing ownership path count",
+    "missing ownership event kind",
+    "missing borrow activation mode",
+    "missing borrow executable anchor",
+    "unrecognized borrow activation mode",
+    "missing write execution mode",
+    "missing write executable anchor",
+    "unrecognized write execution mode",
+    "missing ownership path root",
+    "missing ownership path component count",
+    "missing ownership path component kind",
+    "missing ownership tuple index",
+    "missing ownership field symbol",
+    "Write(AdtPayload) is not an admitted ownership path under any header revision",
+    "Borrow(AdtPayload) requires a header at or above SEMCODE_ADT_BORROW_OWNERSHIP_MIN_REVISION",
+    "missing ownership adt payload variant",
+    "missing ownership adt payload index",
+    "SequenceIndexStatic requires a header at or above SEMCODE_SEQUENCE_OWNERSHIP_MIN_REVISION",
+    "missing ownership sequence index",
+    "unsupported ownership path component kind",
+    "unsupported ownership event kind",
+    "lent table shorter than its count",
+    "number not in the accepted table"
+};
 
 /* ---- Evidence sections ----
  *
@@ -153,8 +224,8 @@ FalgnustParent falgnust_read_parent(const uint8_t *payload, size_t payload_len, 
 size_t falgnust_witness_place(size_t len, size_t witnesses, size_t parents, uint32_t number);
 size_t falgnust_parent_place(size_t len, size_t parents, uint32_t number);
 
-/* A record by its number. Each call decodes the section anew first, with the refusals and the tables of falgnust_decode_evr0_section; a
- * number that is not below its count is then refused with 62 at 0. */
+/* A record by its number. Each call decodes the section anew first, with the refusals and the tables of falgnust_decode_evr0_section, whose
+ * offsets are places in the bytes; a number that is not below its count is then refused with 62 at 0. */
 FalgnustProposition falgnust_proposition_number(
     const uint8_t *bytes, size_t bytes_len, size_t cursor, uint32_t number,
     uint64_t *propositions, size_t propositions_len,
@@ -319,13 +390,13 @@ FALGNUST_SIZE(FalgnustComponent, 48);
 /* A record at a place of a block that was decoded once: a string at an entry of the table of strings, a path at one of paths, symbol i at
  * debug_symbols_start + 10 * i, a path's components one after the other from components_start on. kind is the path's first byte, 0 for a
  * borrow and 1 for a write. The offset of a refusal is the place in the block, without a base. */
-FalgnustText falgnust_read_string(const uint8_t *code, size_t code_len, size_t at);
+FalgnustText falgnust_read_string(const uint8_t *bytes, size_t bytes_len, size_t at);
 FalgnustSymbol falgnust_read_debug_symbol(const uint8_t *code, size_t code_len, size_t at);
 FalgnustPath falgnust_read_path(const uint8_t *code, size_t code_len, size_t at, uint16_t header_rev);
 FalgnustComponent falgnust_read_component(const uint8_t *code, size_t code_len, size_t at, uint16_t header_rev, uint8_t kind);
 
-/* A record by its number. Each call decodes the block anew first, with the refusals and the tables of the block's decoder and room for 8192
- * symbols; a number that is not below its count is then refused with 62 at 0. */
+/* A record by its number. Each call decodes the block anew first, with the refusals and the tables of the block's decoder, base_offset in
+ * their offsets, and room for 8192 symbols; a number that is not below its count is then refused with 62 at 0. */
 FalgnustText falgnust_string_number(
     size_t base_offset, const uint8_t *code, size_t code_len, uint16_t header_rev, size_t number,
     uint64_t *strings, size_t strings_len,
@@ -346,7 +417,8 @@ FalgnustComponent falgnust_component_number(
 
 /* ---- Texts and fields ---- */
 
-/* A text of a section (a 2-byte length and 1 to 4096 bytes of UTF-8 without control characters) at a place; refusals 5 to 8. */
+/* A text of a section (a 2-byte length and 1 to 4096 bytes of UTF-8 without control characters) at a place of these bytes; refusals 5 to 8,
+ * whose offset is a place in these bytes and does not count from at. */
 FalgnustText falgnust_read_text(const uint8_t *bytes, size_t bytes_len, size_t at);
 
 /* The rest is there to compare the readers with the Rust's one by one; a caller needs none of it. */

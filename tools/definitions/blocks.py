@@ -3,8 +3,7 @@ import re
 
 from terms import listed, refused
 
-CRATES = ["local_format", "semcode_records", "semcode_decode"]
-DEPENDENCIES = ["local_format", "lent_table", "semcode_records", "semcode_decode"]
+CRATE = "semcode_decode"
 NAMES = ["startOf", "valueOf", "toldSymbol", "toldPath", "told", "rooms", "answer"]
 HEAD = """use Prim.Native.Nat.{ℕ}
 use mathlib.Core.Path.{_≡_, refl}

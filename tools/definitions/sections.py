@@ -1,8 +1,7 @@
 """Sections: `decodeSection`, with the cursor, the starts of propositions and proofs, and the depths."""
 from terms import listed, numbers, refused
 
-CRATES = ["local_format", "derivation", "evr0_section"]
-DEPENDENCIES = CRATES
+CRATE = "evr0_section"
 NAMES = ["startOf", "told", "room", "answer"]
 HEAD = """use Prim.Native.Nat.{ℕ}
 use mathlib.Core.Path.{_≡_, refl}

@@ -22,11 +22,19 @@ def unfoldable(repository, crate):
     return uses, names
 
 
+def with_dependencies(repository, crate):
+    """A crate and what it depends on, as crates.txt has it."""
+    lines = open(f"{repository}/crates.txt").read().splitlines()
+    (words,) = [line.split(":")[1] for line in lines if line.startswith(f"{crate}:")]
+    return [*words.split(), crate]
+
+
 def main():
     kind, repository = sys.argv[1:]
     form = {"section": sections, "block": blocks}[kind]
     uses, names = [], list(form.NAMES)
-    for crate in form.CRATES:
+    crates = with_dependencies(repository, form.CRATE)
+    for crate in crates:
         more = unfoldable(repository, crate)
         uses += more[0]
         names += more[1]
@@ -36,17 +44,17 @@ def main():
         text.append(f"case{number} : {form.question(question)} ≡ {form.answer(answer)}")
         text.append(f"unfolding {' '.join(names)}")
         text.append(f"case{number} = refl\n")
-    crate = f"{repository}/crates/{kind}_cases"
+    folder_of_cases = f"{repository}/crates/{kind}_cases"
     for folder, name, content in [
         ("src", "lib.rt", "// No code.\n"),
         ("specs", "Lib.antt", "pub mod Cases\n"),
         ("specs", "Cases.antt", "\n".join(text)),
     ]:
-        os.makedirs(f"{crate}/{folder}", exist_ok=True)
-        with open(f"{crate}/{folder}/{name}", "w") as out:
+        os.makedirs(f"{folder_of_cases}/{folder}", exist_ok=True)
+        with open(f"{folder_of_cases}/{folder}/{name}", "w") as out:
             out.write(content)
     with open(f"{repository}/crates.txt", "a") as out:
-        out.write(f"{kind}_cases: {' '.join(form.DEPENDENCIES)}\n")
+        out.write(f"{kind}_cases: {' '.join(crates)}\n")
     print(f"{len(cases)} {kind}s")
 
 

@@ -1,15 +1,17 @@
 #!/usr/bin/env python3
-"""Writes the list that the program `test_replay` replays: inputs with the Rust's answers.
+"""Writes the list that the program `test_replay` replays: inputs with their answers.
 
     tools/replay/make_list.py RUST_FOLDER
 
-RUST_FOLDER is a checkout of skulmakov-oss/Semantic at commit a38c216cab. The inputs and the answers come from tools/sample: so many small
-ones for each refusal number and condition, accepted ones, and its fixed inputs, which are every cut and one change of each byte of a few
-inputs and the run-only cases of document 01. The seed is fixed, so that a second run writes the same list.
-Writes crates/test_replay/stdin and crates/test_replay/stdout. An entry of the list is what crates/test_replay/src/asked.rt reads, and then the answer
-in the order in which crates/test_replay/src/section.rt and block.rt hold it against theirs: numbers of 4 bytes (offsets and cursors of 8),
-digests as they are, and the entries of the lent tables, which are lent a few entries longer than they need to be. The list is one of
-pages of 65,536 bytes, each of whole entries, filled up with bytes 255.
+RUST_FOLDER is a checkout of skulmakov-oss/Semantic at commit a38c216cab. The inputs are those of sections.py and blocks.py beside this file,
+those of docs/REFUSALS.md, and from tools/sample so many small ones for each refusal number and condition, accepted ones, and every cut and
+one change of each byte of a few. The answers are the Rust's, but for 61, which it does not have: short_section and short_block say where
+that is due. The seed is fixed, so that a second run writes the same list.
+
+Writes crates/test_replay/stdin and crates/test_replay/stdout. An entry of the list is what crates/test_replay/src/asked.rt reads, and then
+the answer in the order in which crates/test_replay/src/section.rt and block.rt hold it against theirs: numbers of 4 bytes (offsets and
+cursors of 8), digests as they are, and the entries of the lent tables, which are lent a few entries longer than they need to be where the
+input does not say. The list is one of pages of 262,144 bytes, each of whole entries, filled up with bytes 255.
 """
 import os
 import re
@@ -17,17 +19,25 @@ import struct
 import subprocess
 import sys
 
+sys.dont_write_bytecode = True
 TOP = os.path.dirname(os.path.dirname(os.path.dirname(os.path.abspath(__file__))))
-SAMPLES = ("section 1 16 480 300", "block 1 30 300 250", "fixed")
+sys.path.append(os.path.join(TOP, "tools", "refusals"))
+import blocks
+import inputs
+import sections
+
+SAMPLES = ("section 1 5 480 120", "block 1 12 300 120", "fixed")
 KINDS = ("Invalid", "Limit", "Strings", "Debug", "Ownership", "Added")
 SECTION, BLOCK = 0, 1
-PAGE, PAGES, END = 65536, 64, b"\xff"
+PAGE, PAGES, END = 262144, 15, b"\xff"
+LARGEST = 2**64 - 1
 
 
-def sample(words):
+def sample(words, asked=None):
     command = ["cargo", "run", "--offline", "--release", "--quiet", "--package", "sample", "--", *words.split()]
     source = dict(os.environ, SEMANTIC_SRC=os.path.realpath(sys.argv[1]))
-    return subprocess.run(command, cwd=os.path.join(TOP, "tools"), env=source, check=True, capture_output=True, text=True).stdout
+    tools = os.path.join(TOP, "tools")
+    return subprocess.run(command, cwd=tools, env=source, check=True, input=asked, stdout=subprocess.PIPE, text=True).stdout.splitlines()
 
 
 def numbers(*values):
@@ -36,6 +46,74 @@ def numbers(*values):
 
 def listed(text):
     return [int(item) for item in text.split(",") if item]
+
+
+def u16(data, at):
+    return int.from_bytes(data[at : at + 2], "little")
+
+
+def u32(data, at):
+    return int.from_bytes(data[at : at + 4], "little")
+
+
+# ---- 61: a lent table is shorter than its count. It comes after the other checks of the counts and before any record is read.
+
+
+def refusal_of(answer):
+    return int(answer.split(" ")[2]) if answer.startswith("refused") else 0
+
+
+def short_section(data, cursor, rooms, answer):
+    if 1 <= refusal_of(answer) <= 15 and not records_begun(data, cursor, answer):
+        return answer
+    after = counts_end(data, cursor)
+    propositions, proofs = u32(data, after - 16), u32(data, after - 12)
+    if rooms[0] < propositions or rooms[1] < proofs or rooms[2] < proofs:
+        return f"refused Added 61 {after}"
+    return answer
+
+
+def counts_end(data, cursor):
+    """After schema, flags, digests, epoch, two texts and four counts."""
+    at = cursor + 8 + 70
+    at += 2 + u16(data, at)
+    return at + 2 + u16(data, at) + 16
+
+
+def records_begun(data, cursor, answer):
+    """Whether a refusal from 5 to 9 is one of a record: the counts are then passed, and its offset stands after them."""
+    number, offset = refusal_of(answer), int(answer.split(" ")[3])
+    return 5 <= number <= 9 and offset >= counts_end(data, cursor)
+
+
+def short_block(data, base, rooms, answer):
+    refused = refusal_of(answer)
+    at = 2
+    if refused in (30, 31):
+        return answer
+    strings = u16(data, 0)
+    if rooms[0] < strings:
+        return f"refused Added 61 {min(base + at, LARGEST)}"
+    if 30 <= refused <= 34:
+        return answer
+    for _ in range(strings):
+        at += 2 + u16(data, at)
+    if data[at : at + 4] == b"DBG0":
+        if refused in (35, 36):
+            return answer
+        symbols = u16(data, at + 4)
+        at += 6
+        if rooms[1] < symbols:
+            return f"refused Added 61 {min(base + at, LARGEST)}"
+        at += 10 * symbols
+    if refused in (37, 38, 39, 40):
+        return answer
+    if data[at : at + 4] == b"OWN0" and rooms[2] < u16(data, at + 4):
+        return f"refused Added 61 {min(base + at + 6, LARGEST)}"
+    return answer
+
+
+# ---- Entries of the list
 
 
 def asked(decoder, revision, origin, rooms, data):
@@ -47,11 +125,13 @@ def refused(answer):
     return numbers(int(number), KINDS.index(kind)) + struct.pack("<Q", int(offset))
 
 
-def section(data, cursor, answer):
-    # a proposition takes 15 bytes at least and a proof 35, and larger counts are refused before the lent lengths are asked
-    more = len(data) % 3
-    rooms = (len(data) // 15 + 1, len(data) // 35 + 1 + more, len(data) // 35 + 3 - more)
-    if answer.startswith("refused"):
+def section(data, cursor, rooms, answer):
+    if rooms:
+        answer = short_section(data, cursor, rooms, answer)
+    else:  # a proposition takes 15 bytes at least and a proof 35, and larger counts are refused before the lent lengths are asked
+        more = len(data) % 3
+        rooms = (len(data) // 15 + 1, len(data) // 35 + 1 + more, len(data) // 35 + 3 - more)
+    if refusal_of(answer):
         told = refused(answer) + struct.pack("<Q", cursor) + bytes(64)
     else:
         f = dict(item.split("=", 1) for item in answer.split(" ")[1:])
@@ -59,10 +139,6 @@ def section(data, cursor, answer):
         told += struct.pack("<Q", int(f["cursor"])) + bytes.fromhex(f["source_set"]) + bytes.fromhex(f["compiler_contract"])
         told += numbers(*listed(f["propositions"]), *listed(f["proofs"]), *listed(f["depths"]))
     return asked(SECTION, 0, cursor, rooms, data) + told
-
-
-def u16(data, at):
-    return int.from_bytes(data[at : at + 2], "little")
 
 
 def path_count(data):
@@ -75,12 +151,14 @@ def path_count(data):
     return u16(data, at + 4) if data[at : at + 4] == b"OWN0" else 0
 
 
-def block(data, base, revision, answer):
-    more = len(data) % 3
-    number = int(answer.split(" ")[2]) if answer.startswith("refused") else 0
-    paths = path_count(data) if number == 0 or number > 40 else 0
-    rooms = (256 + more, 8192, min(paths + more, 65535))
-    if number:
+def block(data, base, revision, rooms, answer):
+    if rooms:
+        answer = short_block(data, base, rooms, answer)
+    else:
+        more, number = len(data) % 3, refusal_of(answer)
+        paths = path_count(data) if number == 0 or number > 40 else 0
+        rooms = (256 + more, 8192, min(paths + more, 65535))
+    if refusal_of(answer):
         told = refused(answer)
     else:
         f = dict(re.findall(r"(\w+)=(.*?)(?= \w+=|$)", answer))
@@ -93,33 +171,59 @@ def block(data, base, revision, answer):
     return asked(BLOCK, revision, base, rooms, data) + told
 
 
-def entry(line):
+def entry(line, rooms=None):
     question, answer = line.split("\t")
     kind, text, *origin = question.split(" ")
     data, origin = bytes.fromhex(text), [int(n) for n in origin]
-    return section(data, *origin, answer) if kind == "section" else block(data, *origin, answer)
+    return section(data, *origin, rooms, answer) if kind == "section" else block(data, *origin, rooms, answer)
+
+
+# ---- The inputs
+
+
+def of_refusals():
+    """The inputs of docs/REFUSALS.md that no record is asked of by its number."""
+    for case in inputs.cases():
+        if not case.asked:
+            rooms = None if case.rooms == inputs.LONGEST[case.form] else case.rooms
+            yield (case.form, case.data, 0, *((case.revision,) if case.form == "block" else ()), rooms)
+
+
+def given():
+    """Each input once, with the lengths that it is lent."""
+    found = [("section", *i) for i in sections.inputs()] + [("block", *i) for i in blocks.inputs()] + list(of_refusals())
+    found = list(dict.fromkeys(found))
+    lines = [" ".join([form, data.hex(), *map(str, origin)]) for form, data, *origin, _ in found]
+    answers = sample("given", "\n".join(lines) + "\n")
+    assert len(answers) == len(found)
+    return [entry(line, rooms) for line, (*_, rooms) in zip(answers, found)]
 
 
 def paged(entries):
+    """Long entries first, so that pages are filled; then those that fit."""
     pages = [b""]
-    for e in entries:
-        if len(pages[-1]) + len(e) > PAGE:
-            pages[-1] = pages[-1].ljust(PAGE, END)
-            pages.append(b"")
-        pages[-1] += e
-    assert len(pages) <= PAGES and all(len(page) <= PAGE for page in pages)
-    return b"".join(pages)
+    for e in sorted(entries, key=len, reverse=True):
+        assert len(e) <= PAGE
+        place = next((n for n, page in enumerate(pages) if len(page) + len(e) <= PAGE), None)
+        if place is None:
+            pages.append(e)
+        else:
+            pages[place] += e
+    assert len(pages) <= PAGES
+    return b"".join(page.ljust(PAGE, END) for page in pages[:-1]) + pages[-1]
 
 
 def main():
     if len(sys.argv) != 2:
         sys.exit(__doc__)
-    entries = [entry(line) for words in SAMPLES for line in sample(words).splitlines()]
+    entries = given() + [entry(line) for words in SAMPLES for line in sample(words)]
+    entries = list(dict.fromkeys(entries))
     folder = os.path.join(TOP, "crates", "test_replay")
     with open(os.path.join(folder, "stdin"), "wb") as out:
         out.write(paged(entries))
     with open(os.path.join(folder, "stdout"), "w") as out:
-        out.write(f"{len(entries)} answers as the Rust's, 0 others\n")
+        out.write(f"{len(entries)} answers agree\n")
 
 
-main()
+if __name__ == "__main__":
+    main()

@@ -1,5 +1,5 @@
-//! The C functions of crates/falgnust, as they are: each is proved there to give the answer of a definition. Nothing checks these
-//! declarations against the Rattle source, so they keep to its order and names.
+//! The C functions of crates/falgnust, as they are: each is proved there to give the answer of a definition. These declarations keep to
+//! the order and names of the Rattle source; `tools/declarations/check` compares them.
 //!
 //! A slice is a pointer and a length. A pointer has to be valid for its length, and a table that is lent (`*mut`) may overlap neither
 //! another one nor the bytes. An answer is a flat struct: `accepted`, then a refusal that is all zeros where `accepted` holds, then values

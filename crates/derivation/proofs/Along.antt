@@ -12,7 +12,7 @@ use borrow.Author.Tests.{eqb-true}
 use Rattle.derivation.specs.Rule.{Rule, Shaped, byWitness, byParents, polarityFits}
 use Rattle.derivation.specs.Section.{Section, Checked, proofAt, parentAt, proofTotal, OwnsParent, OwnsWitness}
 use Rattle.derivation.specs.Walk.{Walk, stay, move, AtEnd, Same, Witnessed, Fails, long, strays, unwitnessed, NoWalkFails, ParentsBelow, JoinsRise}
-use Rattle.derivation.specs.Demand.{Ending, Leads, Derivable}
+use Rattle.derivation.specs.Demand.{Ending, NoParentLeft, Leads, Derivable}
 use Rattle.derivation.proofs.Tests.{either, order}
 use Rattle.derivation.proofs.Owners.{witness-there}
 use Rattle.derivation.proofs.Sound.{Sound}
@@ -108,15 +108,28 @@ module _ (s : Section) (checked : Checked s) (D : ℕ → ℕ) (sound : (i : ℕ
       let v = walk-append w (r .2) in
       record { more = r .0; last = r .1; walk = v; end = r .3; witnessed = at-end v (r .3); moves = moves-along v }
 
-  pub leads : (i : ℕ) (cs : List ℕ) (k : ℕ) → Walk s i cs k → Leads s i cs k
+  pub leads : (i : ℕ) (cs : List ℕ) (k : ℕ) → Walk s i cs k → Leads s i k
   leads i cs k w =
       record {
         same = same-along w;
-        moves = moves-along w;
         pickable = λ c o. let p = pick k c (walk-end w) o in (parentAt s c, p .0, p .1);
         witnessed = at-end w;
-        ending = ending w;
       }
+
+  -- 255 moves take a depth of 256 down to 1, which no proof with a parent has
+  at-255 : {i k : ℕ} {cs : List ℕ} → Walk s i cs k → length cs ≡ 255 → AtEnd s k
+  unfolding AtEnd
+  at-255 {i} {k} w e =
+      ⊎-elim
+      (λ g. omega arith)
+      (λ g.
+      let o : OwnsParent s k (proofAt s k .firstParent) = first-owned s k g in
+      let p = pick k (proofAt s k .firstParent) (walk-end w) o in
+      absurd (omega (arith, depth-along w, sound i (walk-start w) .shallow, sound k (walk-end w) .deeper _ o, positive _ (p .0))))
+      (order (proofAt s k .parentCount) 0)
+
+  pub no-parent-left : NoParentLeft s
+  no-parent-left = record { moves = λ i cs k. moves-along; last = λ i cs k. at-255; ending = λ i cs k. ending }
 
   fails-not : (i : ℕ) (cs : List ℕ) (k : ℕ) → Walk s i cs k → Fails s i cs → ⊥
   fails-not i cs k w (long h) = omega (arith, moves-along w)

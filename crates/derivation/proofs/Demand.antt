@@ -8,9 +8,9 @@ use Rattle.local_format.specs.Out.{ok}
 use Rattle.derivation.specs.Section.{Section, Checked, proofAt, proofTotal, OwnsParent}
 use Rattle.derivation.specs.Pass.{depths}
 use Rattle.derivation.specs.Walk.{Walk, AtEnd}
-use Rattle.derivation.specs.Demand.{Leads, Derivable, Depth, Depths}
+use Rattle.derivation.specs.Demand.{NoParentLeft, Leads, Derivable, Depth, Depths}
 use Rattle.derivation.proofs.Sound.{Sound, depthAt, pass-sound}
-use Rattle.derivation.proofs.Along.{leads, derivable, first-owned}
+use Rattle.derivation.proofs.Along.{leads, no-parent-left, derivable, first-owned}
 use Rattle.derivation.proofs.Complete.{accepts}
 
 module _ (cellsAt : ℕ) (s : Section) (checked : Checked s) where
@@ -19,8 +19,11 @@ module _ (cellsAt : ℕ) (s : Section) (checked : Checked s) where
     sound = pass-sound cellsAt s (checked .proofNumber) ds accepted .1
 
     -- from every proof and whichever parents are picked
-    pub walks-lead : (i : ℕ) (cs : List ℕ) (k : ℕ) → Walk s i cs k → Leads s i cs k
+    pub walks-lead : (i : ℕ) (cs : List ℕ) (k : ℕ) → Walk s i cs k → Leads s i k
     walks-lead = leads s checked (depthAt ds) sound
+
+    pub walks-end : NoParentLeft s
+    walks-end = no-parent-left s checked (depthAt ds) sound
 
     depth-of : (i : ℕ) → i < proofTotal s → Depth s ds i
     unfolding AtEnd

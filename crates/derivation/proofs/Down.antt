@@ -16,7 +16,7 @@ use Rattle.derivation.specs.Demand.{Leads}
 use Rattle.derivation.specs.Down.{Down, witness, spent, downFrom, wayDown, firstPicks, Tells, ends, goesOn}
 use Rattle.derivation.proofs.Tests.{order}
 use Rattle.derivation.proofs.Along.{walk-append, walk-end, first-owned}
-use Rattle.derivation.proofs.Demand.{walks-lead}
+use Rattle.derivation.proofs.Demand.{walks-lead, walks-end}
 
 first-picks-length : (s : Section) (n i : ℕ) → length (firstPicks s n i) ≡ n
 unfolding firstPicks
@@ -29,7 +29,7 @@ data TellsFrom (s : Section) (limit i moves : ℕ) : Down → Type 0 where
   over : (k : ℕ) → Walk s i (firstPicks s limit i) k → 0 < proofAt s k .parentCount → TellsFrom s limit i moves (spent k)
 
 module _ (cellsAt : ℕ) (s : Section) (checked : Checked s) (ds : List ℕ) (accepted : depths cellsAt s ≡ ok ds) where
-  lead : (i : ℕ) (cs : List ℕ) (k : ℕ) → Walk s i cs k → Leads s i cs k
+  lead : (i : ℕ) (cs : List ℕ) (k : ℕ) → Walk s i cs k → Leads s i k
   lead = walks-lead cellsAt s checked ds accepted
 
   -- the first parent of a proof that has one
@@ -83,7 +83,7 @@ module _ (cellsAt : ℕ) (s : Section) (checked : Checked s) (ds : List ℕ) (ac
       let v = walk-append w (first-move k _ [] (walk-end w) z (stay (first-there k (walk-end w) z))) in
       omega (
         arith,
-        lead i _ _ v .moves,
+        walks-end cellsAt s checked ds accepted .moves i _ _ v,
         length-append (firstPicks s limit i) (proofAt s k .firstParent ∷ []),
         first-picks-length s limit i,
       )

@@ -15,14 +15,18 @@ pub record Ending (s : Section) (i : ℕ) (cs : List ℕ) : Type 0 where
   pub witnessed : Witnessed s i last
   pub moves : length (cs ++ more) ≤ 255
 
--- where the walk from i with the picks cs, which reaches k, leads
-pub record Leads (s : Section) (i : ℕ) (cs : List ℕ) (k : ℕ) : Type 0 where
+-- after at most 255 moves no parent is left: no walk is longer, one of 255 moves is at its end, and every walk goes on to an end
+pub record NoParentLeft (s : Section) : Type 0 where
+  pub moves : (i : ℕ) (cs : List ℕ) (k : ℕ) → Walk s i cs k → length cs ≤ 255
+  pub last : (i : ℕ) (cs : List ℕ) (k : ℕ) → Walk s i cs k → length cs ≡ 255 → AtEnd s k
+  pub ending : (i : ℕ) (cs : List ℕ) (k : ℕ) → Walk s i cs k → Ending s i cs
+
+-- where a walk from i that reaches k leads
+pub record Leads (s : Section) (i k : ℕ) : Type 0 where
   pub same : Same s i k
-  pub moves : length cs ≤ 255
   -- each parent cell of the proof reached can be picked
   pub pickable : (c : ℕ) → OwnsParent s k c → (j : ℕ) × (j < proofTotal s) × (proofAt s j .number ≡ parentAt s c)
   pub witnessed : AtEnd s k → Witnessed s i k
-  pub ending : Ending s i cs
 
 -- exactly one proof owns
 pub record OneOwner (s : Section) (Owns : ℕ → Type 0) : Type 0 where

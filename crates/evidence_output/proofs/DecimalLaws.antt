@@ -4,9 +4,10 @@ use mathlib.Core.Path.{_≡_, refl, sym, ap, _∙_}
 use mathlib.Core.List.{List, [], _∷_, _++_, append-nil, append-assoc}
 use mathlib.Core.Bool.{Bool, true, false}
 use native.Mathlib.Omega.{arith}
-use native.Mathlib.Nat.{pow-succ'}
+use native.Mathlib.Nat.{pow-succ', one-le-pow}
 use lib.ListN.{length, length-append}
 use lib.Dec.{ltb}
+use Rattle.io.specs.Digits.{digits, Fewest}
 use borrow.Author.Tests.{lt-ltb, le-ltb, ltb-true, ltb-false}
 use Rattle.evidence_output.specs.Decimal.{digit, digitsBelow, decimal, Digits, none, also, valueAfter, Leads, alone, first, Numeral}
 
@@ -30,6 +31,22 @@ decimal-small n h = simp (lt-ltb n 10 h)
 pub decimal-large : (n : ℕ) → 10 ≤ n → decimal n ≡ decimal (n / 10) ++ (digit (n % 10) ∷ [])
 unfolding decimal digitsBelow
 decimal-large n h = simp (le-ltb n 10 h, bounds n (suc (n / 10)) (n / 10) (omega arith) (omega arith))
+
+-- the kit's digits, as many as a number has
+digits-decimal : (k n : ℕ) → n < 10 ^ suc k → (0 < k → 10 ^ k ≤ n) → digits 10 (suc k) n ≡ decimal n
+digits-decimal zero n h l = rw (decimal-small n h, lt-ltb (n % 10) 10 (omega arith))
+digits-decimal (suc k) n h l =
+    let p : 10 ^ suc (suc k) ≡ 10 * 10 ^ suc k = pow-succ' 10 (suc k) in
+    let q : 10 ^ suc k ≡ 10 * 10 ^ k = pow-succ' 10 k in
+    let large : 10 ^ suc k ≤ n = l (omega arith) in
+    let least : 1 ≤ 10 ^ k = one-le-pow k 10 (omega arith) in
+    rw (decimal-large n (omega arith), ← digits-decimal k (n / 10) (omega arith) (λ z. omega arith), lt-ltb (n % 10) 10 (omega arith))
+
+pub fewest-decimal : (n k : ℕ) → Fewest 10 1 n k → digits 10 k n ≡ decimal n
+fewest-decimal n zero f = absurd (omega (arith, f .0))
+fewest-decimal n (suc k) f =
+    let e : suc k - 1 ≡ k = omega arith in
+    digits-decimal k n (f .1) (λ h. rw e at (f .2 (omega arith)))
 
 -- ---- The numeral of a number
 

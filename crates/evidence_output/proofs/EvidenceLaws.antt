@@ -16,15 +16,15 @@ use Rattle.evr0_section.specs.Section.{Section, decodeSection}
 use Rattle.evr0_section.proofs.RowsLaws.{trace}
 use Rattle.evr0.specs.Answer as answer
 use Rattle.evr0.specs.Answer.{answerOf, proofStarts, proofDepths}
-use Rattle.evr0.specs.Maps.{startsOf}
+use Rattle.evr0_section.specs.Rows.{startsOf}
 use Rattle.evidence_output.specs.Listed.{linesAt}
-use Rattle.evidence_output.specs.Output.{line, tooLong, refusedWord, headLine, printed, enough, outputOf}
+use Rattle.evidence_output.specs.Output.{spaced, line, tooLong, refusedWord, headLine, printed, enough, outputOf}
 use Rattle.evr0_read.proofs.AcceptedLaws.{payloadTo, Accepted, accepted}
 use Rattle.evidence_output.proofs.ListedLaws.{lines-of-table}
 use Rattle.evidence_output.proofs.OutputLength.{proofs-few, records-few}
 
-pub too-long : (s : List ℕ) → 65536 < length s → line tooLong [] ≡ outputOf s
-unfolding outputOf
+pub too-long : (s : List ℕ) → 65536 < length s → tooLong ++ (0x0A ∷ []) ≡ outputOf s
+unfolding outputOf line spaced
 too-long s h = rw (lt-leb (length s) 65536 h)
 
 -- the front of a lent table

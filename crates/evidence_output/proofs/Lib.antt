@@ -1,10 +1,8 @@
 pub mod WrittenLaws
 pub mod DecimalLaws
 pub mod LineLaws
-pub mod NumberLaws
 pub mod Enough
 pub mod OffsetLaws
 pub mod OutputLength
 pub mod ListedLaws
-pub mod Printed
 pub mod EvidenceLaws

@@ -8,12 +8,12 @@ use lib.ListN.{length, getD, take, drop}
 use lib.Seq.{take-nil, take-suc, length-take-le}
 use Rattle.local_format.specs.Out.{Out}
 use Rattle.derivation.specs.Rule.{Rule}
-use Rattle.evr0_section.specs.Rows.{Sized, Entry}
+use Rattle.evr0_section.specs.Rows.{Sized, Entry, startsOf}
 use Rattle.evr0_section.specs.Head.{Counts}
 use Rattle.evr0_section.specs.Proof.{ProofRecord, Settled, Unowned, proofOf, proofRow}
 use Rattle.evr0_section.proofs.RowChecks.{proof-behind}
 use Rattle.evr0_section.proofs.RowsLaws.{Trace, none, more}
-use Rattle.evr0_section.proofs.Progress.{startsOf}
+use Rattle.evr0_section.specs.Rows.{startsOf}
 use Rattle.evidence_output.specs.Output.{proofLine, proofLines}
 use Rattle.evidence_output.specs.Listed.{recordLine, linesAt}
 use Rattle.evidence_output.specs.Written.{Written}

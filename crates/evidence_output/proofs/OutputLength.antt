@@ -4,6 +4,7 @@ use mathlib.Core.Path.{_≡_, refl}
 use mathlib.Core.Bool.{Bool, true, false, cond}
 use mathlib.Core.List.{List, [], _∷_, _++_}
 use native.Mathlib.Omega.{arith}
+use native.Mathlib.Nat.{le-trans}
 use lib.ListN.{length, getD, take, drop, length-append, length-take, length-drop}
 use lib.Dec.{leb}
 use borrow.Author.Tests.{leb-true}
@@ -30,6 +31,8 @@ use Rattle.evidence_output.specs.Output.{spaced, line, proofLine, proofL
 use Rattle.evr0_read.proofs.AcceptedLaws.{payloadTo, accepted}
 use Rattle.evidence_output.proofs.Enough.{refused-upto-29}
 use Rattle.evidence_output.proofs.OffsetLaws.{offset-within}
+use Rattle.evidence_output.specs.Written.{Written}
+use Rattle.evidence_output.proofs.WrittenLaws.{written-whole}
 use Rattle.evidence_output.proofs.DecimalLaws.{decimal-length}
 
 -- ---- A line
@@ -44,7 +47,7 @@ unfolding spaced
 spaced-length none = omega arith
 spaced-length (also {n} {ns} h r) = rw length-append (omega (arith, decimal-length 9 n h, spaced-length r))
 
-pub line-length : (start : List ℕ) {ns : List ℕ} → Short ns → length (line start ns) ≤ length start + 11 * length ns + 1
+line-length : (start : List ℕ) {ns : List ℕ} → Short ns → length (line start ns) ≤ length start + 11 * length ns + 1
 unfolding line
 line-length start {ns} h = rw (length-append, length-append) (omega (arith, spaced-length h))
 
@@ -191,3 +194,8 @@ output-length s bytes = go (leb (length s) 65536) refl
     go : (t : Bool) → leb (length s) 65536 ≡ t → length (cond t (printed (decodeSection enough s 0)) (line tooLong [])) ≤ 103020
     go true e = printed-length s (leb-true (length s) 65536 e) bytes (decodeSection enough s 0) refl
     go false e = omega (arith, line-length tooLong none)
+
+-- what is in the buffer after `evidence` is the whole output
+pub whole-output : (s : List ℕ) → Bytes s → {before after : List ℕ} {n : ℕ} → 103020 ≤ length before → Written before 0 (outputOf s) after n
+    → take n after ≡ outputOf s
+whole-output s bytes h w = written-whole w (le-trans (output-length s bytes) h)

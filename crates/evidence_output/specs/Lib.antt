@@ -1,5 +1,4 @@
 pub mod Decimal
 pub mod Written
 pub mod Output
-pub mod Runs
 pub mod Listed

@@ -29,7 +29,7 @@ spaced (n ∷ ns) = 0x20 ∷ decimal n ++ spaced ns
 
 -- a line: what it starts with, then numbers, each after a space, and a newline
 unfoldable pub line : List ℕ → List ℕ → List ℕ
-line start ns = start ++ spaced ns ++ (0x0A ∷ [])
+line start ns = start ++ (spaced ns ++ (0x0A ∷ []))
 
 -- number, proposition, authority, depth, witness count
 unfoldable pub proofLine : ProofRecord → ℕ → List ℕ

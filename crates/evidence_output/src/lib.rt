@@ -1,5 +1,4 @@
 // The program's work: from the bytes of its input to those of its output.
-mod decimal;
 mod line;
 mod listed;
 mod write;
@@ -44,7 +43,7 @@ pub fn evidence(input: &[u8], output: &mut [u8]) -> usize
     ensures { λ r. ⌜ Written (now (output .entry)) 0 (outputOf (now (input .entry))) (now (output .exit)) r ⌝ }
 {
     if 65536 < input.len() {
-        return crate::line::put_too_long(output);
+        return crate::write::put_bytes(output, 0, b"too long\n");
     }
     let mut propositions = [0u64; 4369];
     let mut proofs = [0u64; 1872];
@@ -59,7 +58,12 @@ pub fn evidence(input: &[u8], output: &mut [u8]) -> usize
     let outcome = decoded.outcome;
     match outcome {
         Outcome::Refused(refusal) => {
-            crate::line::put_refused(output, refusal.number as usize, refusal.offset)
+            crate::line::put_line(
+                output,
+                0,
+                b"refused",
+                &[refusal.number as usize, refusal.offset],
+            )
         }
         Outcome::Accepted(accepted) => {
             let counts = accepted.counts;

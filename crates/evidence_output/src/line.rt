@@ -1,13 +1,20 @@
 // The lines that `evidence` prints.
-ghost use mathlib.Core.List.{[], _∷_};
+ghost use mathlib.Core.List.{[], _∷_, _++_};
 ghost use Rattle.evr0_head.specs.Maps.{countsOut};
 ghost use Rattle.evidence_output.specs.Decimal.{decimal};
-ghost use Rattle.evidence_output.specs.Output.{spaced, line, tooLong, refusedWord, headLine};
+ghost use Rattle.evidence_output.specs.Output.{spaced, line, headLine};
 ghost use Rattle.evidence_output.specs.Written.{Written};
-use crate::decimal::put_decimal;
 use crate::write::put;
 use crate::write::put_bytes;
 use evr0_head::counts::Counts;
+
+fn put_decimal(out: &mut [u8], at: usize, n: usize) -> usize
+    ensures { λ r. ⌜ Written (now (out .entry)) at (decimal n) (now (out .exit)) r ⌝ }
+{
+    let mut text = [0u8; 20];
+    let len = io::decimal(n as u64, &mut text);
+    put_bytes(out, at, &text[..len])
+}
 
 // A number after a space.
 fn put_number(out: &mut [u8], at: usize, n: usize) -> usize
@@ -17,46 +24,49 @@ fn put_number(out: &mut [u8], at: usize, n: usize) -> usize
     put_decimal(out, next, n)
 }
 
-// Four numbers, each after a space.
-fn put_four(out: &mut [u8], at: usize, a: usize, b: usize, c: usize, d: usize) -> usize
-    ensures { λ r. ⌜ Written (now (out .entry)) at (spaced (a ∷ b ∷ c ∷ d ∷ [])) (now (out .exit)) r ⌝ }
+// Numbers, each after a space.
+fn put_numbers(out: &mut [u8], at: usize, numbers: &[usize]) -> usize
+    ensures { λ r. ⌜ Written (now (out .entry)) at (spaced (now (numbers .entry))) (now (out .exit)) r ⌝ }
 {
-    let b_at = put_number(out, at, a);
-    let c_at = put_number(out, b_at, b);
-    let d_at = put_number(out, c_at, c);
-    put_number(out, d_at, d)
+    let mut next = at;
+    let mut i: usize = 0;
+    while i < numbers.len() {
+        next = put_number(out, next, numbers[i]);
+        i += 1;
+    }
+    next
 }
 
-pub fn put_too_long(out: &mut [u8]) -> usize
-    ensures { λ r. ⌜ Written (now (out .entry)) 0 (line tooLong []) (now (out .exit)) r ⌝ }
+// A line but for what it starts with.
+fn end_line(out: &mut [u8], at: usize, numbers: &[usize]) -> usize
+    ensures { λ r. ⌜ Written (now (out .entry)) at (spaced (now (numbers .entry)) ++ (0x0A ∷ [])) (now (out .exit)) r ⌝ }
 {
-    let end = put_bytes(out, 0, b"too long");
+    let end = put_numbers(out, at, numbers);
     put(out, end, b'\n')
 }
 
-pub fn put_refused(out: &mut [u8], number: usize, offset: usize) -> usize
-    ensures { λ r. ⌜ Written (now (out .entry)) 0 (line refusedWord (number ∷ offset ∷ [])) (now (out .exit)) r ⌝ }
+pub fn put_line(out: &mut [u8], at: usize, start: &[u8], numbers: &[usize]) -> usize
+    ensures { λ r. ⌜ Written (now (out .entry)) at (line (now (start .entry)) (now (numbers .entry))) (now (out .exit)) r ⌝ }
 {
-    let number_at = put_bytes(out, 0, b"refused");
-    let offset_at = put_number(out, number_at, number);
-    let end = put_number(out, offset_at, offset);
-    put(out, end, b'\n')
+    let numbers_at = put_bytes(out, at, start);
+    end_line(out, numbers_at, numbers)
 }
 
 pub fn put_head(out: &mut [u8], counts: Counts, cursor: usize) -> usize
     ensures { λ r. ⌜ Written (now (out .entry)) 0 (headLine (countsOut counts) cursor) (now (out .exit)) r ⌝ }
 {
-    let counts_at = put_bytes(out, 0, b"EVR0");
-    let cursor_at = put_four(
+    put_line(
         out,
-        counts_at,
-        counts.propositions,
-        counts.proofs,
-        counts.witnesses,
-        counts.parents,
-    );
-    let end = put_number(out, cursor_at, cursor);
-    put(out, end, b'\n')
+        0,
+        b"EVR0",
+        &[
+            counts.propositions,
+            counts.proofs,
+            counts.witnesses,
+            counts.parents,
+            cursor,
+        ],
+    )
 }
 
 pub fn put_proof(
@@ -68,9 +78,9 @@ pub fn put_proof(
     depth: usize,
     witnesses: usize,
 ) -> usize
-    ensures { λ r. ⌜ Written (now (out .entry)) at (line (decimal number) (proposition ∷ authority ∷ depth ∷ witnesses ∷ [])) (now (out .exit)) r ⌝ }
+    ensures { λ r.
+        ⌜ Written (now (out .entry)) at (line (decimal number) (proposition ∷ authority ∷ depth ∷ witnesses ∷ [])) (now (out .exit)) r ⌝ }
 {
     let rest_at = put_decimal(out, at, number);
-    let end = put_four(out, rest_at, proposition, authority, depth, witnesses);
-    put(out, end, b'\n')
+    end_line(out, rest_at, &[proposition, authority, depth, witnesses])
 }

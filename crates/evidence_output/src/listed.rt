@@ -3,7 +3,7 @@ ghost use lib.ListN.{drop};
 ghost use Rattle.evr0_section.specs.Proof.{proofOf};
 ghost use Rattle.evidence_output.specs.Listed.{recordLine, linesAt};
 ghost use Rattle.evidence_output.specs.Written.{Written};
-use evr0_head::number::wide;
+use evr0_fields::number::wide;
 use evr0_records::proof::ProofRead;
 
 fn put_record(payload: &[u8], start: usize, depth: usize, out: &mut [u8], at: usize) -> usize

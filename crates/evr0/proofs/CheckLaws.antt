@@ -1,35 +1,32 @@
 -- A payload with a checked head: what its counts allow, what the last pass may rely on, and what its answer makes of the section.
 use Prim.Native.Nat.{ℕ, _+_, _-_, _≤_}
-use mathlib.Core.Path.{_≡_, sym, ap, _∙_, subst}
-use mathlib.Core.List.{List}
-use native.Mathlib.Omega.{arith}
+use mathlib.Core.Path.{_≡_, refl, sym, ap, ap₂, _∙_, subst}
+use mathlib.Core.List.{List, []}
 use borrow.Author.Tests.{leb-true}
 use lib.Dec.{leb}
-use lib.ListN.{length, take, length-take}
+use lib.ListN.{length, take}
+use lib.Seq.{take-at}
 use Rattle.local_format.specs.Refusal.{Refusal}
 use Rattle.local_format.specs.Out.{Out, ok, refused}
-use Rattle.local_format.specs.Maps.{refusalOut}
 use Rattle.local_format.proofs.OutLaws.{bind-ok, then-ok, checked-ok, check-ok, ok-same, never}
-use Rattle.lent_table.specs.Lent.{Front}
+use Rattle.lent_table.specs.Lent.{lent}
 use Rattle.derivation.specs.Rule.{fourRules}
 use Rattle.derivation.specs.Pass.{depths}
 use Rattle.derivation.proofs.Tests.{both}
-use Rattle.evr0_section.specs.Head.{Counts, Head, Room, listed, countLimits, withinLimits, sizes, hasRoom, headOf, checkCounts}
-use Rattle.evr0_section.specs.Section.{sectionOf, tablesOf, sectionIn}
-use Rattle.evr0_head.specs.Maps.{checkedOut}
-use Rattle.evr0_head.specs.Checks.{Limited, checkedHead}
-use Rattle.evr0_head.specs.declared.check.Checked.{Checked}
-use Rattle.evr0_head.specs.declared.check.Checked.the-variants as checked
-use Rattle.evr0_head.proofs.HeadLaws.{limited}
+use Rattle.evr0_section.specs.Head.{Counts, Head, Room, listed, countLimits, withinLimits, sizes, hasRoom, headOf, checkCounts, checkedHead}
+use Rattle.evr0_section.specs.Rows.{startsOf}
+use Rattle.evr0_section.specs.Section.{Four, tablesAfter, whole, sectionOf, tablesOf}
 use Rattle.evr0_section.proofs.SectionWithin.{head-end}
-use Rattle.evr0.specs.Maps.{startsOf}
-use Rattle.evr0.specs.View.{TablesThere, view}
-use Rattle.evr0.specs.PassMaps.{filled}
-use Rattle.evr0.specs.Payload.{Four, tablesAfter}
-use Rattle.evr0.specs.PayloadMaps.{Places, placesIn, propositionStartsIn, proofStartsIn}
-use Rattle.evr0.specs.Answer.{HeadThere, passedIn, propositionStarts, proofStarts, proofDepths}
-use Rattle.evr0.proofs.SectionLaws.{whole, no-tables, tables-are, no-depths, accepted}
-use Rattle.evr0.proofs.ViewOf.{layoutOf, section-view, tables-there, starts-total}
+use Rattle.evr0_head.specs.Checks.{Limited}
+use Rattle.evr0_head.proofs.HeadLaws.{limited}
+use Rattle.evr0_tables.specs.PayloadMaps.{Places, placesIn, proofStartsIn, Reads}
+use Rattle.evr0_pass.specs.View.{Layout, TablesThere, view}
+use Rattle.evr0_pass.specs.Maps.{doneIn, depthsIn, Derives}
+use Rattle.evr0_pass.proofs.ViewOf.{layoutOf, section-view, tables-there, starts-total}
+use Rattle.evr0.specs.Answer.{Lent, roomOf}
+use Rattle.evr0.specs.Steps.{payloadIn, HeadThere, Passes}
+use Rattle.evr0.proofs.AnswerLaws.{refusal-passes}
+use Rattle.evr0.proofs.SectionLaws.{no-tables, tables-are, no-depths, accepted}
 
 -- ---- The counts
 
@@ -72,83 +69,109 @@ ready room p counts at t =
 
 -- ---- The tables
 
-pub places-read : (x : Out Four) (a : Places) → placesIn x ≡ ok a → (f : Four) × (x ≡ ok f) × (f .proofs .next ≡ a .witnessesAt)
+pub places-read : (x : Out Four) {a : Places} → placesIn x ≡ ok a → (f : Four) × (x ≡ ok f) × (f .proofs .next ≡ a .witnessesAt)
     × (f .rest .witnesses .next ≡ a .parentsAt)
-places-read x a e =
+places-read x e =
     let b = bind-ok x _ e in
     (b .0, b .1, ap (λ (y : Places). y .witnessesAt) (ok-same (b .2)), ap (λ (y : Places). y .parentsAt) (ok-same (b .2)))
 
-pub places-refused : (x : Out Four) (q : Refusal) → placesIn x ≡ refused q → x ≡ refused q
+places-refused : (x : Out Four) (q : Refusal) → placesIn x ≡ refused q → x ≡ refused q
 places-refused (ok t) q e = absurd (never (sym e))
 places-refused (refused r) q e = cc
 
-module _ (room : Room) (p : List ℕ) (counts : Counts) (at : ℕ) (there : HeadThere room p counts at) where
-  same-tables : (x : Out Four) → tablesAfter fourRules counts p at ≡ x → tablesAfter fourRules (there .head .counts) p (there .head .next) ≡ x
-  same-tables x e = rw (there .same, there .next) e
+-- what `read_tables` left, by the variant that was found
+pub reads-as : {x : Out Four} {ps qs ps′ qs′ : List ℕ} {g h : Out Places} → Reads x ps qs ps′ qs′ g → g ≡ h → Reads x ps qs ps′ qs′ h
+reads-as r e = rw e at r
 
-  pub tables-refused : (q : Refusal) → tablesAfter fourRules counts p at ≡ refused q → (end : ℕ) → sectionIn fourRules room p end ≡ refused q
-  tables-refused q e end = no-tables fourRules room p end (there .head) (there .read) q (same-tables (refused q) e)
+pass-refused : (x : Out (List ℕ)) {q : Refusal} → doneIn x ≡ refused q → x ≡ refused q
+pass-refused (ok ds) e = absurd (never (sym e))
+pass-refused (refused r) e = cc
 
-  module _ (f : Four) (e : tablesAfter fourRules counts p at ≡ ok f) where
+same-parts : {c d : Counts} {w v q k : ℕ} → c ≡ d → w ≡ v → q ≡ k → _≡_ {A = Layout} (record { counts = c; witnessesAt = w; parentsAt = q })
+    (record { counts = d; witnessesAt = v; parentsAt = k })
+same-parts a b c = rw (a, b, c)
+
+module _ (before after : Lent) (p : List ℕ) (counts : Counts) (at : ℕ) (there : HeadThere (roomOf before) p counts at) where
+  abbrev four : Out Four
+  four = tablesAfter fourRules counts p at
+
+  same-tables : {x : Out Four} → four ≡ x → tablesAfter fourRules (there .head .counts) p (there .head .next) ≡ x
+  same-tables e = rw (there .same, there .next) e
+
+  -- ---- Refused tables
+  pub tables-refused : {ps qs : List ℕ} {q : Refusal} → Reads four (before .propositions) (before .proofs) ps qs (refused q) → after .propositions ≡ ps
+      → after .proofs ≡ qs → after .depths ≡ lent (length (before .depths)) [] → (end : ℕ) → Passes (payloadIn before p end) before after (refused q)
+  tables-refused {q = q} r ep eq d end =
+      let x = places-refused four q (sym (r .answer)) in
+      refusal-passes (no-tables fourRules (roomOf before) p end (there .head) (there .read) q (same-tables x))
+      (record { propositions = ep ∙ r .propositions ∙ rw x; proofs = eq ∙ r .proofs ∙ rw x; depths = d })
+
+  -- ---- Tables that were read, with what the last pass makes of them
+  module _ {ps qs : List ℕ} {g : Places} (r : Reads four (before .propositions) (before .proofs) ps qs (ok g)) where
+    f : Four
+    f = places-read four (sym (r .answer)) .0
+
+    four-is : four ≡ ok f
+    unfolding f
+    four-is = places-read four (sym (r .answer)) .1
+
     of-head : tablesAfter fourRules (there .head .counts) p (there .head .next) ≡ ok f
-    of-head = same-tables (ok f) e
+    of-head = same-tables four-is
 
-    read : tablesOf fourRules room p ≡ ok (whole (there .head) f)
-    read = tables-are fourRules room p 0 (there .head) (there .read) f of-head
+    read : tablesOf fourRules (roomOf before) p ≡ ok (whole (there .head) f)
+    read = tables-are fourRules (roomOf before) p 0 (there .head) (there .read) f of-head
+
+    total : length (startsOf (f .proofs .entries)) ≡ counts .proofs
+    total = starts-total fourRules (roomOf before) p (whole (there .head) f) read ∙ ap (λ (c : Counts). c .proofs) (there .same)
 
     -- the starts that the lent table holds
-    pub starts-are : (proofs : List ℕ) → Front (proofStartsIn (tablesAfter fourRules counts p at)) proofs → take (counts .proofs) proofs
-        ≡ startsOf (f .proofs .entries)
-    starts-are proofs h =
-        let k : Front (startsOf (f .proofs .entries)) proofs = rw e at h in
-        let l : length (startsOf (f .proofs .entries)) ≡ counts .proofs = starts-total fourRules room p (whole (there .head) f) read
-        ∙ ap (λ (c : Counts). c .proofs) (there .same) in
-        rw l at k
+    starts-are : take (counts .proofs) qs ≡ startsOf (f .proofs .entries)
+    starts-are = ap (take (counts .proofs)) (r .proofs ∙ ap (λ (x : Out Four). lent (length (before .proofs)) (proofStartsIn x)) four-is)
+        ∙ take-at (startsOf (f .proofs .entries)) _ (counts .proofs) total
 
-    same-layout : layoutOf (whole (there .head) f) ≡ record { counts = counts; witnessesAt = f .proofs .next; parentsAt = f .rest .witnesses .next }
-    same-layout = rw (there .same)
+    abbrev layout : Layout
+    layout = record { counts = counts; witnessesAt = g .witnessesAt; parentsAt = g .parentsAt }
 
-    pub may-derive : TablesThere fourRules p (startsOf (f .proofs .entries))
-        (record { counts = counts; witnessesAt = f .proofs .next; parentsAt = f .rest .witnesses .next })
-    may-derive = rw (← same-layout) (tables-there fourRules room p (whole (there .head) f) read)
+    same-layout : layoutOf (whole (there .head) f) ≡ layout
+    unfolding f
+    same-layout = let b = places-read four (sym (r .answer)) in same-parts (there .same) (b .2) (b .3)
 
-    viewed : view fourRules p (startsOf (f .proofs .entries))
-        (record { counts = counts; witnessesAt = f .proofs .next; parentsAt = f .rest .witnesses .next }) ≡ sectionOf (whole (there .head) f)
-    viewed = rw (← same-layout) (sym (section-view fourRules room p (whole (there .head) f) read))
+    pub may-derive : TablesThere fourRules p (take (counts .proofs) qs) layout
+    may-derive = rw (starts-are, ← same-layout) (tables-there fourRules (roomOf before) p (whole (there .head) f) read)
 
-    -- ---- The last pass's answer
-    pub record Left (end : ℕ) (r : Checked) (ps qs ds : List ℕ) : Type 0 where
-      pub answer : checkedOut r ≡ passedIn (sectionIn fourRules room p end)
-      pub propositions : Front (propositionStarts (sectionIn fourRules room p end)) ps
-      pub proofs : Front (proofStarts (sectionIn fourRules room p end)) qs
-      pub depths : Front (proofDepths (sectionIn fourRules room p end)) ds
+    viewed : view fourRules p (take (counts .proofs) qs) layout ≡ sectionOf (whole (there .head) f)
+    viewed = rw (starts-are, ← same-layout) (sym (section-view fourRules (roomOf before) p (whole (there .head) f) read))
 
-    front-take : (n : ℕ) (ds : List ℕ) → n ≤ length ds → Front (take n ds) ds
-    front-take n ds h = let l : length (take n ds) ≡ n = simp length-take (omega arith) in rw l
+    abbrev pass : Out (List ℕ)
+    pass = depths (g .parentsAt) (view fourRules p (take (counts .proofs) qs) layout)
 
-    pub left : (r : Checked) (n : ℕ) (ps qs ds : List ℕ) → n ≤ length ds
-        → Front (propositionStartsIn (tablesAfter fourRules counts p at)) ps → Front (proofStartsIn (tablesAfter fourRules counts p at)) qs
-        → filled r (take n ds) ≡ depths (f .rest .witnesses .next)
-        (view fourRules p (startsOf (f .proofs .entries))
-        (record { counts = counts; witnessesAt = f .proofs .next; parentsAt = f .rest .witnesses .next }))
-        → (end : ℕ) → Left end r ps qs ds
-    left (checked.Refused q) n ps qs ds h a b k end =
-        let x : sectionIn fourRules room p end
-        ≡ refused (refusalOut q) = no-depths fourRules room p end (there .head) (there .read) f of-head _ (sym (rw viewed at k)) in
-        record { answer = sym (ap passedIn x); propositions = rw x; proofs = rw x; depths = rw x }
-    left checked.Passed n ps qs ds h a b k end =
-        let x : sectionIn fourRules room p end
-        ≡ ok (record { tables = whole (there .head) f; depths = take n ds; cursor = end }) = accepted fourRules room p end (there .head)
-        (there .read) f of-head _ (sym (rw viewed at k)) in
-        record { answer = sym (ap passedIn x); propositions = rw x (rw e at a); proofs = rw x (rw e at b); depths = rw x (front-take n ds h) }
+    pass-is : depths (f .rest .witnesses .next) (sectionOf (whole (there .head) f)) ≡ pass
+    unfolding f
+    pass-is = ap₂ depths (places-read four (sym (r .answer)) .3) (sym viewed)
 
-    -- ---- The same by the places and the starts that the code has
-    module _ (w q : ℕ) (starts : List ℕ) (ew : f .proofs .next ≡ w) (eq : f .rest .witnesses .next ≡ q) (es : starts ≡ startsOf (f .proofs .entries)) where
-      pub may-derive-at : TablesThere fourRules p starts (record { counts = counts; witnessesAt = w; parentsAt = q })
-      may-derive-at = rw (es, ← ew, ← eq) may-derive
+    pub derived : {ds : List ℕ} {u : Unit {0}} → Derives pass (before .depths) ds (ok u) → after .propositions ≡ ps → after .proofs ≡ qs
+        → after .depths ≡ ds → (end : ℕ) → Passes (payloadIn before p end) before after (ok tt)
+    derived d ep eq ed end =
+        let b = bind-ok pass _ (sym (d .answer)) in
+        let x = accepted fourRules (roomOf before) p end (there .head) (there .read) f of-head (b .0) (pass-is ∙ b .1) in
+        rw x
+        (record {
+          answer = refl;
+          tables = record {
+            propositions = ep ∙ r .propositions ∙ rw four-is;
+            proofs = eq ∙ r .proofs ∙ rw four-is;
+            depths = ed ∙ d .depths ∙ ap (λ (y : Out (List ℕ)). lent (length (before .depths)) (depthsIn y)) (b .1);
+          };
+        })
 
-      pub left-at : (r : Checked) (ps qs ds : List ℕ) → length starts ≤ length ds
-          → Front (propositionStartsIn (tablesAfter fourRules counts p at)) ps → Front (proofStartsIn (tablesAfter fourRules counts p at)) qs
-          → filled r (take (length starts) ds) ≡ depths q (view fourRules p starts (record { counts = counts; witnessesAt = w; parentsAt = q }))
-          → (end : ℕ) → Left end r ps qs ds
-      left-at r ps qs ds h a b k end = left r (length starts) ps qs ds h a b (k ∙ rw (es, ← ew, ← eq)) end
+    pub not-derived : {ds : List ℕ} {q : Refusal} → Derives pass (before .depths) ds (refused q)
+        → after .propositions ≡ lent (length (before .propositions)) [] → after .proofs ≡ lent (length (before .proofs)) []
+        → after .depths ≡ ds → (end : ℕ) → Passes (payloadIn before p end) before after (refused q)
+    not-derived {q = q} d ep eq ed end =
+        let y = pass-refused pass (sym (d .answer)) in
+        refusal-passes (no-depths fourRules (roomOf before) p end (there .head) (there .read) f of-head q (pass-is ∙ y))
+        (record {
+          propositions = ep;
+          proofs = eq;
+          depths = ed ∙ d .depths ∙ ap (λ (y : Out (List ℕ)). lent (length (before .depths)) (depthsIn y)) y;
+        })

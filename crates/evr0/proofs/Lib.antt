@@ -1,12 +1,5 @@
 pub mod FrameLaws
-pub mod RuleLaws
-pub mod ViewLaws
-pub mod ViewOf
-pub mod PayloadLaws
 pub mod SectionLaws
-pub mod CheckLaws
-pub mod TableLaws
-pub mod RowLaws
-pub mod ParentLaws
 pub mod AnswerLaws
+pub mod CheckLaws
 pub mod DecodeLaws

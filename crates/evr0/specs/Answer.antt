@@ -2,23 +2,32 @@
 use Prim.Native.Nat.{ℕ}
 use mathlib.Core.Path.{_≡_}
 use mathlib.Core.List.{List, []}
-use Rattle.local_format.specs.Out.{Out, ok, refused, _>>=_}
-use Rattle.evr0_section.specs.Head.{Counts, Head, Room}
-use Rattle.evr0_section.specs.Section.{Section}
-use Rattle.evr0_head.specs.Maps.{zeros}
-use Rattle.evr0_head.specs.Checks.{checkedHead}
-pub use Rattle.evr0.specs.Maps.{startsOf}
+use lib.ListN.{length}
+use Rattle.local_format.specs.Out.{Out, ok, refused}
+use Rattle.lent_table.specs.Lent.{lent}
+use Rattle.evr0_section.specs.Head.{Counts, Room}
+use Rattle.evr0_section.specs.Section.{Section, decodeSection}
+use Rattle.evr0_section.specs.Demand.{Demand3}
+use Rattle.evr0_fields.specs.Maps.{zeros}
+pub use Rattle.evr0_section.specs.Rows.{startsOf}
 
--- the lengths of the lent tables: proposition starts, proof starts, depths
-abbrev pub roomOf : ℕ → ℕ → ℕ → Room
-roomOf a b c = record { propositions = a; proofs = b; depths = c }
+-- ---- The lent tables
 
--- a payload has a checked head with these counts, after which stands this place
-pub record HeadThere (room : Room) (p : List ℕ) (counts : Counts) (at : ℕ) : Type 0 where
-  pub head : Head
-  pub read : checkedHead room p ≡ ok head
-  pub same : head .counts ≡ counts
-  pub next : head .next ≡ at
+-- as they are brought, or as they are left
+pub record Lent : Type 0 where
+  pub propositions : List ℕ
+  pub proofs : List ℕ
+  pub depths : List ℕ
+
+abbrev pub lentOf : List ℕ → List ℕ → List ℕ → Lent
+lentOf propositions proofs depths = record { propositions = propositions; proofs = proofs; depths = depths }
+
+-- their lengths
+abbrev pub roomOf : Lent → Room
+roomOf t =
+    record { propositions = length (t .propositions); proofs = length (t .proofs); depths = length (t .depths) }
+
+-- ---- The answer
 
 -- what is given of an accepted section: the epoch, the places in the payload of both namespaces' lengths, and the counts
 pub record Accepted : Type 0 where
@@ -52,7 +61,8 @@ answerOf cursor (ok s) =
 answerOf cursor (refused r) =
     record { sourceSet = zeros; compilerContract = zeros; cursor = cursor; outcome = refused r }
 
--- what fills the lent tables; a refusal has nothing
+-- ---- What fills the lent tables; a refusal has nothing
+
 abbrev pub propositionStarts : Out Section → List ℕ
 propositionStarts (ok s) = startsOf (s .tables .propositions .entries)
 propositionStarts (refused r) = []
@@ -65,8 +75,19 @@ abbrev pub proofDepths : Out Section → List ℕ
 proofDepths (ok s) = s .depths
 proofDepths (refused r) = []
 
--- whether a section is accepted, or its refusal
-abbrev pub passedIn : Out Section → Out (Unit {0})
-passedIn x = do
-  s ← x
-  ok tt
+-- the tables hold it, and zeros past it
+pub record Filled (x : Out Section) (before after : Lent) : Type 0 where
+  pub propositions : after .propositions ≡ lent (length (before .propositions)) (propositionStarts x)
+  pub proofs : after .proofs ≡ lent (length (before .proofs)) (proofStarts x)
+  pub depths : after .depths ≡ lent (length (before .depths)) (proofDepths x)
+
+-- ---- What a call of the decoder leaves
+
+-- the section that document 01 defines at a cursor, for lent tables of these lengths
+abbrev pub decodeIn : Lent → List ℕ → ℕ → Out Section
+decodeIn tables bytes cursor = decodeSection (roomOf tables) bytes cursor
+
+pub record Leaves (bytes : List ℕ) (cursor : ℕ) (before after : Lent) (given : Answer) : Type 0 where
+  pub answer : given ≡ answerOf cursor (decodeIn before bytes cursor)
+  pub tables : Filled (decodeIn before bytes cursor) before after
+  pub demand3 : Demand3 (roomOf before) bytes cursor

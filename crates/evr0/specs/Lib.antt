@@ -1,7 +1,4 @@
 pub mod Maps
 pub mod Answer
-pub mod View
-pub mod PassMaps
-pub mod Payload
-pub mod PayloadMaps
+pub mod Steps
 pub mod AnswerMaps

@@ -1,7 +1,3 @@
 // Evidence sections (EVR0).
 mod frame;
-mod pass;
-mod payload;
-mod rows;
 pub mod section;
-mod tables;

@@ -5,21 +5,19 @@ ghost use lib.ListN.{length};
 ghost use Rattle.local_format.specs.Out.{refused, moved};
 ghost use Rattle.local_format.specs.Text.{bytesAt};
 ghost use Rattle.local_format.specs.Maps.{refusalOut};
-ghost use Rattle.lent_table.specs.Lent.{lent, Front};
-ghost use Rattle.derivation.specs.Rule.{fourRules};
-ghost use Rattle.evr0_section.specs.Section.{sectionIn, decodeSection};
-ghost use Rattle.evr0_section.specs.Demand.{Demand3};
-ghost use Rattle.evr0_head.specs.Maps.{countsOut, checkedOut};
-ghost use Rattle.evr0.specs.Answer.{roomOf, HeadThere, answerOf, passedIn, propositionStarts, proofStarts, proofDepths};
+ghost use Rattle.evr0_fields.specs.Maps.{checkedOut};
+ghost use Rattle.evr0_head.specs.Maps.{countsOut};
+ghost use Rattle.evr0.specs.Answer.{lentOf, roomOf, answerOf, Leaves};
 ghost use Rattle.evr0.specs.AnswerMaps.{acceptedOut, headOutcome, answerOut};
+ghost use Rattle.evr0.specs.Steps.{payloadIn, HeadThere, Passes, Ends};
 use crate::frame::Frame;
-use crate::pass::Layout;
-use crate::payload::Places;
-use evr0_head::check::Checked;
+use evr0_fields::check::Checked;
 use evr0_head::counts::Counts;
 use evr0_head::head::Head;
 use evr0_head::head::HeadAnswer;
 use evr0_head::head::Room;
+use evr0_pass::pass::Layout;
+use evr0_tables::payload::Places;
 use local_format::refusal::Refusal;
 
 // What is given of an accepted section: the epoch, the places in the payload of both namespaces' lengths, and the counts.
@@ -66,7 +64,7 @@ fn accept(head: Head) -> Accepted
     }
 }
 
-// The tables and the depths of a payload with a checked head, with the starts and the depths at the front of the lent tables.
+// The tables and the depths of a payload with a checked head, with the starts and the depths in the lent tables.
 fn check_tables(
     payload: &[u8],
     counts: Counts,
@@ -75,24 +73,17 @@ fn check_tables(
     proofs: &mut [u64],
     depths: &mut [u64],
 ) -> Checked
-    requires { ⌜ HeadThere (roomOf (length (now propositions)) (length (now proofs)) (length (now depths))) (now payload) (countsOut counts) at ⌝ }
-    ensures { λ r. ⌜ ((end : ℕ) → checkedOut r
-        ≡ passedIn (sectionIn fourRules (roomOf (length (now (propositions .entry))) (length (now (proofs .entry))) (length (now (depths .entry))))
-        (now (payload .entry)) end)) ⌝ }
-    ensures { λ r. ⌜ ((end : ℕ) → Front
-        (propositionStarts (sectionIn fourRules
-        (roomOf (length (now (propositions .entry))) (length (now (proofs .entry))) (length (now (depths .entry)))) (now (payload .entry)) end))
-        (now (propositions .exit))) ⌝ }
-    ensures { λ r. ⌜ ((end : ℕ) → Front
-        (proofStarts (sectionIn fourRules (roomOf (length (now (propositions .entry))) (length (now (proofs .entry))) (length (now (depths .entry))))
-        (now (payload .entry)) end)) (now (proofs .exit))) ⌝ }
-    ensures { λ r. ⌜ ((end : ℕ) → Front
-        (proofDepths (sectionIn fourRules (roomOf (length (now (propositions .entry))) (length (now (proofs .entry))) (length (now (depths .entry))))
-        (now (payload .entry)) end)) (now (depths .exit))) ⌝ }
+    requires { ⌜ HeadThere (roomOf (lentOf (now propositions) (now proofs) (now depths))) (now payload) (countsOut counts) at ⌝ }
+    ensures { λ r. ⌜ ((end : ℕ) → Passes (payloadIn (lentOf (now (propositions .entry)) (now (proofs .entry)) (now (depths .entry))) (now (payload .entry)) end)
+        (lentOf (now (propositions .entry)) (now (proofs .entry)) (now (depths .entry)))
+        (lentOf (now (propositions .exit)) (now (proofs .exit)) (now (depths .exit))) (checkedOut r)) ⌝ }
 {
-    let tables = crate::payload::read_tables(payload, counts, at, propositions, proofs);
+    let tables = evr0_tables::payload::read_tables(payload, counts, at, propositions, proofs);
     match tables {
-        Places::Refused(refusal) => Checked::Refused(refusal),
+        Places::Refused(refusal) => {
+            lent_table::clear(depths);
+            Checked::Refused(refusal)
+        }
         Places::Read {
             witnesses_at,
             parents_at,
@@ -103,12 +94,20 @@ fn check_tables(
                 witnesses_at,
                 parents_at,
             };
-            crate::pass::derive(payload, &proofs[..count], layout, depths)
+            let derived = evr0_pass::pass::derive(payload, &proofs[..count], layout, depths);
+            match derived {
+                Checked::Refused(refusal) => {
+                    lent_table::clear(propositions);
+                    lent_table::clear(proofs); // of a refused derivation
+                    Checked::Refused(refusal)
+                }
+                Checked::Passed => Checked::Passed,
+            }
         }
     }
 }
 
-// The section of a payload after which the cursor stands at `end`, with its starts and depths at the front of the lent tables.
+// The section of a payload after which the cursor stands at `end`, with its starts and depths in the lent tables.
 fn decode_payload(
     payload: &[u8],
     end: usize,
@@ -117,18 +116,9 @@ fn decode_payload(
     proofs: &mut [u64],
     depths: &mut [u64],
 ) -> DecodedEvr0
-    ensures { λ r. ⌜ answerOut r ≡ answerOf cursor
-        (sectionIn fourRules (roomOf (length (now (propositions .entry))) (length (now (proofs .entry))) (length (now (depths .entry))))
-        (now (payload .entry)) end) ⌝ }
-    ensures { λ r. ⌜ Front (propositionStarts
-        (sectionIn fourRules (roomOf (length (now (propositions .entry))) (length (now (proofs .entry))) (length (now (depths .entry))))
-        (now (payload .entry)) end)) (now (propositions .exit)) ⌝ }
-    ensures { λ r. ⌜ Front (proofStarts
-        (sectionIn fourRules (roomOf (length (now (propositions .entry))) (length (now (proofs .entry))) (length (now (depths .entry))))
-        (now (payload .entry)) end)) (now (proofs .exit)) ⌝ }
-    ensures { λ r. ⌜ Front (proofDepths
-        (sectionIn fourRules (roomOf (length (now (propositions .entry))) (length (now (proofs .entry))) (length (now (depths .entry))))
-        (now (payload .entry)) end)) (now (depths .exit)) ⌝ }
+    ensures { λ r. ⌜ Ends (payloadIn (lentOf (now (propositions .entry)) (now (proofs .entry)) (now (depths .entry))) (now (payload .entry)) end)
+        cursor (lentOf (now (propositions .entry)) (now (proofs .entry)) (now (depths .entry)))
+        (lentOf (now (propositions .exit)) (now (proofs .exit)) (now (depths .exit))) (answerOut r) ⌝ }
 {
     let room = Room {
         propositions: propositions.len(),
@@ -138,7 +128,12 @@ fn decode_payload(
     let read = evr0_head::head::read_checked_head(payload, room);
     let answer = read.answer;
     match answer {
-        HeadAnswer::Refused(refusal) => refused_section(refusal, cursor),
+        HeadAnswer::Refused(refusal) => {
+            lent_table::clear(propositions);
+            lent_table::clear(proofs);
+            lent_table::clear(depths); // of a refused head
+            refused_section(refusal, cursor)
+        }
         HeadAnswer::Read(head) => {
             let counts = head.counts;
             let checked = check_tables(payload, counts, head.next, propositions, proofs, depths);
@@ -170,24 +165,11 @@ fn decode_at(
     depths: &mut [u64],
 ) -> DecodedEvr0
     requires { ⌜ start + len ≤ length (now bytes) ⌝ }
-    ensures { λ r. ⌜ answerOut r ≡ answerOf cursor
-        (moved start (sectionIn fourRules (roomOf (length (now (propositions .entry))) (length (now (proofs .entry))) (length (now (depths .entry))))
-        (bytesAt (now (bytes .entry)) start len) (start + len))) ⌝ }
-    ensures { λ r. ⌜ now (propositions .exit)
-        ≡ lent (length (now (propositions .entry)))
-        (propositionStarts (moved start
-        (sectionIn fourRules (roomOf (length (now (propositions .entry))) (length (now (proofs .entry))) (length (now (depths .entry))))
-        (bytesAt (now (bytes .entry)) start len) (start + len)))) ⌝ }
-    ensures { λ r. ⌜ now (proofs .exit)
-        ≡ lent (length (now (proofs .entry)))
-        (proofStarts (moved start (sectionIn fourRules
-        (roomOf (length (now (propositions .entry))) (length (now (proofs .entry))) (length (now (depths .entry))))
-        (bytesAt (now (bytes .entry)) start len) (start + len)))) ⌝ }
-    ensures { λ r. ⌜ now (depths .exit)
-        ≡ lent (length (now (depths .entry)))
-        (proofDepths (moved start (sectionIn fourRules
-        (roomOf (length (now (propositions .entry))) (length (now (proofs .entry))) (length (now (depths .entry))))
-        (bytesAt (now (bytes .entry)) start len) (start + len)))) ⌝ }
+    ensures { λ r. ⌜ Ends
+        (moved start (payloadIn
+        (lentOf (now (propositions .entry)) (now (proofs .entry)) (now (depths .entry))) (bytesAt (now (bytes .entry)) start len) (start + len)))
+        cursor (lentOf (now (propositions .entry)) (now (proofs .entry)) (now (depths .entry)))
+        (lentOf (now (propositions .exit)) (now (proofs .exit)) (now (depths .exit))) (answerOut r) ⌝ }
 {
     let end = start + len;
     let read = decode_payload(
@@ -201,18 +183,9 @@ fn decode_at(
     let outcome = read.outcome;
     match outcome {
         Outcome::Refused(refusal) => {
-            lent_table::clear(propositions);
-            lent_table::clear(proofs);
-            lent_table::clear(depths); // of a refused payload
-            refused_section(crate::tables::moved(refusal, start), cursor)
+            refused_section(evr0_tables::part::moved(refusal, start), cursor)
         }
-        Outcome::Accepted(given) => {
-            let counts = given.counts;
-            lent_table::clear_from(propositions, counts.propositions);
-            lent_table::clear_from(proofs, counts.proofs);
-            lent_table::clear_from(depths, counts.proofs);
-            read
-        }
+        Outcome::Accepted(_) => read,
     }
 }
 
@@ -224,23 +197,9 @@ pub fn decode_evr0_section(
     proofs: &mut [u64],
     depths: &mut [u64],
 ) -> DecodedEvr0
-    ensures answer { λ r. ⌜ answerOut r
-        ≡ answerOf cursor (decodeSection (roomOf (length (now (propositions .entry))) (length (now (proofs .entry))) (length (now (depths .entry))))
-        (now (bytes .entry)) cursor) ⌝ }
-    ensures propositions { λ r. ⌜ now (propositions .exit)
-        ≡ lent (length (now (propositions .entry)))
-        (propositionStarts (decodeSection (roomOf (length (now (propositions .entry))) (length (now (proofs .entry))) (length (now (depths .entry))))
-        (now (bytes .entry)) cursor)) ⌝ }
-    ensures proofs { λ r. ⌜ now (proofs .exit)
-        ≡ lent (length (now (proofs .entry)))
-        (proofStarts (decodeSection (roomOf (length (now (propositions .entry))) (length (now (proofs .entry))) (length (now (depths .entry))))
-        (now (bytes .entry)) cursor)) ⌝ }
-    ensures depths { λ r. ⌜ now (depths .exit)
-        ≡ lent (length (now (depths .entry)))
-        (proofDepths (decodeSection (roomOf (length (now (propositions .entry))) (length (now (proofs .entry))) (length (now (depths .entry))))
-        (now (bytes .entry)) cursor)) ⌝ }
-    ensures demand_3 { λ r. ⌜ Demand3 fourRules
-        (roomOf (length (now (propositions .entry))) (length (now (proofs .entry))) (length (now (depths .entry)))) (now (bytes .entry)) cursor ⌝ }
+    ensures { λ r. ⌜ Leaves (now (bytes .entry)) cursor
+        (lentOf (now (propositions .entry)) (now (proofs .entry)) (now (depths .entry)))
+        (lentOf (now (propositions .exit)) (now (proofs .exit)) (now (depths .exit))) (answerOut r) ⌝ }
 {
     let frame = crate::frame::read_frame(bytes, cursor);
     match frame {

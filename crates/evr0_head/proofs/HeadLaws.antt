@@ -1,6 +1,6 @@
 -- Laws of a payload's head and of the checks after its counts.
 use Prim.Native.Nat.{ℕ, _+_, _-_, _≤_}
-use mathlib.Core.Path.{_≡_, refl, ap, sym, _∙_}
+use mathlib.Core.Path.{_≡_, refl, ap, sym, subst, _∙_}
 use mathlib.Core.List.{List}
 use native.Mathlib.Omega.{arith}
 use lib.Dec.{eqb}
@@ -12,12 +12,13 @@ use Rattle.local_format.specs.Text.{Span, sectionField, textAt}
 use Rattle.local_format.proofs.OutLaws.{ok-same, bind-ok, checked-ok}
 use Rattle.local_format.proofs.FieldLaws.{field-ok}
 use Rattle.local_format.proofs.TextLaws.{text-ok}
-use Rattle.evr0_section.specs.Head.{Counts, Counted, Head, Room, digestAt, countsAt, headOf, listed, countLimits, withinLimits, checkCounts}
-use Rattle.evr0_head.specs.Checks.{Limited, checkedHead}
-use Rattle.evr0_head.specs.Maps.{Beside, beside, headIn, headOut, headBeside}
+use Rattle.evr0_section.specs.Head.{Counts, Counted, Head, Room, digestAt, countsAt, headOf, listed, countLimits, withinLimits, checkCounts, checkedHead}
+use Rattle.evr0_head.specs.Checks.{Limited}
+use Rattle.evr0_fields.specs.Maps.{Beside, beside}
+use Rattle.evr0_head.specs.Maps.{headIn, headOut, headBeside}
 use Rattle.evr0_head.specs.declared.head.HeadAnswer.{HeadAnswer}
 use Rattle.evr0_head.specs.declared.head.HeadRead.{HeadRead}
-use Rattle.evr0_head.proofs.PlaceLaws.{digest-ok}
+use Rattle.evr0_fields.proofs.PlaceLaws.{digest-ok}
 
 module _ (c : Counts) (at : ℕ) where
   pub within : Limited c → withinLimits (listed c) countLimits at ≡ ok tt
@@ -67,9 +68,10 @@ pub record Lies (p : List ℕ) (h : Head) : Type 0 where
   pub next : h .next ≡ h .countsAt + 16
   pub ends : h .next ≤ length p
 
-lies : (p : List ℕ) {a b c d e : ℕ} (policy issuer : Span) (counted : Counted) → a ≡ 0 + 2 → b ≡ a + 2 → c ≡ b + 32 → d ≡ c + 32 → e ≡ d + 2
+lies : (p source contract : List ℕ) (epoch : ℕ) {a b c d e : ℕ} (policy issuer : Span) (counted : Counted)
+    → a ≡ 0 + 2 → b ≡ a + 2 → c ≡ b + 32 → d ≡ c + 32 → e ≡ d + 2
     → policy .next ≡ e + 2 + policy .len → issuer .next ≡ policy .next + 2 + issuer .len
-    → (counted .next ≡ issuer .next + 16) × (counted .next ≤ length p) → {source contract : List ℕ} {epoch : ℕ}
+    → (counted .next ≡ issuer .next + 16) × (counted .next ≤ length p)
     → Lies p
     (record {
       sourceSet = source;
@@ -83,24 +85,26 @@ lies : (p : List ℕ) {a b c d e : ℕ} (policy issuer : Span) (counted : Counte
       countsAt = issuer .next;
       next = counted .next;
     })
-lies p policy issuer counted h1 h2 h3 h4 h5 h6 h7 h8 =
+lies p source contract epoch policy issuer counted h1 h2 h3 h4 h5 h6 h7 h8 =
     record { policy = omega arith; issuer = omega arith; counts = omega arith; next = h8 .0; ends = h8 .1 }
+
+-- what holds after a step that was read
+after : {A B P : Type 0} (x : Out A) (f : A → Out B) {b : B} → (x >>= f) ≡ ok b → ((a : A) → x ≡ ok a → f a ≡ ok b → P) → P
+after x f e k = let (a, g, h) = bind-ok x f e in k a g h
 
 pub head-ok : (p : List ℕ) {h : Head} → headOf p ≡ ok h → Lies p h
 unfolding headOf
 head-ok p e =
-    let (schema, f1, e1) = bind-ok (sectionField 2 p 0) _ e in
-    let (t1, e2) = checked-ok (eqb (schema .value) 1) 10 (schema .next) _ e1 in
-    let (flags, f2, e3) = bind-ok (sectionField 2 p (schema .next)) _ e2 in
-    let (t2, e4) = checked-ok (eqb (flags .value) 0) 11 (flags .next) _ e3 in
-    let (source, f3, e5) = bind-ok (digestAt p (flags .next)) _ e4 in
-    let (contract, f4, e6) = bind-ok (digestAt p (source .next)) _ e5 in
-    let (epoch, f5, e7) = bind-ok (sectionField 2 p (contract .next)) _ e6 in
-    let (policy, f6, e8) = bind-ok (textAt p (epoch .next)) _ e7 in
-    let (issuer, f7, e9) = bind-ok (textAt p (policy .next)) _ e8 in
-    let (counted, f8, e10) = bind-ok (countsAt p (issuer .next)) _ e9 in
-    rw (← ok-same e10)
-    (lies p policy issuer counted
+    after (sectionField 2 p 0) _ e λ schema f1 e1.
+    after (sectionField 2 p (schema .next)) _ (checked-ok (eqb (schema .value) 1) 10 (schema .next) _ e1 .1) λ flags f2 e2.
+    after (digestAt p (flags .next)) _ (checked-ok (eqb (flags .value) 0) 11 (flags .next) _ e2 .1) λ source f3 e3.
+    after (digestAt p (source .next)) _ e3 λ contract f4 e4.
+    after (sectionField 2 p (contract .next)) _ e4 λ epoch f5 e5.
+    after (textAt p (epoch .next)) _ e5 λ policy f6 e6.
+    after (textAt p (policy .next)) _ e6 λ issuer f7 e7.
+    after (countsAt p (issuer .next)) _ e7 λ counted f8 e8.
+    subst (Lies p) (ok-same e8)
+    (lies p (source .bytes) (contract .bytes) (epoch .value) policy issuer counted
     (field-ok 5 2 p 0 f1 .0)
     (field-ok 5 2 p (schema .next) f2 .0)
     (digest-ok p (flags .next) f3 .0)

@@ -71,10 +71,10 @@ pub fn read_counts(payload: &[u8], at: usize) -> Counted
     };
     Counted::Read {
         counts: Counts {
-            propositions: crate::number::wide(propositions),
-            proofs: crate::number::wide(proofs),
-            witnesses: crate::number::wide(witnesses),
-            parents: crate::number::wide(parents),
+            propositions: evr0_fields::number::wide(propositions),
+            proofs: evr0_fields::number::wide(proofs),
+            witnesses: evr0_fields::number::wide(witnesses),
+            parents: evr0_fields::number::wide(parents),
         },
         next,
     }

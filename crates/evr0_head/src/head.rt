@@ -5,14 +5,16 @@ ghost use Prim.Native.Nat.{ℕ, _+_, _*_, _^_, _≤_, _<_};
 ghost use lib.ListN.{length};
 ghost use Rattle.local_format.specs.Out.{refused};
 ghost use Rattle.local_format.specs.Maps.{refusalOut};
-ghost use Rattle.evr0_section.specs.Head.{listed, countLimits, withinLimits, sizes, hasRoom, headOf, checkCounts};
-ghost use Rattle.evr0_head.specs.Checks.{Limited, checkedHead};
-ghost use Rattle.evr0_head.specs.Maps.{countsOut, roomOut, checkedOut, headRecord, headOut, headBeside};
-use crate::check::Checked;
+ghost use Rattle.evr0_section.specs.Head.{listed, countLimits, withinLimits, sizes, hasRoom, headOf, checkCounts, checkedHead};
+ghost use Rattle.evr0_head.specs.Checks.{Limited};
+ghost use Rattle.evr0_fields.specs.Maps.{checkedOut};
+ghost use Rattle.evr0_head.specs.Maps.{countsOut, roomOut, headRecord, headOut, headBeside};
 use crate::counts::Counted;
 use crate::counts::Counts;
-use crate::place::Place;
-use crate::span::Span;
+use evr0_fields::check::Checked;
+use evr0_fields::check::both;
+use evr0_fields::place::Place;
+use evr0_fields::span::Span;
 use local_format::field::U16;
 use local_format::refusal::Refusal;
 use local_format::text::Text;
@@ -83,15 +85,15 @@ pub fn read_head(payload: &[u8]) -> HeadRead
     if bits != 0 {
         return refused_head(local_format::refusal::refuse(11, source_at));
     }
-    let source = crate::place::read_digest(payload, source_at);
+    let source = evr0_fields::place::read_digest(payload, source_at);
     let source_place = source.place;
     let Place::Next(contract_at) = source_place else {
-        return refused_head(crate::place::place_refusal(source_place));
+        return refused_head(evr0_fields::place::place_refusal(source_place));
     };
-    let contract = crate::place::read_digest(payload, contract_at);
+    let contract = evr0_fields::place::read_digest(payload, contract_at);
     let contract_place = contract.place;
     let Place::Next(epoch_at) = contract_place else {
-        return refused_head(crate::place::place_refusal(contract_place));
+        return refused_head(evr0_fields::place::place_refusal(contract_place));
     };
     let year = local_format::field::read_u16_le(payload, epoch_at);
     let U16::Value {
@@ -157,13 +159,10 @@ pub fn read_head(payload: &[u8]) -> HeadRead
 fn has_room(room: Room, counts: Counts) -> bool
     ensures { λ r. ⌜ r ≡ hasRoom (roomOut room) (countsOut counts) ⌝ }
 {
-    if room.propositions < counts.propositions {
-        return false;
-    }
-    if room.proofs < counts.proofs {
-        return false;
-    }
-    counts.proofs <= room.depths
+    both(
+        counts.propositions <= room.propositions,
+        both(counts.proofs <= room.proofs, counts.proofs <= room.depths),
+    )
 }
 
 // Each count is at most its limit. The counts stand at `at` and after it.
@@ -172,19 +171,19 @@ fn within_limits(counts: Counts, at: usize) -> Checked
     ensures { λ r. ⌜ checkedOut r ≡ withinLimits (listed (countsOut counts)) countLimits at ⌝ }
 {
     if 65536 < counts.propositions {
-        return crate::check::refused(12, at);
+        return evr0_fields::check::refused(12, at);
     }
     let proofs_at = at + 4;
     if 65536 < counts.proofs {
-        return crate::check::refused(12, proofs_at);
+        return evr0_fields::check::refused(12, proofs_at);
     }
     let witnesses_at = proofs_at + 4;
     if 262144 < counts.witnesses {
-        return crate::check::refused(12, witnesses_at);
+        return evr0_fields::check::refused(12, witnesses_at);
     }
     let parents_at = witnesses_at + 4;
     if 262144 < counts.parents {
-        return crate::check::refused(12, parents_at);
+        return evr0_fields::check::refused(12, parents_at);
     }
     Checked::Passed
 }
@@ -224,18 +223,18 @@ fn check_sizes(payload: &[u8], head: Head, room: Room) -> Checked
     let next = head.next;
     let counts = head.counts;
     if len - next < table_sizes(counts, 15, 35, 84, 4) {
-        return crate::check::refused(13, next);
+        return evr0_fields::check::refused(13, next);
     }
     if 16777216 < len + table_sizes(counts, 40, 64, 84, 4) {
-        return crate::check::refused(14, next);
+        return evr0_fields::check::refused(14, next);
     }
     if 8388608 < len + table_sizes(counts, 1, 1, 1, 1) {
-        return crate::check::refused(15, next);
+        return evr0_fields::check::refused(15, next);
     }
     if has_room(room, counts) {
         Checked::Passed
     } else {
-        crate::check::refused(61, next)
+        evr0_fields::check::refused(61, next)
     }
 }
 

@@ -6,18 +6,16 @@ use mathlib.Core.List.{List, [], _∷_, _++_}
 use native.Mathlib.Omega.{arith}
 use lib.Dec.{leb}
 use lib.ListN.{length, take, drop, length-append, length-map}
-use borrow.Author.Tests.{leb-true}
 use Rattle.local_format.specs.Out.{ok}
 use Rattle.local_format.specs.Field.{field}
 use Rattle.local_format.specs.Text.{bytesAt}
 use Rattle.local_format.specs.Tag.{tagAt, evr0}
-use Rattle.local_format.proofs.OutLaws.{ok-same, bind-ok, then-ok, check-ok, checked-ok, moved-ok}
+use Rattle.local_format.proofs.OutLaws.{ok-same, bind-ok, checked-ok, moved-ok}
 use Rattle.local_format.proofs.FieldLaws.{field-ok}
 use Rattle.derivation.specs.Rule.{Rule}
 use Rattle.derivation.specs.Section as derivation
-use Rattle.derivation.proofs.Tests.{both}
 use Rattle.derivation.specs.Pass.{depthOf, depthsFrom, depths}
-use Rattle.evr0_section.specs.Head.{Counts, Head, Room, listed, countLimits, withinLimits, sizes, hasRoom, checkCounts}
+use Rattle.evr0_section.specs.Head.{Room}
 use Rattle.evr0_section.specs.Proposition.{propositionRow}
 use Rattle.evr0_section.specs.Proof.{proofRow}
 use Rattle.evr0_section.specs.Section.{Frame, Section, frameAt, sectionOf, proofItem, tablesOf, sectionIn, sectionAt}
@@ -47,42 +45,6 @@ depths-length cellsAt s (suc n) i ds e =
     let d = bind-ok (depthOf cellsAt s (derivation.proofAt s i) ds) _ e in
     omega (arith, depths-length cellsAt s n (suc i) (ds ++ (d .0 ∷ [])) (d .2), length-append ds (d .0 ∷ []))
 
--- ---- The checks after the counts
-limit-kept : (c : ℕ) (cs : List ℕ) (l : ℕ) (ls : List ℕ) (at : ℕ) {u : Unit {0}} → withinLimits (c ∷ cs) (l ∷ ls) at ≡ ok u → (c ≤ l)
-    × (withinLimits cs ls (at + 4) ≡ ok u)
-unfolding withinLimits
-limit-kept c cs l ls at e = let a = checked-ok (leb c l) 12 at _ e in (leb-true c l (a .0), a .1)
-
--- the tables are long enough for the counts, which are within their limits
-pub record Counted (room : Room) (c : Counts) : Type 0 where
-  pub propositions : c .propositions ≤ room .propositions
-  pub proofs : c .proofs ≤ room .proofs
-  pub depths : c .proofs ≤ room .depths
-  pub witnesses : c .witnesses ≤ 262144
-  pub parents : c .parents ≤ 262144
-
-counted : (room : Room) (p : List ℕ) (h : Head) {u : Unit {0}} → checkCounts room p h ≡ ok u → Counted room (h .counts)
-unfolding checkCounts hasRoom
-counted room p h e =
-    let c = h .counts in
-    let limits = then-ok (withinLimits (listed c) countLimits (h .countsAt)) _ e in
-    let l1 = limit-kept _ _ _ _ _ (limits .1) in
-    let l2 = limit-kept _ _ _ _ _ (l1 .1) in
-    let l3 = limit-kept _ _ _ _ _ (l2 .1) in
-    let l4 = limit-kept _ _ _ _ _ (l3 .1) in
-    let a = checked-ok (leb (sizes c 15 35 84 4) (length p - h .next)) 13 (h .next) _ (limits .2) in
-    let b = checked-ok (leb (length p + sizes c 40 64 84 4) 16777216) 14 (h .next) _ (a .1) in
-    let d = checked-ok (leb (length p + sizes c 1 1 1 1) 8388608) 15 (h .next) _ (b .1) in
-    let r = both (leb (c .propositions) (room .propositions)) _ (check-ok _ 61 (h .next) (d .1)) in
-    let s = both (leb (c .proofs) (room .proofs)) _ (r .1) in
-    record {
-      propositions = leb-true (c .propositions) (room .propositions) (r .0);
-      proofs = leb-true (c .proofs) (room .proofs) (s .0);
-      depths = leb-true (c .proofs) (room .depths) (s .1);
-      witnesses = l3 .0;
-      parents = l4 .0;
-    }
-
 -- ---- The section
 module _ (rules : List Rule) (room : Room) (s : List ℕ) (cursor : ℕ) where
   -- the bytes between the frame and the cursor after the section
@@ -94,7 +56,6 @@ module _ (rules : List Rule) (room : Room) (s : List ℕ) (cursor : ℕ) where
     pub end : d .cursor ≤ length s
     pub read : tablesOf rules room (payloadTo (d .cursor)) ≡ ok (d .tables)
     pub tables : Steps rules room (payloadTo (d .cursor)) (d .tables)
-    pub counts : Counted room (d .tables .head .counts)
     pub propositions : length (d .tables .propositions .entries) ≡ d .tables .head .counts .propositions
     pub proofs : length (d .tables .proofs .entries) ≡ d .tables .head .counts .proofs
     pub depths : depths (d .tables .witnesses .next) (sectionOf (d .tables)) ≡ ok (d .depths)
@@ -129,7 +90,6 @@ module _ (rules : List Rule) (room : Room) (s : List ℕ) (cursor : ℕ) where
         end = omega (arith, g .2, place .1);
         read = read;
         tables = t;
-        counts = counted room (payloadTo (d .cursor)) (d .tables .head) (t .counts);
         propositions = trace-length propositionRow (payloadTo (d .cursor))
             (trace propositionRow (payloadTo (d .cursor)) _ _ _ (d .tables .propositions) (t .propositions));
         proofs = n;

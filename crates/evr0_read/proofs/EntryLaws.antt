@@ -1,12 +1,11 @@
--- A record at a place and by its number, as the reader there answers it; and that its text's place in the payload is one of 64 bits.
+-- A record at a place, as the reader there answers it; and that its text's place in the payload is one of 64 bits.
 use Prim.Native.Nat.{ℕ, _+_, _-_, _^_, _≤_, _<_}
-use mathlib.Core.Path.{_≡_, refl, sym, ap, ap₂, subst}
+use mathlib.Core.Path.{_≡_, refl, sym, ap, ap₂, subst, _∙_}
 use mathlib.Core.List.{List}
 use native.Mathlib.Omega.{arith}
 use lib.ListN.{length, drop, length-drop}
-use borrow.Author.Tests.{lt-ltb, le-ltb}
 use Rattle.local_format.specs.Refusal.{Refusal}
-use Rattle.local_format.specs.Out.{Out, ok, refused, refuse}
+use Rattle.local_format.specs.Out.{Out, ok, refused}
 use Rattle.local_format.specs.Text.{Span, sectionField, textAt}
 use Rattle.local_format.proofs.OutLaws.{never, bind-ok, ok-same}
 use Rattle.local_format.proofs.TextLaws.{text-ok}
@@ -14,10 +13,14 @@ use Rattle.evr0_section.specs.Rows.{Sized, Entry}
 use Rattle.evr0_section.specs.Proposition.{Proposition, propositionOf}
 use Rattle.evr0_section.specs.Proof.{ProofRecord, zerosAt, proofOf}
 use Rattle.evr0_section.specs.Witness.{WitnessRecord}
-use Rattle.evr0_head.specs.Maps.{Beside}
+use Rattle.evr0_fields.specs.Maps.{Beside}
 use Rattle.evr0_records.specs.Maps as records
-use Rattle.evr0_read.specs.Entry.{recordAt, entryAt}
+use Rattle.evr0_read.specs.Entry.{recordAt}
 use Rattle.evr0_read.specs.Maps.{witnessBeside}
+
+-- what a reader answered of the part from a place on, where its answer was matched
+pub read-at : {R X : Type 0} (out : R → Out X) (read : List ℕ → Out X) {r x : R} {s t : List ℕ} → out r ≡ read s → s ≡ t → r ≡ x → read t ≡ out x
+read-at out read e f g = sym (e ∙ ap read f) ∙ ap out g
 
 module _ {X A : Type 0} (read : List ℕ → Out X) (place : ℕ → X → A) (p : List ℕ) (start : ℕ) where
   pub record-refused : {r : Refusal} → read (drop start p) ≡ refused r → refused r ≡ recordAt read place p start
@@ -28,15 +31,6 @@ module _ {X A : Type 0} (read : List ℕ → Out X) (place : ℕ → X → A) (p
       → ok (record { start = start; item = y }) ≡ recordAt read place p start
   unfolding recordAt
   record-found e f = rw (e, f)
-
-  module _ (count k : ℕ) where
-    pub entry-none : count ≤ k → refuse 62 0 ≡ entryAt read place p count start k
-    unfolding entryAt
-    entry-none h = rw (le-ltb k count h)
-
-    pub entry-there : k < count → recordAt read place p start ≡ entryAt read place p count start k
-    unfolding entryAt
-    entry-there h = rw (lt-ltb k count h)
 
 -- ---- Texts
 
@@ -91,7 +85,3 @@ pub refused-beside : {b : Beside (Sized WitnessRecord)} (x : Out (Sized WitnessR
 refused-beside (ok w) e h = absurd (never (sym h))
 refused-beside (refused q) {r} e h =
     ap₂ (refusedWith r) (ap (λ (c : Beside (Sized WitnessRecord)). c .first) e) (ap (λ (c : Beside (Sized WitnessRecord)). c .second) e)
-
-pub beside-is : (x : Out (Entry WitnessRecord)) → witnessBeside x .answer ≡ x
-beside-is (ok w) = refl
-beside-is (refused r) = refl

@@ -1,13 +1,8 @@
 pub mod AcceptedLaws
 pub mod FoundLaws
-pub mod HeldLaws
-pub mod DownLaws
-pub mod AuthorisedLaws
 pub mod EntryLaws
 pub mod PlaceLaws
-pub mod NumberedLaws
+pub mod TableLaws
+pub mod FindLaws
 pub mod AskLaws
-pub mod NumberLaws
-pub mod AnswerLaws
 pub mod Listing
-pub mod Stated

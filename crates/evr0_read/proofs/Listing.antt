@@ -1,41 +1,43 @@
 -- Whoever lists all records of an accepted section may decode it once and read each record at its place: reading at entry k of a lent
--- table, or where witness k or parent cell k stands, gives the record with the number k. The front of a lent table is the starts of its
--- records; witnesses and parents, each of one size, are the payload's last bytes.
+-- table, or where witness k or parent cell k stands, gives the record with the number k.
 use Prim.Native.Nat.{ℕ, _+_, _-_, _<_}
 use mathlib.Core.Path.{_≡_, refl, sym, ap, _∙_}
 use mathlib.Core.List.{List}
 use native.Mathlib.Omega.{arith}
-use lib.ListN.{length, getD, length-take, length-drop, length-map, List·getD-append}
-use Rattle.local_format.specs.Out.{ok}
-use Rattle.local_format.specs.Number.{numbered}
-use Rattle.lent_table.specs.Lent.{lent}
-use Rattle.derivation.specs.Rule.{fourRules}
+use lib.ListN.{length, length-take, length-drop}
+use Rattle.local_format.specs.Out.{Out, ok}
+use Rattle.local_format.specs.Number.{numbered, choose}
+use Rattle.local_format.proofs.NumberLaws.{is-there}
 use Rattle.evr0_section.specs.Rows.{Entry}
 use Rattle.evr0_section.specs.Head.{Counts, Room}
-use Rattle.evr0_section.specs.Proposition.{propositionOf}
-use Rattle.evr0_section.specs.Proof.{proofOf}
-use Rattle.evr0_section.specs.Witness.{witnessOf, parentRow}
 use Rattle.evr0_section.specs.Section.{Section, decodeSection}
-use Rattle.evr0.specs.Maps.{startsOf}
-use Rattle.evr0_read.specs.Ask.{propositionNumber, proofNumber, witnessNumber, parentNumber}
-use Rattle.evr0_read.specs.Entry.{recordAt, shown, shownProposition, shownSettled, placedProposition, placedProof, placedWitness, placedParent}
+use Rattle.evr0_read.specs.Asked.{telling}
+use Rattle.evr0_read.specs.Entry.{recordAt, shown}
 use Rattle.evr0_read.specs.Place.{witnessPlace, parentPlace}
 use Rattle.evr0_read.specs.Listing.{payloadOf, Listed}
-use Rattle.evr0_read.proofs.AcceptedLaws.{Accepted, accepted}
-use Rattle.evr0_read.proofs.EntryLaws.{entry-there}
-use Rattle.evr0_read.proofs.NumberedLaws.{as-is, proposition-numbered, proof-numbered, witness-numbered, parent-numbered}
-use Rattle.evr0_read.proofs.AskLaws.{decoded}
+use Rattle.evr0_read.proofs.TableLaws.{
+  facts,
+  proposition-read,
+  proof-read,
+  witness-read,
+  parent-read,
+  witness-count,
+  parent-count,
+  witness-start,
+  parent-start,
+}
+use Rattle.evr0_read.proofs.FindLaws.{lent-start}
 
--- an entry of a lent table before the count is a start
-lent-start : {A : Type 0} (n k : ℕ) (es : List (Entry A)) {count : ℕ} → length es ≡ count → k < count → getD (lent n (startsOf es)) k 0
-    ≡ getD (startsOf es) k 0
-lent-start n k es e h = List·getD-append (startsOf es) _ 0 k (omega (arith, length-map es (λ e. e .start)))
+module _ {A E : Type 0} (d : Section) (table : Section → List (Entry A)) (show : ℕ → A → E) {X : Type 0} (read : List ℕ → Out X) (place : ℕ → X → E)
+    (p : List ℕ) (k : ℕ) {count start : ℕ} (long : length (table d) ≡ count)
+    (reads : (e : Entry A) → numbered k (table d) ≡ ok e → recordAt read place p (e .start) ≡ ok (shown show e))
+    (at : (e : Entry A) → numbered k (table d) ≡ ok e → start ≡ e .start) where
+  listed : k < count → recordAt read place p start ≡ telling (λ c. shown show (c .value)) (choose (λ s. numbered k (table s)) (ok d))
+  listed l =
+      let (e, h) = is-there k (table d) (omega (arith, long)) in
+      rw (at e h, h) (reads e h)
 
 module _ (room : Room) (bytes : List ℕ) (cursor : ℕ) (d : Section) (decodes : decodeSection room bytes cursor ≡ ok d) where
-  facts : Accepted fourRules room bytes cursor d
-  unfolding decodeSection
-  facts = accepted fourRules room bytes cursor decodes
-
   abbrev p : List ℕ
   p = payloadOf bytes cursor d
 
@@ -43,33 +45,21 @@ module _ (room : Room) (bytes : List ℕ) (cursor : ℕ) (d : Section) (decodes 
   counts = d .tables .head .counts
 
   size : length p ≡ d .cursor - (cursor + 8)
-  size = simp (length-take, length-drop) (omega (arith, facts .start, facts .end))
+  size = let f = facts room bytes cursor d decodes in simp (length-take, length-drop) (omega (arith, f .start, f .end))
 
   pub all-listed : Listed room bytes cursor d
-  unfolding propositionNumber proofNumber witnessNumber parentNumber
   all-listed =
+      let f = facts room bytes cursor d decodes in
       record {
         size = size;
-        proposition = λ k h.
-            ap (recordAt propositionOf placedProposition p) (lent-start (room .propositions) k (d .tables .propositions .entries) (facts .propositions) h)
-            ∙ entry-there propositionOf placedProposition p _ (counts .propositions) k h
-            ∙ proposition-numbered fourRules room p (d .tables) (facts .read) k
-            ∙ decoded (shown shownProposition) (λ y. numbered k (y .tables .propositions .entries)) (ok d) refl;
-        proof = λ k h.
-            ap (recordAt proofOf placedProof p) (lent-start (room .proofs) k (d .tables .proofs .entries) (facts .proofs) h)
-            ∙ entry-there proofOf placedProof p _ (counts .proofs) k h
-            ∙ proof-numbered fourRules room p (d .tables) (facts .read) k
-            ∙ decoded (shown shownSettled) (λ y. numbered k (y .tables .proofs .entries)) (ok d) refl;
-        witness = λ k h.
-            ap (λ (n : ℕ). recordAt (witnessOf 4) placedWitness p (witnessPlace n (counts .witnesses) (counts .parents) k)) (sym size)
-            ∙ entry-there (witnessOf 4) placedWitness p _ (counts .witnesses) k h
-            ∙ witness-numbered fourRules room p (d .tables) (facts .read) k
-            ∙ as-is (numbered k (d .tables .witnesses .entries))
-            ∙ decoded (λ e. e) (λ y. numbered k (y .tables .witnesses .entries)) (ok d) refl;
-        parent = λ k h.
-            ap (λ (n : ℕ). recordAt (parentRow tt) placedParent p (parentPlace n (counts .parents) k)) (sym size)
-            ∙ entry-there (parentRow tt) placedParent p _ (counts .parents) k h
-            ∙ parent-numbered fourRules room p (d .tables) (facts .read) k
-            ∙ as-is (numbered k (d .tables .parents .entries))
-            ∙ decoded (λ e. e) (λ y. numbered k (y .tables .parents .entries)) (ok d) refl;
+        proposition = λ k l. listed d (λ s. s .tables .propositions .entries) _ _ _ p k (f .propositions) (proposition-read room bytes cursor d decodes k)
+            (λ e h. lent-start (room .propositions) k (d .tables .propositions .entries) refl (omega (arith, f .propositions)) h) l;
+        proof = λ k l. listed d (λ s. s .tables .proofs .entries) _ _ _ p k (f .proofs) (proof-read room bytes cursor d decodes k)
+            (λ e h. lent-start (room .proofs) k (d .tables .proofs .entries) refl (omega (arith, f .proofs)) h) l;
+        witness = λ k l. listed d (λ s. s .tables .witnesses .entries) _ _ _ p k (witness-count room bytes cursor d decodes)
+            (witness-read room bytes cursor d decodes k)
+            (λ e h. ap (λ (n : ℕ). witnessPlace n (counts .witnesses) (counts .parents) k) (sym size) ∙ witness-start room bytes cursor d decodes k l h) l;
+        parent = λ k l. listed d (λ s. s .tables .parents .entries) _ _ _ p k (parent-count room bytes cursor d decodes)
+            (parent-read room bytes cursor d decodes k)
+            (λ e h. ap (λ (n : ℕ). parentPlace n (counts .parents) k) (sym size) ∙ parent-start room bytes cursor d decodes k l h) l;
       }

@@ -1,36 +1,48 @@
--- A proposition, a proof, a witness and a parent by number; *way down* and *authorised*. Each is asked of a section that was decoded anew.
+-- A proposition, a proof, a witness and a parent by number, asked of a section that was decoded anew, and what is told of each.
 use Prim.Native.Nat.{ℕ}
-use mathlib.Core.Bool.{Bool}
-use Rattle.local_format.specs.Out.{Out, ok, _>>=_}
+use Rattle.local_format.specs.Out.{Out}
 use Rattle.local_format.specs.Number.{numbered, Chosen, choose}
-use Rattle.derivation.specs.Down.{Down, wayDown, authorised}
+use Rattle.evr0_section.specs.Head.{Counts}
 use Rattle.evr0_section.specs.Rows.{Entry}
 use Rattle.evr0_section.specs.Proposition.{Proposition}
-use Rattle.evr0_section.specs.Proof.{Settled}
+use Rattle.evr0_section.specs.Proof.{ProofRecord, Settled}
 use Rattle.evr0_section.specs.Witness.{WitnessRecord}
-use Rattle.evr0_section.specs.Section.{Section, sectionOf}
+use Rattle.evr0_section.specs.Section.{Section}
+use Rattle.evr0_read.specs.Entry.{shown, shownProposition, shownSettled}
+use Rattle.evr0_read.specs.Asked.{telling}
 
 -- a record, and where it starts in the payload
-unfoldable pub propositionNumber : ℕ → Out Section → Out (Chosen Section (Entry Proposition))
+abbrev pub propositionNumber : ℕ → Out Section → Out (Chosen Section (Entry Proposition))
 propositionNumber n = choose (λ s. numbered n (s .tables .propositions .entries))
 
-unfoldable pub proofNumber : ℕ → Out Section → Out (Chosen Section (Entry Settled))
+abbrev pub proofNumber : ℕ → Out Section → Out (Chosen Section (Entry Settled))
 proofNumber n = choose (λ s. numbered n (s .tables .proofs .entries))
 
-unfoldable pub witnessNumber : ℕ → Out Section → Out (Chosen Section (Entry WitnessRecord))
+abbrev pub witnessNumber : ℕ → Out Section → Out (Chosen Section (Entry WitnessRecord))
 witnessNumber n = choose (λ s. numbered n (s .tables .witnesses .entries))
 
-unfoldable pub parentNumber : ℕ → Out Section → Out (Chosen Section (Entry ℕ))
+abbrev pub parentNumber : ℕ → Out Section → Out (Chosen Section (Entry ℕ))
 parentNumber n = choose (λ s. numbered n (s .tables .parents .entries))
 
--- from the proof with this number, with a limit on the moves
-unfoldable pub wayDownFrom : ℕ → ℕ → Out Section → Out (Chosen Section Down)
-wayDownFrom limit n = choose (λ s. do
-  p ← numbered n (s .tables .proofs .entries)
-  ok (wayDown (sectionOf (s .tables)) limit n))
+-- told with its text at its place in the payload
+abbrev pub propositionTold : Out (Chosen Section (Entry Proposition)) → Out (Entry Proposition)
+propositionTold = telling (λ c. shown shownProposition (c .value))
 
--- whether some proof of the proposition with this number has operation 1
-unfoldable pub authorisedNumber : ℕ → Out Section → Out (Chosen Section Bool)
-authorisedNumber n = choose (λ s. do
-  p ← numbered n (s .tables .propositions .entries)
-  ok (authorised (sectionOf (s .tables)) n))
+abbrev pub proofTold : Out (Chosen Section (Entry Settled)) → Out (Entry ProofRecord)
+proofTold = telling (λ c. shown shownSettled (c .value))
+
+-- told as it is
+abbrev pub entryTold : {E : Type 0} → Out (Chosen Section (Entry E)) → Out (Entry E)
+entryTold = telling (λ c. c .value)
+
+-- told by its place: the cursor after the section, the section's counts, and where the record starts in the payload
+pub record Place : Type 0 where
+  pub end : ℕ
+  pub counts : Counts
+  pub start : ℕ
+
+abbrev pub placeBy : ℕ → Counts → ℕ → Place
+placeBy end counts start = record { end = end; counts = counts; start = start }
+
+abbrev pub placeTold : {E : Type 0} → Out (Chosen Section (Entry E)) → Out Place
+placeTold = telling (λ c. placeBy (c .decoded .cursor) (c .decoded .tables .head .counts) (c .value .start))

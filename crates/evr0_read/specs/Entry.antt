@@ -1,10 +1,8 @@
 -- A record of a payload, from its start and by its number; its text at its place in the payload.
 use Prim.Native.Nat.{ℕ, _+_}
 use mathlib.Core.List.{List}
-use mathlib.Core.Bool.{cond}
 use lib.ListN.{drop}
-use lib.Dec.{ltb}
-use Rattle.local_format.specs.Out.{Out, ok, refuse, _>>=_}
+use Rattle.local_format.specs.Out.{Out, ok, _>>=_}
 use Rattle.local_format.specs.Text.{Span}
 use Rattle.evr0_section.specs.Rows.{Sized, Row, Entry}
 use Rattle.evr0_section.specs.Proposition.{Proposition}
@@ -65,7 +63,3 @@ module _ {X A : Type 0} (read : List ℕ → Out X) (place : ℕ → X → A) wh
   recordAt p start = do
     x ← read (drop start p)
     ok (record { start = start; item = place start x })
-
-  -- the same, if it is one of `count` records by its number k
-  unfoldable pub entryAt : List ℕ → ℕ → ℕ → ℕ → Out (Entry A)
-  entryAt p count start k = cond (ltb k count) (recordAt p start) (refuse 62 0)

@@ -1,8 +1,6 @@
-pub mod Ask
-pub mod Asked
-pub mod Held
 pub mod Entry
 pub mod Place
+pub mod Asked
+pub mod Ask
 pub mod Listing
-pub mod Stated
 pub mod Maps

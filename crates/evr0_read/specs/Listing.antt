@@ -13,28 +13,30 @@ use Rattle.evr0_section.specs.Proof.{proofOf}
 use Rattle.evr0_section.specs.Witness.{witnessOf, parentRow}
 use Rattle.evr0_section.specs.Section.{Section}
 use Rattle.evr0.specs.Answer.{propositionStarts, proofStarts}
-use Rattle.evr0_read.specs.Ask.{propositionNumber, proofNumber, witnessNumber, parentNumber}
-use Rattle.evr0_read.specs.Asked.{valueIn}
-use Rattle.evr0_read.specs.Entry.{recordAt, shown, shownProposition, shownSettled, placedProposition, placedProof, placedWitness, placedParent}
+use Rattle.evr0_read.specs.Entry.{recordAt, placedProposition, placedProof, placedWitness, placedParent}
+use Rattle.evr0_read.specs.Ask.{propositionNumber, proofNumber, witnessNumber, parentNumber, propositionTold, proofTold, entryTold}
 use Rattle.evr0_read.specs.Place.{witnessPlace, parentPlace}
 
--- of the section d at a cursor: the payload, from 8 bytes after that cursor to the section's
+-- the payload of a section at a cursor, from 8 bytes after it to the cursor after the section
+abbrev pub payloadTo : List ℕ → ℕ → ℕ → List ℕ
+payloadTo bytes cursor end = take (end - (cursor + 8)) (drop (cursor + 8) bytes)
+
 abbrev pub payloadOf : List ℕ → ℕ → Section → List ℕ
-payloadOf bytes cursor d = take (d .cursor - (cursor + 8)) (drop (cursor + 8) bytes)
+payloadOf bytes cursor d = payloadTo bytes cursor (d .cursor)
 
 -- d was decoded from the bytes at the cursor, with lent tables of these lengths
 pub record Listed (room : Room) (bytes : List ℕ) (cursor : ℕ) (d : Section) : Type 0 where
   pub size : length (payloadOf bytes cursor d) ≡ d .cursor - (cursor + 8)
   pub proposition : (k : ℕ) → k < d .tables .head .counts .propositions
       → recordAt propositionOf placedProposition (payloadOf bytes cursor d) (getD (lent (room .propositions) (propositionStarts (ok d))) k 0)
-      ≡ valueIn (shown shownProposition) (propositionNumber k (ok d))
+      ≡ propositionTold (propositionNumber k (ok d))
   pub proof : (k : ℕ) → k < d .tables .head .counts .proofs
       → recordAt proofOf placedProof (payloadOf bytes cursor d) (getD (lent (room .proofs) (proofStarts (ok d))) k 0)
-      ≡ valueIn (shown shownSettled) (proofNumber k (ok d))
+      ≡ proofTold (proofNumber k (ok d))
   pub witness : (k : ℕ) → k < d .tables .head .counts .witnesses
       → recordAt (witnessOf 4) placedWitness (payloadOf bytes cursor d)
       (witnessPlace (d .cursor - (cursor + 8)) (d .tables .head .counts .witnesses) (d .tables .head .counts .parents) k)
-      ≡ valueIn (λ e. e) (witnessNumber k (ok d))
+      ≡ entryTold (witnessNumber k (ok d))
   pub parent : (k : ℕ) → k < d .tables .head .counts .parents
       → recordAt (parentRow tt) placedParent (payloadOf bytes cursor d) (parentPlace (d .cursor - (cursor + 8)) (d .tables .head .counts .parents) k)
-      ≡ valueIn (λ e. e) (parentNumber k (ok d))
+      ≡ entryTold (parentNumber k (ok d))

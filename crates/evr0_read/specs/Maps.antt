@@ -1,18 +1,30 @@
 -- From the code's structs and enums to the definitions' types.
 use Prim.Native.Nat.{ℕ}
-use mathlib.Core.Bool.{Bool}
-use mathlib.Core.List.{List}
+use mathlib.Core.Bool.{cond}
+use mathlib.Core.List.{List, []}
+use lib.Dec.{ltb}
+use lib.ListN.{length, getD}
 use Rattle.local_format.specs.Out.{Out, ok, refused}
 use Rattle.local_format.specs.Maps.{refusalOut}
-use Rattle.derivation.specs.Down as of
+use Rattle.local_format.specs.Number.{Chosen, notInTable}
+use Rattle.lent_table.specs.Lent.{lent}
+use Rattle.evr0_section.specs.Head.{Counts}
 use Rattle.evr0_section.specs.Rows.{Entry}
 use Rattle.evr0_section.specs.Proposition.{Proposition}
 use Rattle.evr0_section.specs.Proof.{ProofRecord}
 use Rattle.evr0_section.specs.Witness.{WitnessRecord}
-use Rattle.evr0_head.specs.Maps.{Beside, beside}
+use Rattle.evr0_fields.specs.Maps.{Beside, beside}
+use Rattle.evr0_section.specs.Section.{Section}
+use Rattle.evr0_head.specs.Maps.{countsOut}
 use Rattle.evr0_records.specs.Maps.{propositionRecord, proofRecord, witnessRecord}
-use Rattle.evr0_read.specs.declared.down.Down as down
-use Rattle.evr0_read.specs.declared.down.Down.the-variants as variant
+use Rattle.evr0.specs.Answer.{Lent, lentOf}
+use Rattle.evr0_read.specs.Asked.{Answers}
+use Rattle.evr0_read.specs.Ask.{propositionNumber, proofNumber, witnessNumber, parentNumber, entryTold, Place, placeTold}
+use Rattle.evr0_read.specs.Place.{witnessPlace, parentPlace}
+use Rattle.evr0_read.specs.declared.find.Wanted.{Wanted}
+use Rattle.evr0_read.specs.declared.find.Wanted.the-variants as wanted
+use Rattle.evr0_read.specs.declared.find.Found.{Found}
+use Rattle.evr0_read.specs.declared.find.Found.the-variants as found
 use Rattle.evr0_read.specs.declared.entry.PropositionEntry as proposition
 use Rattle.evr0_read.specs.declared.entry.PropositionEntry.the-variants as propositions
 use Rattle.evr0_read.specs.declared.entry.ProofEntry as proof
@@ -22,22 +34,6 @@ use Rattle.evr0_read.specs.declared.cell.WitnessFound.the-variants as wi
 use Rattle.evr0_read.specs.declared.cell.WitnessEntry.{WitnessEntry}
 use Rattle.evr0_read.specs.declared.cell.ParentEntry as parent
 use Rattle.evr0_read.specs.declared.cell.ParentEntry.the-variants as parents
-use Rattle.evr0_read.specs.declared.down.WayDown as way
-use Rattle.evr0_read.specs.declared.down.WayDown.the-variants as ways
-use Rattle.evr0_read.specs.declared.authorised.AuthorisedAnswer as authority
-use Rattle.evr0_read.specs.declared.authorised.AuthorisedAnswer.the-variants as authorities
-
-abbrev pub downOut : down.Down → of.Down
-downOut (variant.Witness w moves) = of.witness (w .0) moves
-downOut (variant.Spent k) = of.spent (k .0)
-
-abbrev pub wayDownOut : way.WayDown → Out of.Down
-wayDownOut (ways.Answer d) = ok (downOut d)
-wayDownOut (ways.Refused r) = refused (refusalOut r)
-
-abbrev pub authorisedOut : authority.AuthorisedAnswer → Out Bool
-authorisedOut (authorities.Answer b) = ok b
-authorisedOut (authorities.Refused r) = refused (refusalOut r)
 
 abbrev pub propositionEntryOut : proposition.PropositionEntry → Out (Entry Proposition)
 propositionEntryOut (propositions.Found start r) = ok (record { start = start; item = propositionRecord r })
@@ -59,6 +55,39 @@ witnessEntryOut r =
 abbrev pub witnessBeside : Out (Entry WitnessRecord) → Beside (Entry WitnessRecord)
 witnessBeside d = beside (λ w. w .item .fileDigest) (λ w. w .item .originDigest) d
 
+abbrev pub witnessTold : Out (Chosen Section (Entry WitnessRecord)) → Beside (Entry WitnessRecord)
+witnessTold x = witnessBeside (entryTold x)
+
 abbrev pub parentEntryOut : parent.ParentEntry → Out (Entry ℕ)
 parentEntryOut (parents.Found start p) = ok (record { start = start; item = p .0 })
 parentEntryOut (parents.Refused r) = refused (refusalOut r)
+
+-- ---- Places
+
+abbrev pub foundOut : Found → Out Place
+foundOut (found.At end counts start) = ok (record { end = end; counts = countsOut counts; start = start })
+foundOut (found.Refused r) = refused (refusalOut r)
+
+-- the place of the record that is wanted
+abbrev pub Finds : Wanted → List ℕ → ℕ → Lent → Lent → Out Place → Type 0
+Finds (wanted.Proposition n) = Answers (propositionNumber (n .0)) placeTold
+Finds (wanted.Proof n) = Answers (proofNumber (n .0)) placeTold
+Finds (wanted.Witness n) = Answers (witnessNumber (n .0)) placeTold
+Finds (wanted.Parent n) = Answers (parentNumber n) placeTold
+
+-- a place, for one of so many numbers
+abbrev pub among : ℕ → ℕ → Place → Out Place
+among n count place = cond (ltb n count) (ok place) notInTable
+
+-- the place by the lent tables of starts, and by a payload of `len` bytes
+abbrev pub sought : Wanted → ℕ → (ℕ → Place) → Counts → List ℕ → List ℕ → Out Place
+sought (wanted.Proposition n) len at counts ps qs = among (n .0) (counts .propositions) (at (getD ps (n .0) 0))
+sought (wanted.Proof n) len at counts ps qs = among (n .0) (counts .proofs) (at (getD qs (n .0) 0))
+sought (wanted.Witness n) len at counts ps qs = among (n .0) (counts .witnesses) (at (witnessPlace len (counts .witnesses) (counts .parents) (n .0)))
+sought (wanted.Parent n) len at counts ps qs = among n (counts .parents) (at (parentPlace len (counts .parents) n))
+
+-- the tables after an answer: zeros where it is a refusal
+abbrev pub settled : Out Place → Lent → Lent
+settled (ok place) t = t
+settled (refused r) t =
+    lentOf (lent (length (t .propositions)) []) (lent (length (t .proofs)) []) (lent (length (t .depths)) [])

@@ -1,16 +1,15 @@
 // Witnesses and parents of a payload, at a place and by number: they are as many bytes each, and stand at its end.
 ghost use mathlib.Core.Path.{_≡_};
 ghost use Prim.Native.Nat.{_-_, _*_};
-ghost use lib.ListN.{length};
 ghost use Rattle.local_format.specs.Out.{refused};
 ghost use Rattle.local_format.specs.Maps.{refusalOut};
 ghost use Rattle.evr0_section.specs.Witness.{witnessOf, parentRow};
-ghost use Rattle.evr0_read.specs.Entry.{placedWitness, placedParent, recordAt, entryAt};
+ghost use Rattle.evr0_read.specs.Entry.{placedWitness, placedParent, recordAt};
 ghost use Rattle.evr0_read.specs.Place.{witnessPlace, parentPlace};
 ghost use Rattle.evr0_read.specs.Maps.{witnessEntryOut, witnessBeside, parentEntryOut};
+use evr0_fields::number::ProofNumber;
+use evr0_fields::number::WitnessNumber;
 use evr0_head::counts::Counts;
-use evr0_head::number::ProofNumber;
-use evr0_head::number::WitnessNumber;
 use evr0_records::parent::Parent;
 use evr0_records::witness::Witness;
 use evr0_records::witness::WitnessAnswer;
@@ -68,7 +67,7 @@ pub fn witness_place(len: usize, counts: Counts, number: WitnessNumber) -> usize
 pub fn parent_place(len: usize, counts: Counts, number: u32) -> usize
     ensures { λ r. ⌜ r ≡ parentPlace len (counts .parents) number ⌝ }
 {
-    let i = evr0_head::number::wide(number);
+    let i = evr0_fields::number::wide(number);
     if counts.parents <= i {
         return 0;
     }
@@ -119,26 +118,4 @@ pub fn parent_at(payload: &[u8], at: usize) -> ParentEntry
         },
         Parent::Refused(r) => ParentEntry::Refused(r),
     }
-}
-
-pub fn witness_in(payload: &[u8], counts: Counts, number: WitnessNumber) -> WitnessEntry
-    ensures { λ r. ⌜ witnessEntryOut r
-        ≡ witnessBeside (entryAt (witnessOf 4) placedWitness (now (payload .entry)) (counts .witnesses)
-        (witnessPlace (length (now (payload .entry))) (counts .witnesses) (counts .parents) (number .0)) (number .0)) ⌝ }
-{
-    if counts.witnesses <= number.place() {
-        return no_witness(local_format::refusal::refuse(62, 0));
-    }
-    witness_at(payload, witness_place(payload.len(), counts, number))
-}
-
-pub fn parent_in(payload: &[u8], counts: Counts, number: u32) -> ParentEntry
-    ensures { λ r. ⌜ parentEntryOut r
-        ≡ entryAt (parentRow tt) placedParent (now (payload .entry)) (counts .parents)
-        (parentPlace (length (now (payload .entry))) (counts .parents) number) number ⌝ }
-{
-    if counts.parents <= evr0_head::number::wide(number) {
-        return ParentEntry::Refused(local_format::refusal::refuse(62, 0));
-    }
-    parent_at(payload, parent_place(payload.len(), counts, number))
 }

@@ -1,16 +1,13 @@
-// Propositions and proofs of a payload, at a place and by number. A text stands at its place in the payload.
+// Propositions and proofs of a payload, at a place. A text stands at its place in the payload.
 ghost use mathlib.Core.Path.{_≡_};
 ghost use Prim.Native.Nat.{_+_, _≤_};
-ghost use lib.ListN.{length, getD};
 ghost use Rattle.evr0_section.specs.Proposition.{propositionOf};
 ghost use Rattle.evr0_section.specs.Proof.{proofOf};
-ghost use Rattle.evr0_head.specs.Maps.{spanOut};
+ghost use Rattle.evr0_fields.specs.Maps.{spanOut};
 ghost use Rattle.evr0_records.specs.Maps.{propositionRecord, proofRecord};
-ghost use Rattle.evr0_read.specs.Entry.{placed, withKind, withRule, placedProposition, placedProof, recordAt, entryAt};
+ghost use Rattle.evr0_read.specs.Entry.{placed, withKind, withRule, placedProposition, placedProof, recordAt};
 ghost use Rattle.evr0_read.specs.Maps.{propositionEntryOut, proofEntryOut};
-use evr0_head::number::ProofNumber;
-use evr0_head::number::PropositionIndex;
-use evr0_head::span::Span;
+use evr0_fields::span::Span;
 use evr0_records::proof::Proof;
 use evr0_records::proof::ProofRead;
 use evr0_records::proposition::Proposition;
@@ -106,27 +103,4 @@ pub fn proof_at(payload: &[u8], at: usize) -> ProofEntry
         },
         ProofRead::Refused(r) => ProofEntry::Refused(r),
     }
-}
-
-pub fn proposition_in(payload: &[u8], starts: &[u64], number: PropositionIndex) -> PropositionEntry
-    ensures { λ r. ⌜ propositionEntryOut r
-        ≡ entryAt propositionOf placedProposition (now (payload .entry)) (length (now (starts .entry))) (getD (now (starts .entry)) (number .0) 0)
-        (number .0) ⌝ }
-{
-    let i = number.place();
-    if starts.len() <= i {
-        return PropositionEntry::Refused(local_format::refusal::refuse(62, 0));
-    }
-    proposition_at(payload, starts[i] as usize)
-}
-
-pub fn proof_entry_in(payload: &[u8], starts: &[u64], number: ProofNumber) -> ProofEntry
-    ensures { λ r. ⌜ proofEntryOut r
-        ≡ entryAt proofOf placedProof (now (payload .entry)) (length (now (starts .entry))) (getD (now (starts .entry)) (number .0) 0) (number .0) ⌝ }
-{
-    let i = number.place();
-    if starts.len() <= i {
-        return ProofEntry::Refused(local_format::refusal::refuse(62, 0));
-    }
-    proof_at(payload, starts[i] as usize)
 }

@@ -1,8 +1,6 @@
-// Records of an evidence section by number, the way down from a proof, and whether a proposition is authorised.
+// Records of an evidence section by number. Each is read off a section that is decoded anew first.
 pub mod ask;
-pub mod authorised;
 pub mod cell;
-pub mod down;
 pub mod entry;
-mod held;
-mod table;
+pub mod find;
+pub mod table;

@@ -1,24 +1,22 @@
-// Parts of a decoded section: its payload, the front of a lent table, and the tables after an answer.
+// Parts of a decoded section: its payload, and the front of a lent table.
 ghost use mathlib.Core.Path.{_≡_};
-ghost use Prim.Native.Nat.{_+_, _-_, _≤_};
-ghost use lib.ListN.{length, take, drop};
-ghost use Rattle.evr0_read.specs.Asked.{settled};
-use lent_table::clear;
+ghost use lib.ListN.{take, getD};
+ghost use Rattle.evr0_read.specs.Listing.{payloadTo};
 
 // The payload of the section at a cursor that ends at `end`.
 pub fn payload_of(bytes: &[u8], cursor: usize, end: usize) -> &[u8]
-    ensures { λ r. ⌜ (cursor + 8 ≤ end → end ≤ length (now (bytes .entry)) → now r ≡ take (end - (cursor + 8)) (drop (cursor + 8) (now (bytes .entry)))) ⌝ }
+    ensures { λ r. ⌜ now r ≡ payloadTo (now (bytes .entry)) cursor end ⌝ }
 {
-    if bytes.len() < end {
-        return bytes;
-    }
     if end < 8 {
-        return bytes;
+        return &bytes[..0];
     }
     if end - 8 < cursor {
-        return bytes;
+        return &bytes[..0];
     }
     let start = cursor + 8;
+    if bytes.len() < end {
+        return local_format::part::tail(bytes, start);
+    }
     &bytes[start..end]
 }
 
@@ -31,15 +29,12 @@ pub fn front(table: &[u64], count: usize) -> &[u64]
     table
 }
 
-// Zeros in the lent tables where the answer is a refusal.
-pub fn settle(refused: bool, propositions: &mut [u64], proofs: &mut [u64], depths: &mut [u64])
-    ensures { λ r. ⌜ now (propositions .exit) ≡ settled refused (now (propositions .entry)) ⌝ }
-    ensures { λ r. ⌜ now (proofs .exit) ≡ settled refused (now (proofs .entry)) ⌝ }
-    ensures { λ r. ⌜ now (depths .exit) ≡ settled refused (now (depths .entry)) ⌝ }
+// An entry of a table; 0 past its end.
+pub fn start_at(table: &[u64], i: usize) -> usize
+    ensures { λ r. ⌜ r ≡ getD (now (table .entry)) i 0 ⌝ }
 {
-    if refused {
-        clear(propositions);
-        clear(proofs);
-        clear(depths);
+    if i < table.len() {
+        return table[i] as usize;
     }
+    0
 }

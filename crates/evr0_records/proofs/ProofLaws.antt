@@ -4,7 +4,7 @@ use mathlib.Core.Path.{_≡_, sym, ap₂}
 use mathlib.Core.Bool.{true, _&&_}
 use lib.Dec.{leb}
 use borrow.Author.Tests.{eqb-true}
-use Rattle.local_format.proofs.BoolLaws.{both}
+use Rattle.utf8.proofs.BoolLaws.{both}
 use Rattle.evr0_section.specs.Head.{Counts}
 use Rattle.evr0_section.specs.Proof.{ProofRecord, Unowned}
 use Rattle.evr0_records.specs.Checks.{isContiguous, endsWithin}

@@ -8,7 +8,7 @@ use Rattle.evr0_section.specs.Rows.{Sized, Row}
 use Rattle.evr0_section.specs.Proposition as props
 use Rattle.evr0_section.specs.Proof as proofs
 use Rattle.evr0_section.specs.Witness.{WitnessRecord}
-use Rattle.evr0_head.specs.Maps.{spanOut, Beside, beside}
+use Rattle.evr0_fields.specs.Maps.{spanOut, Beside, beside}
 use Rattle.evr0_records.specs.declared.order.Order.{Order}
 use Rattle.evr0_records.specs.declared.order.Order.the-variants as order
 use Rattle.evr0_records.specs.declared.proof.Proof.{Proof}

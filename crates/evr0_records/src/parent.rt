@@ -2,7 +2,7 @@
 ghost use mathlib.Core.Path.{_≡_};
 ghost use Rattle.evr0_section.specs.Witness.{parentRow};
 ghost use Rattle.evr0_records.specs.Maps.{parentOut};
-use evr0_head::number::ProofNumber;
+use evr0_fields::number::ProofNumber;
 use local_format::field::U32;
 use local_format::refusal::Refusal;
 

@@ -3,20 +3,23 @@ ghost use mathlib.Core.Path.{_≡_};
 ghost use Prim.Native.Nat.{_+_, _≤_};
 ghost use lib.ListN.{length, getD};
 ghost use Rattle.local_format.specs.Out.{refuse};
-ghost use Rattle.local_format.specs.Field.{le};
 ghost use Rattle.derivation.specs.Rule.{fourRules};
 ghost use Rattle.evr0_section.specs.Proof.{zerosAt, proofOf, hasNumbers, checkProof};
-ghost use Rattle.evr0_head.specs.Maps.{countsOut, placeOut, spanOut};
+ghost use Rattle.evr0_fields.specs.Maps.{placeOut, spanOut};
+ghost use Rattle.evr0_head.specs.Maps.{countsOut};
 ghost use Rattle.evr0_records.specs.Checks.{restOf, isNext, isContiguous, endsWithin};
 ghost use Rattle.evr0_records.specs.Maps.{unownedOut, ruleOut, proofRecord, proofOut, settledOut};
 use crate::rule::Named;
 use crate::rule::Rule;
+use evr0_fields::check::both;
+use evr0_fields::number::ProofNumber;
+use evr0_fields::number::PropositionIndex;
+use evr0_fields::number::WitnessNumber;
+use evr0_fields::number::u32_at;
+use evr0_fields::number::wide;
+use evr0_fields::place::Place;
+use evr0_fields::span::Span;
 use evr0_head::counts::Counts;
-use evr0_head::number::ProofNumber;
-use evr0_head::number::PropositionIndex;
-use evr0_head::number::WitnessNumber;
-use evr0_head::place::Place;
-use evr0_head::span::Span;
 use local_format::field::U8;
 use local_format::field::U32;
 use local_format::refusal::Refusal;
@@ -72,35 +75,32 @@ fn zeros_after(bytes: &[u8], first: u8, at: usize, zeros_at: usize) -> Place
     Place::Next(next)
 }
 
-// The field of four bytes at a place.
-fn four_at(bytes: &[u8], at: usize) -> u32
-    requires { ⌜ at + 4 ≤ length (now bytes) ⌝ }
-    ensures { λ r. ⌜ r ≡ le 4 (now (bytes .entry)) at ⌝ }
-{
-    local_format::field::le32(bytes[at], bytes[at + 1], bytes[at + 2], bytes[at + 3])
-}
-
 // What follows a proof's rule where all 24 bytes of it are there.
-fn read_whole_rest(tail: &[u8], proof_id: u32, proposition_index: u32, rule_id: Span) -> ProofRead
+fn read_whole_rest(
+    tail: &[u8],
+    proof_id: ProofNumber,
+    proposition_index: PropositionIndex,
+    rule_id: Span,
+) -> ProofRead
     requires { ⌜ «rule_id» .next + 24 ≤ length (now tail) ⌝ }
-    ensures { λ r. ⌜ proofOut r ≡ restOf (now (tail .entry)) «proof_id» «proposition_index» (spanOut «rule_id») ⌝ }
+    ensures { λ r. ⌜ proofOut r ≡ restOf (now (tail .entry)) («proof_id» .0) («proposition_index» .0) (spanOut «rule_id») ⌝ }
 {
     let at = rule_id.next;
-    let authority_context = four_at(tail, at);
-    let witness_first = four_at(tail, at + 4);
-    let witness_count = four_at(tail, at + 8);
-    let parent_first = four_at(tail, at + 12);
-    let parent_count = four_at(tail, at + 16);
+    let authority_context = u32_at(tail, at);
+    let witness_first = u32_at(tail, at + 4);
+    let witness_count = u32_at(tail, at + 8);
+    let parent_first = u32_at(tail, at + 12);
+    let parent_count = u32_at(tail, at + 16);
     let authorized_operation = tail[at + 20];
-    let last = four_at(tail, at + 20);
+    let last = u32_at(tail, at + 20);
     let size = at + 24;
     if last != local_format::field::le32(authorized_operation, 0, 0, 0) {
         return ProofRead::Refused(local_format::refusal::refuse(9, size));
     }
     ProofRead::Read {
         proof: Proof {
-            proof_id: ProofNumber(proof_id),
-            proposition_index: PropositionIndex(proposition_index),
+            proof_id,
+            proposition_index,
             rule_id,
             authority_context,
             witness_first: WitnessNumber(witness_first),
@@ -114,8 +114,13 @@ fn read_whole_rest(tail: &[u8], proof_id: u32, proposition_index: u32, rule_id: 
 }
 
 // What follows a proof's rule, field by field.
-fn read_rest(tail: &[u8], proof_id: u32, proposition_index: u32, rule_id: Span) -> ProofRead
-    ensures { λ r. ⌜ proofOut r ≡ restOf (now (tail .entry)) «proof_id» «proposition_index» (spanOut «rule_id») ⌝ }
+fn read_rest(
+    tail: &[u8],
+    proof_id: ProofNumber,
+    proposition_index: PropositionIndex,
+    rule_id: Span,
+) -> ProofRead
+    ensures { λ r. ⌜ proofOut r ≡ restOf (now (tail .entry)) («proof_id» .0) («proposition_index» .0) (spanOut «rule_id») ⌝ }
 {
     let authority = local_format::field::read_u32_le(tail, rule_id.next);
     let U32::Value {
@@ -167,12 +172,12 @@ fn read_rest(tail: &[u8], proof_id: u32, proposition_index: u32, rule_id: Span) 
     };
     let zeros = zeros_after(tail, authorized_operation, operation_at, zeros_at);
     let Place::Next(size) = zeros else {
-        return ProofRead::Refused(evr0_head::place::place_refusal(zeros));
+        return ProofRead::Refused(evr0_fields::place::place_refusal(zeros));
     };
     ProofRead::Read {
         proof: Proof {
-            proof_id: ProofNumber(proof_id),
-            proposition_index: PropositionIndex(proposition_index),
+            proof_id,
+            proposition_index,
             rule_id,
             authority_context,
             witness_first: WitnessNumber(witness_first),
@@ -221,6 +226,8 @@ pub fn read_proof(tail: &[u8]) -> ProofRead
         chars,
         next: authority_at,
     };
+    let proof_id = ProofNumber(proof_id);
+    let proposition_index = PropositionIndex(proposition_index);
     if tail.len() - authority_at < 24 {
         return read_rest(tail, proof_id, proposition_index, rule_id);
     }
@@ -238,46 +245,42 @@ fn has_numbers(rule: Rule, proof: Proof) -> bool
     ensures { λ r. ⌜ r ≡ hasNumbers (ruleOut rule) (proofRecord proof) ⌝ }
 {
     let shape = crate::rule::shape_of(rule);
-    if proof.witness_count != shape.witnesses {
-        return false;
-    }
-    if proof.parent_count != shape.parents {
-        return false;
-    }
-    proof.authorized_operation == shape.operation
+    both(
+        proof.witness_count == shape.witnesses,
+        both(
+            proof.parent_count == shape.parents,
+            proof.authorized_operation == shape.operation,
+        ),
+    )
 }
 
 // Whether a proof's number is its place, and its proposition is there.
 fn is_next(counts: Counts, unowned: Unowned, proof: Proof) -> bool
     ensures { λ r. ⌜ r ≡ isNext (countsOut counts) (unownedOut unowned) (proofRecord proof) ⌝ }
 {
-    if proof.proof_id.place() != unowned.proof {
-        return false;
-    }
-    proof.proposition_index.place() < counts.propositions
+    both(
+        proof.proof_id.place() == unowned.proof,
+        proof.proposition_index.place() < counts.propositions,
+    )
 }
 
 // Whether a proof's first witness and first parent are the next unowned.
 fn is_contiguous(unowned: Unowned, proof: Proof) -> bool
     ensures { λ r. ⌜ r ≡ isContiguous (unownedOut unowned) (proofRecord proof) ⌝ }
 {
-    if proof.witness_first.place() != unowned.witness {
-        return false;
-    }
-    evr0_head::number::wide(proof.parent_first) == unowned.parent
+    both(
+        proof.witness_first.place() == unowned.witness,
+        wide(proof.parent_first) == unowned.parent,
+    )
 }
 
 // Whether a proof's witnesses and parents end within their tables. The sums are wide.
 fn ends_within(counts: Counts, proof: Proof) -> bool
     ensures { λ r. ⌜ r ≡ endsWithin (countsOut counts) (proofRecord proof) ⌝ }
 {
-    let witnesses = proof.witness_first.place() + evr0_head::number::wide(proof.witness_count);
-    if counts.witnesses < witnesses {
-        return false;
-    }
-    let parents = evr0_head::number::wide(proof.parent_first)
-        + evr0_head::number::wide(proof.parent_count);
-    parents <= counts.parents
+    let witnesses = proof.witness_first.place() + wide(proof.witness_count);
+    let parents = wide(proof.parent_first) + wide(proof.parent_count);
+    both(witnesses <= counts.witnesses, parents <= counts.parents)
 }
 
 // The rule of a proof that is the next one; `name` is what its rule text holds.

@@ -5,7 +5,7 @@ ghost use Rattle.evr0_section.specs.Proposition.{propositionOf, compareKeys, is
 ghost use Rattle.evr0_records.specs.Maps.{propositionRecord, propositionOut};
 use crate::order::and_then;
 use crate::order::is_less;
-use evr0_head::span::Span;
+use evr0_fields::span::Span;
 use local_format::field::U32;
 use local_format::refusal::Refusal;
 use local_format::text::Text;
@@ -93,8 +93,8 @@ pub fn precedes(part: &[u8], a: Proposition, tail: &[u8], b: Proposition) -> boo
     let a_kind = a.kind;
     let b_kind = b.kind;
     let kinds = crate::order::compare_bytes(
-        evr0_head::span::bytes_of(part, a_kind),
-        evr0_head::span::bytes_of(tail, b_kind),
+        evr0_fields::span::bytes_of(part, a_kind),
+        evr0_fields::span::bytes_of(tail, b_kind),
     );
     let owners = crate::order::compare(a.ast_owner_id, b.ast_owner_id);
     let scopes = crate::order::compare(a.semantic_scope_id, b.semantic_scope_id);

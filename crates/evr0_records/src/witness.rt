@@ -5,13 +5,15 @@ ghost use Prim.Native.Nat.{ℕ};
 ghost use Rattle.local_format.specs.Out.{refused};
 ghost use Rattle.local_format.specs.Maps.{refusalOut};
 ghost use Rattle.evr0_section.specs.Witness.{witnessOf, checkWitness};
-ghost use Rattle.evr0_head.specs.Maps.{countsOut, checkedOut};
+ghost use Rattle.evr0_fields.specs.Maps.{checkedOut};
+ghost use Rattle.evr0_head.specs.Maps.{countsOut};
 ghost use Rattle.evr0_records.specs.Maps.{witnessRecord, witnessOut, witnessBeside};
-use evr0_head::check::Checked;
+use evr0_fields::check::Checked;
+use evr0_fields::check::both;
+use evr0_fields::number::PropositionIndex;
+use evr0_fields::number::WitnessNumber;
+use evr0_fields::place::Place;
 use evr0_head::counts::Counts;
-use evr0_head::number::PropositionIndex;
-use evr0_head::number::WitnessNumber;
-use evr0_head::place::Place;
 use local_format::field::U8;
 use local_format::field::U32;
 use local_format::refusal::Refusal;
@@ -74,14 +76,14 @@ pub fn read_witness(tail: &[u8]) -> WitnessRead
     else {
         return refused_witness(local_format::refusal::refuse(5, polarity_at));
     };
-    let zeros = evr0_head::place::read_zeros(tail, zeros_at);
+    let zeros = evr0_fields::place::read_zeros(tail, zeros_at);
     let Place::Next(file_at) = zeros else {
-        return refused_witness(evr0_head::place::place_refusal(zeros));
+        return refused_witness(evr0_fields::place::place_refusal(zeros));
     };
-    let file = evr0_head::place::read_digest(tail, file_at);
+    let file = evr0_fields::place::read_digest(tail, file_at);
     let file_place = file.place;
     let Place::Next(start_at) = file_place else {
-        return refused_witness(evr0_head::place::place_refusal(file_place));
+        return refused_witness(evr0_fields::place::place_refusal(file_place));
     };
     let start = local_format::field::read_u32_le(tail, start_at);
     let U32::Value {
@@ -99,10 +101,10 @@ pub fn read_witness(tail: &[u8]) -> WitnessRead
     else {
         return refused_witness(local_format::refusal::refuse(5, end_at));
     };
-    let origin = evr0_head::place::read_digest(tail, origin_at);
+    let origin = evr0_fields::place::read_digest(tail, origin_at);
     let origin_place = origin.place;
     let Place::Next(size) = origin_place else {
-        return refused_witness(evr0_head::place::place_refusal(origin_place));
+        return refused_witness(evr0_fields::place::place_refusal(origin_place));
     };
     let file_digest = file.bytes;
     let origin_digest = origin.bytes;
@@ -126,17 +128,19 @@ pub fn read_witness(tail: &[u8]) -> WitnessRead
 pub fn check_witness(counts: Counts, place: usize, witness: Witness) -> Checked
     ensures { λ r. ⌜ ((file origin : List ℕ) → checkedOut r ≡ checkWitness (countsOut counts) place (witnessRecord file origin witness)) ⌝ }
 {
-    if witness.witness_id.place() != place {
-        return evr0_head::check::refused(23, 0);
+    let known = both(
+        witness.witness_id.place() == place,
+        both(
+            witness.proposition_index.place() < counts.propositions,
+            both(
+                witness.polarity <= 1,
+                witness.source_start <= witness.source_end,
+            ),
+        ),
+    );
+    if known {
+        Checked::Passed
+    } else {
+        evr0_fields::check::refused(23, 0)
     }
-    if counts.propositions <= witness.proposition_index.place() {
-        return evr0_head::check::refused(23, 0);
-    }
-    if 1 < witness.polarity {
-        return evr0_head::check::refused(23, 0);
-    }
-    if witness.source_end < witness.source_start {
-        return evr0_head::check::refused(23, 0);
-    }
-    Checked::Passed
 }

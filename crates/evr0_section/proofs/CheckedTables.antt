@@ -13,20 +13,63 @@ use Rattle.local_format.proofs.OutLaws.{bind-ok, then-ok, checked-ok, ok-same}
 use Rattle.derivation.specs.Rule.{Rule, Shaped}
 use Rattle.derivation.specs.Section.{Section, Proof, Witness, noProof, noWitness, Checked, proofAt, witnessAt, proofTotal, witnessTotal, parentTotal, sumTo}
 use Rattle.derivation.proofs.Tests.{both}
+use Rattle.derivation.proofs.Owners.{sum-mono}
 use Rattle.evr0_section.specs.Rows.{rows}
-use Rattle.evr0_section.specs.Head.{Room, Head, headOf, checkCounts}
+use Rattle.evr0_section.specs.Head.{Room, Head, Counts, headOf, checkCounts, checkedHead}
 use Rattle.evr0_section.specs.Proposition.{first, propositionRow}
-use Rattle.evr0_section.specs.Proof.{Unowned, proofRow}
+use Rattle.evr0_section.specs.Proof.{Unowned, noneOwned, proofRow}
 use Rattle.evr0_section.specs.Witness.{witnessRow, parentRow}
-use Rattle.evr0_section.specs.Section.{Tables, proofItem, witnessItem, parentItem, sectionOf, tablesOf}
+use Rattle.evr0_section.specs.Section.{Rest, Four, Tables, restAfter, tablesAfter, proofItem, witnessItem, parentItem, sectionOf, tablesOf}
 use Rattle.evr0_section.proofs.RowsLaws.{trace, trace-length}
 use Rattle.evr0_section.proofs.StateLaws.{stateAt, state-sum, sum-ones, Read, rows-read}
 use Rattle.evr0_section.proofs.RowChecks.{afterProof, GoodProof, proof-known, GoodWitness, witness-known}
 
-abbrev noneOwned : Unowned
-noneOwned = record { proof = 0; witness = 0; parent = 0 }
+-- ---- The steps that read the tables of a payload
 
--- the steps that read the tables of a payload
+pub record RestSteps (counts : Counts) (p : List ℕ) (at : ℕ) (r : Rest) : Type 0 where
+  pub witnesses : rows (witnessRow 4 counts) (counts .witnesses) 0 p at ≡ ok (r .witnesses)
+  pub parents : rows parentRow (counts .parents) tt p (r .witnesses .next) ≡ ok (r .parents)
+  pub whole : r .parents .next ≡ length p
+
+rest-steps : (counts : Counts) (p : List ℕ) (at : ℕ) (r : Rest) → restAfter counts p at ≡ ok r → RestSteps counts p at r
+unfolding restAfter
+rest-steps counts p at r e =
+    let a = bind-ok (rows (witnessRow 4 counts) (counts .witnesses) 0 p at) _ e in
+    let b = bind-ok (rows parentRow (counts .parents) tt p (a .0 .next)) _ (a .2) in
+    let c = checked-ok (eqb (b .0 .next) (length p)) 24 (b .0 .next) _ (b .2) in
+    subst (RestSteps counts p at) (ok-same (c .1)) (record { witnesses = a .1; parents = b .1; whole = eqb-true _ _ (c .0) })
+
+pub record FourSteps (rules : List Rule) (counts : Counts) (p : List ℕ) (at : ℕ) (f : Four) : Type 0 where
+  pub propositions : rows propositionRow (counts .propositions) first p at ≡ ok (f .propositions)
+  pub proofs : rows (proofRow rules counts) (counts .proofs) noneOwned p (f .propositions .next) ≡ ok (f .proofs)
+  pub witnessesOwned : f .proofs .state .witness ≡ counts .witnesses
+  pub parentsOwned : f .proofs .state .parent ≡ counts .parents
+  pub rest : RestSteps counts p (f .proofs .next) (f .rest)
+
+pub four-steps : (rules : List Rule) (counts : Counts) (p : List ℕ) (at : ℕ) (f : Four) → tablesAfter rules counts p at ≡ ok f → FourSteps rules counts p at f
+unfolding tablesAfter
+four-steps rules counts p at f e =
+    let a = bind-ok (rows propositionRow (counts .propositions) first p at) _ e in
+    let b = bind-ok (rows (proofRow rules counts) (counts .proofs) noneOwned p (a .0 .next)) _ (a .2) in
+    let c = checked-ok (eqb (b .0 .state .witness) (counts .witnesses) && eqb (b .0 .state .parent) (counts .parents)) 22 (b .0 .next) _ (b .2) in
+    let owned = both (eqb (b .0 .state .witness) (counts .witnesses)) (eqb (b .0 .state .parent) (counts .parents)) (c .0) in
+    let d = bind-ok (restAfter counts p (b .0 .next)) _ (c .1) in
+    subst (FourSteps rules counts p at) (ok-same (d .2))
+    (record {
+      propositions = a .1;
+      proofs = b .1;
+      witnessesOwned = eqb-true _ _ (owned .0);
+      parentsOwned = eqb-true _ _ (owned .1);
+      rest = rest-steps counts p _ (d .0) (d .1);
+    })
+
+head-steps : (room : Room) (p : List ℕ) (h : Head) → checkedHead room p ≡ ok h → (headOf p ≡ ok h) × (checkCounts room p h ≡ ok tt)
+unfolding checkedHead
+head-steps room p h e =
+    let a = bind-ok (headOf p) _ e in
+    let b = then-ok (checkCounts room p (a .0)) _ (a .2) in
+    subst (λ (h : Head). (headOf p ≡ ok h) × (checkCounts room p h ≡ ok tt)) (ok-same (b .2)) (a .1, b .1)
+
 pub record Steps (rules : List Rule) (room : Room) (p : List ℕ) (t : Tables) : Type 0 where
   pub head : headOf p ≡ ok (t .head)
   pub counts : checkCounts room p (t .head) ≡ ok tt
@@ -42,28 +85,21 @@ module _ (rules : List Rule) (room : Room) (p : List ℕ) (t : Tables) (read : t
   pub steps : Steps rules room p t
   unfolding tablesOf
   steps =
-      let a = bind-ok (headOf p) _ read in
-      let head : Head = a .0 in
-      let b = then-ok (checkCounts room p head) _ (a .2) in
-      let c = bind-ok (rows propositionRow (head .counts .propositions) first p (head .next)) _ (b .2) in
-      let d = bind-ok (rows (proofRow rules (head .counts)) (head .counts .proofs) noneOwned p (c .0 .next)) _ (c .2) in
-      let f = checked-ok (eqb (d .0 .state .witness) (head .counts .witnesses) && eqb (d .0 .state .parent) (head .counts .parents)) 22 (d .0 .next) _
-      (d .2) in
-      let g = bind-ok (rows (witnessRow 4 (head .counts)) (head .counts .witnesses) 0 p (d .0 .next)) _ (f .1) in
-      let h = bind-ok (rows parentRow (head .counts .parents) tt p (g .0 .next)) _ (g .2) in
-      let k = checked-ok (eqb (h .0 .next) (length p)) 24 (h .0 .next) _ (h .2) in
-      let owned = both (eqb (d .0 .state .witness) (head .counts .witnesses)) (eqb (d .0 .state .parent) (head .counts .parents)) (f .0) in
-      subst (Steps rules room p) (ok-same (k .1))
+      let a = bind-ok (checkedHead room p) _ read in
+      let b = bind-ok (tablesAfter rules (a .0 .counts) p (a .0 .next)) _ (a .2) in
+      let h = head-steps room p (a .0) (a .1) in
+      let f : FourSteps rules (a .0 .counts) p (a .0 .next) (b .0) = four-steps rules (a .0 .counts) p (a .0 .next) (b .0) (b .1) in
+      subst (Steps rules room p) (ok-same (b .2))
       (record {
-        head = a .1;
-        counts = b .1;
-        propositions = c .1;
-        proofs = d .1;
-        witnessesOwned = eqb-true _ _ (owned .0);
-        parentsOwned = eqb-true _ _ (owned .1);
-        witnesses = g .1;
-        parents = h .1;
-        whole = eqb-true _ _ (k .0);
+        head = h .0;
+        counts = h .1;
+        propositions = f .propositions;
+        proofs = f .proofs;
+        witnessesOwned = f .witnessesOwned;
+        parentsOwned = f .parentsOwned;
+        witnesses = f .rest .witnesses;
+        parents = f .rest .parents;
+        whole = f .rest .whole;
       })
 
   proofs-read : Read proofItem afterProof (GoodProof rules (t .head .counts)) (t .head .counts .proofs) noneOwned (t .proofs .state)
@@ -121,6 +157,20 @@ module _ (rules : List Rule) (room : Room) (p : List ℕ) (t : Tables) (read : t
   pub rules-known : (i : ℕ) → i < proofTotal s → List·Memᴰ (proofAt s i .rule) rules
   rules-known i l = good-proof i l .rule
 
+  first-parent : (i : ℕ) → i < proofTotal s → proofAt s i .firstParent ≡ sumTo (λ k. proofAt s k .parentCount) i
+  first-parent i l = good-proof i l .firstParent ∙ sums (λ u. u .parent) (λ q. q .parentCount) (λ u q. refl) refl i (omega arith)
+
+  parents-owned : sumTo (λ k. proofAt s k .parentCount) (proofTotal s) ≡ parentTotal s
+  parents-owned =
+      sym (sums (λ u. u .parent) (λ q. q .parentCount) (λ u q. refl) refl (proofTotal s) (le-refl (proofTotal s)))
+      ∙ ap (λ (u : Unowned). u .parent) after-last
+      ∙ steps .parentsOwned
+      ∙ sym parent-total
+
+  -- the cells that a proof owns are cells of the table
+  pub cells-owned : (i : ℕ) → i < proofTotal s → proofAt s i .firstParent + proofAt s i .parentCount ≤ parentTotal s
+  cells-owned i l = omega (arith, first-parent i l, parents-owned, sum-mono (λ k. proofAt s k .parentCount) i (proofTotal s) l)
+
   pub tables-checked : ((r : Rule) → List·Memᴰ r rules → Shaped r) → Checked s
   unfolding sectionOf
   tables-checked shaped =
@@ -128,7 +178,7 @@ module _ (rules : List Rule) (room : Room) (p : List ℕ) (t : Tables) (read : t
         proofNumber = λ i l. good-proof i l .number ∙ sums (λ u. u .proof) (λ q. 1) (λ u q. omega arith) refl i (omega arith) ∙ sum-ones i;
         proofProposition = λ i l. good-proof i l .proposition;
         firstWitness = λ i l. good-proof i l .firstWitness ∙ sums (λ u. u .witness) (λ q. q .witnessCount) (λ u q. refl) refl i (omega arith);
-        firstParent = λ i l. good-proof i l .firstParent ∙ sums (λ u. u .parent) (λ q. q .parentCount) (λ u q. refl) refl i (omega arith);
+        firstParent = first-parent;
         shaped = λ i l. shaped _ (rules-known i l);
         shapeWitnesses = λ i l. good-proof i l .witnesses;
         shapeParents = λ i l. good-proof i l .parents;
@@ -138,11 +188,7 @@ module _ (rules : List Rule) (room : Room) (p : List ℕ) (t : Tables) (read : t
             ∙ ap (λ (u : Unowned). u .witness) after-last
             ∙ steps .witnessesOwned
             ∙ sym witness-total;
-        parentsOwned =
-            sym (sums (λ u. u .parent) (λ q. q .parentCount) (λ u q. refl) refl (proofTotal s) (le-refl (proofTotal s)))
-            ∙ ap (λ (u : Unowned). u .parent) after-last
-            ∙ steps .parentsOwned
-            ∙ sym parent-total;
+        parentsOwned = parents-owned;
         witnessNumber = λ w l. good-witness w l .number;
         witnessProposition = λ w l. good-witness w l .proposition;
         witnessPolarity = λ w l. good-witness w l .polarity;

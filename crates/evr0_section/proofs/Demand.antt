@@ -8,12 +8,12 @@ use Rattle.derivation.specs.Rule.{Rule, Shaped, fourRules}
 use Rattle.derivation.specs.Section.{Checked, proofAt, proofTotal}
 use Rattle.derivation.specs.Demand.{Derivable}
 use Rattle.derivation.proofs.Owners.{owned}
-use Rattle.derivation.proofs.Demand.{walks-lead, depths-are, accepted-exactly}
+use Rattle.derivation.proofs.Demand.{walks-lead, walks-end, depths-are, accepted-exactly}
 use Rattle.derivation.proofs.Down.{way-down, never-spent}
 use Rattle.derivation.proofs.Rules.{four-shaped, one-witness, two-parents}
 use Rattle.evr0_section.specs.Head.{Room}
 use Rattle.evr0_section.specs.Section.{Tables, Section, sectionOf, tablesAt}
-use Rattle.evr0_section.specs.Demand.{Demand3, FourWords}
+use Rattle.evr0_section.specs.Demand.{DemandByRules, FourWords, Demand3}
 use Rattle.evr0_section.proofs.CheckedTables.{rules-known, tables-checked}
 use Rattle.evr0_section.proofs.Stages.{stage}
 use Rattle.evr0_section.proofs.SectionSteps.{tables-of, Parts, section-parts, section-of}
@@ -27,7 +27,7 @@ module _ (rules : List Rule) (room : Room) (bytes : List ℕ) (cursor : ℕ) whe
     pub checked : (t : Tables) → tablesAt rules room bytes cursor ≡ ok t → Checked (sectionOf t)
     checked t e = let a = tables-of rules room bytes cursor t e in tables-checked rules room _ t (a .2) shaped
 
-    pub demand-by-rules : Demand3 rules room bytes cursor
+    pub demand-by-rules : DemandByRules rules room bytes cursor
     demand-by-rules =
         record {
           tables = λ d e. section-parts rules room bytes cursor d e .tables;
@@ -36,6 +36,7 @@ module _ (rules : List Rule) (room : Room) (bytes : List ℕ) (cursor : ℕ) whe
               let c : Checked (sectionOf (d .tables)) = checked (d .tables) (a .tables) in
               record {
                 walks = walks-lead _ _ c (d .depths) (a .depths);
+                noParentLeft = walks-end _ _ c (d .depths) (a .depths);
                 owned = owned _ c;
                 depths = depths-are _ _ c (d .depths) (a .depths);
                 down = way-down _ _ c (d .depths) (a .depths);
@@ -53,10 +54,7 @@ module _ (rules : List Rule) (room : Room) (bytes : List ℕ) (cursor : ℕ) whe
           );
         }
 
-pub demand-3 : (room : Room) (bytes : List ℕ) (cursor : ℕ) → Demand3 fourRules room bytes cursor
-demand-3 room bytes cursor = demand-by-rules fourRules room bytes cursor four-shaped
-
-pub four-words : (room : Room) (bytes : List ℕ) (cursor : ℕ) (t : Tables) → tablesAt fourRules room bytes cursor ≡ ok t → FourWords (sectionOf t)
+four-words : (room : Room) (bytes : List ℕ) (cursor : ℕ) (t : Tables) → tablesAt fourRules room bytes cursor ≡ ok t → FourWords (sectionOf t)
 four-words room bytes cursor t e =
     let known = rules-read fourRules room bytes cursor t e in
     record {
@@ -77,3 +75,6 @@ four-words room bytes cursor t e =
       );
       join = λ i l. two-parents _ (known i l);
     }
+
+pub demand-3 : (room : Room) (bytes : List ℕ) (cursor : ℕ) → Demand3 room bytes cursor
+demand-3 room bytes cursor = record { byRules = demand-by-rules fourRules room bytes cursor four-shaped; words = four-words room bytes cursor }

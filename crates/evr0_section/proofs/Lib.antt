@@ -3,12 +3,9 @@ pub mod StateLaws
 pub mod RowChecks
 pub mod CheckedTables
 pub mod SectionSteps
-pub mod Numbers
 pub mod Stages
 pub mod Demand
 pub mod RecordLaws
 pub mod Progress
 pub mod Inside
 pub mod SectionWithin
-pub mod Computed
-pub mod Specimens

@@ -1,16 +1,13 @@
 -- A loop over a table: i of its records are read, and the whole is those and then what the rest gives from here.
 use Prim.Native.Nat.{ℕ, suc, _+_, _-_, _≤_, _<_}
 use mathlib.Core.Path.{_≡_, refl, ap, _∙_}
-use mathlib.Core.List.{List, [], _∷_, _++_, map, append-nil}
+use mathlib.Core.List.{List, [], _∷_, _++_, append-nil}
 use native.Mathlib.Omega.{arith}
 use lib.ListN.{drop}
 use Rattle.local_format.specs.Refusal.{Refusal}
 use Rattle.local_format.specs.Out.{Out, ok, refused, atOffset}
-use Rattle.evr0_section.specs.Rows.{Row, Entry, Rows, rows}
+use Rattle.evr0_section.specs.Rows.{Row, Entry, Rows, rows, startsOf}
 use Rattle.evr0_section.proofs.RowsLaws.{after, entry, after-none, rows-none, rows-refused, rows-turn}
-
-abbrev pub startsOf : {A : Type 0} → List (Entry A) → List ℕ
-startsOf es = map (λ e. e .start) es
 
 starts-more : {A : Type 0} (es : List (Entry A)) (e : Entry A) → startsOf (es ++ (e ∷ [])) ≡ startsOf es ++ (e .start ∷ [])
 starts-more [] e = refl

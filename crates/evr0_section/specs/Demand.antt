@@ -5,11 +5,11 @@ use mathlib.Core.Logic.{_↔_, _⊎_}
 use mathlib.Core.List.{List}
 use Rattle.local_format.specs.Refusal.{Refusal}
 use Rattle.local_format.specs.Out.{ok, refused}
-use Rattle.derivation.specs.Rule.{Rule, posWitness1, negWitness1, joinSameP1}
+use Rattle.derivation.specs.Rule.{Rule, posWitness1, negWitness1, joinSameP1, fourRules}
 use Rattle.derivation.specs.Section as derivation
 use Rattle.derivation.specs.Section.{proofAt, witnessAt, proofTotal, witnessTotal}
 use Rattle.derivation.specs.Walk.{Walk, Witnessed}
-use Rattle.derivation.specs.Demand.{Leads, Owned, Depths, Derivable}
+use Rattle.derivation.specs.Demand.{Leads, NoParentLeft, Owned, Depths, Derivable}
 use Rattle.derivation.specs.Down.{Tells, wayDown, spent}
 use Rattle.evr0_section.specs.Head.{Room}
 use Rattle.evr0_section.specs.Section.{Tables, Section, sectionOf, tablesAt, sectionAt}
@@ -17,7 +17,8 @@ use Rattle.evr0_section.specs.Section.{Tables, Section, sectionOf, table
 -- what holds of every section that is accepted, with its tables as they were read from the bytes
 pub record Accepted (t : Tables) (ds : List ℕ) : Type 0 where
   -- from every proof and whichever parents are picked
-  pub walks : (i : ℕ) (cs : List ℕ) (k : ℕ) → Walk (sectionOf t) i cs k → Leads (sectionOf t) i cs k
+  pub walks : (i : ℕ) (cs : List ℕ) (k : ℕ) → Walk (sectionOf t) i cs k → Leads (sectionOf t) i k
+  pub noParentLeft : NoParentLeft (sectionOf t)
   pub owned : Owned (sectionOf t)
   pub depths : Depths (sectionOf t) ds
   pub down : (limit i : ℕ) → i < proofTotal (sectionOf t) → Tells (sectionOf t) limit i (wayDown (sectionOf t) limit i)
@@ -25,10 +26,11 @@ pub record Accepted (t : Tables) (ds : List ℕ) : Type 0 where
 
 -- of a refusal: 1 to 24 and 61 where the tables do not read or fail a check of their own, 25 to 29 where they read and pass
 pub data Stage (rules : List Rule) (room : Room) (bytes : List ℕ) (cursor : ℕ) (r : Refusal) : Type 0 where
-  inTables : tablesAt rules room bytes cursor ≡ refused r → (r .number ≤ 24) ⊎ (r .number ≡ 61) → Stage rules room bytes cursor r
+  inTables : tablesAt rules room bytes cursor ≡ refused r → ((1 ≤ r .number) × (r .number ≤ 24)) ⊎ (r .number ≡ 61) → Stage rules room bytes cursor r
   inLastPass : (t : Tables) → tablesAt rules room bytes cursor ≡ ok t → 25 ≤ r .number → r .number ≤ 29 → Stage rules room bytes cursor r
 
-pub record Demand3 (rules : List Rule) (room : Room) (bytes : List ℕ) (cursor : ℕ) : Type 0 where
+-- by any rules
+pub record DemandByRules (rules : List Rule) (room : Room) (bytes : List ℕ) (cursor : ℕ) : Type 0 where
   pub tables : (d : Section) → sectionAt rules room bytes cursor ≡ ok d → tablesAt rules room bytes cursor ≡ ok (d .tables)
   pub accepted : (d : Section) → sectionAt rules room bytes cursor ≡ ok d → Accepted (d .tables) (d .depths)
   -- where the tables all read and pass their own checks
@@ -51,3 +53,8 @@ pub record PosOrNeg (s : derivation.Section) (i k : ℕ) : Type 0 where
 pub record FourWords (s : derivation.Section) : Type 0 where
   pub witnessed : (i k : ℕ) → k < proofTotal s → Witnessed s i k ↔ PosOrNeg s i k
   pub join : (i : ℕ) → i < proofTotal s → (proofAt s i .rule .parents ≡ 2) ↔ (proofAt s i .rule ≡ joinSameP1)
+
+-- by the four rules, with these words for the tables where they read
+pub record Demand3 (room : Room) (bytes : List ℕ) (cursor : ℕ) : Type 0 where
+  pub byRules : DemandByRules fourRules room bytes cursor
+  pub words : (t : Tables) → tablesAt fourRules room bytes cursor ≡ ok t → FourWords (sectionOf t)

@@ -119,3 +119,10 @@ checkCounts room p h = do
   check (leb (length p + sizes (h .counts) 40 64 84 4) 16777216) 14 (h .next)
   check (leb (length p + sizes (h .counts) 1 1 1 1) 8388608) 15 (h .next)
   check (hasRoom room (h .counts)) 61 (h .next)
+
+-- a head whose counts passed their checks
+unfoldable pub checkedHead : Room → List ℕ → Out Head
+checkedHead room p = do
+  h ← headOf p
+  checkCounts room p h
+  ok h

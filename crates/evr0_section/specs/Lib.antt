@@ -5,5 +5,3 @@ pub mod Proof
 pub mod Witness
 pub mod Section
 pub mod Demand
-pub mod Build
-pub mod Specimens

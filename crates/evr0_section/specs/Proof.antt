@@ -64,6 +64,9 @@ pub record Unowned : Type 0 where
   pub witness : ℕ
   pub parent : ℕ
 
+abbrev pub noneOwned : Unowned
+noneOwned = record { proof = 0; witness = 0; parent = 0 }
+
 abbrev pub orUnknown : ℕ → ℕ → Named → Out Rule
 orUnknown number at (known r) = ok r
 orUnknown number at unknown = refuse number at

@@ -1,6 +1,6 @@
 -- A table: records one after the other, each read off the front of what is left of the payload.
 use Prim.Native.Nat.{ℕ, zero, suc, _+_}
-use mathlib.Core.List.{List, [], _∷_}
+use mathlib.Core.List.{List, [], _∷_, map}
 use lib.ListN.{drop}
 use Rattle.local_format.specs.Out.{Out, ok, _>>=_, moved}
 
@@ -34,3 +34,7 @@ module _ {A S : Type 0} (row : S → List ℕ → Out (Row A S)) where
     r ← moved at (row state (drop at p))
     rest ← rows n (r .state) p (at + r .size)
     ok (record { entries = record { start = at; item = r .item } ∷ rest .entries; state = rest .state; next = rest .next })
+
+-- where its records start
+abbrev pub startsOf : {A : Type 0} → List (Entry A) → List ℕ
+startsOf es = map (λ e. e .start) es

@@ -12,9 +12,9 @@ use Rattle.derivation.specs.Rule.{Rule, fourRules}
 use Rattle.derivation.specs.Section as derivation
 use Rattle.derivation.specs.Pass.{depths}
 use Rattle.evr0_section.specs.Rows.{Entry, Rows, rows}
-use Rattle.evr0_section.specs.Head.{Head, Room, headOf, checkCounts}
+use Rattle.evr0_section.specs.Head.{Counts, Head, Room, checkedHead}
 use Rattle.evr0_section.specs.Proposition.{Proposition, Before, first, propositionRow}
-use Rattle.evr0_section.specs.Proof.{Settled, Unowned, proofRow}
+use Rattle.evr0_section.specs.Proof.{Settled, Unowned, noneOwned, proofRow}
 use Rattle.evr0_section.specs.Witness.{WitnessRecord, witnessRow, parentRow}
 
 -- ---- From the tag to the payload
@@ -34,12 +34,43 @@ frameAt s cursor = do
 
 -- ---- The four tables
 
+-- the witnesses and the parents
+pub record Rest : Type 0 where
+  pub witnesses : Rows WitnessRecord ℕ
+  pub parents : Rows ℕ (Unit {0})
+
+-- from a place on, up to the payload's end
+unfoldable pub restAfter : Counts → List ℕ → ℕ → Out Rest
+restAfter counts p at = do
+  witnesses ← rows (witnessRow 4 counts) (counts .witnesses) 0 p at
+  parents ← rows parentRow (counts .parents) tt p (witnesses .next)
+  check (eqb (parents .next) (length p)) 24 (parents .next)
+  ok (record { witnesses = witnesses; parents = parents })
+
+pub record Four : Type 0 where
+  pub propositions : Rows Proposition Before
+  pub proofs : Rows Settled Unowned
+  pub rest : Rest
+
+-- the four tables, from the place after the head
+unfoldable pub tablesAfter : List Rule → Counts → List ℕ → ℕ → Out Four
+tablesAfter rules counts p at = do
+  propositions ← rows propositionRow (counts .propositions) first p at
+  proofs ← rows (proofRow rules counts) (counts .proofs) noneOwned p (propositions .next)
+  check (eqb (proofs .state .witness) (counts .witnesses) && eqb (proofs .state .parent) (counts .parents)) 22 (proofs .next)
+  rest ← restAfter counts p (proofs .next)
+  ok (record { propositions = propositions; proofs = proofs; rest = rest })
+
 pub record Tables : Type 0 where
   pub head : Head
   pub propositions : Rows Proposition Before
   pub proofs : Rows Settled Unowned
   pub witnesses : Rows WitnessRecord ℕ
   pub parents : Rows ℕ (Unit {0})
+
+abbrev pub whole : Head → Four → Tables
+whole h f =
+    record { head = h; propositions = f .propositions; proofs = f .proofs; witnesses = f .rest .witnesses; parents = f .rest .parents }
 
 -- what the derivations are about: the tables without the places and the texts
 abbrev pub proofItem : Entry Settled → derivation.Proof
@@ -87,15 +118,9 @@ module _ (rules : List Rule) (room : Room) where
   -- the tables of a payload
   unfoldable pub tablesOf : List ℕ → Out Tables
   tablesOf p = do
-    head ← headOf p
-    checkCounts room p head
-    propositions ← rows propositionRow (head .counts .propositions) first p (head .next)
-    proofs ← rows (proofRow rules (head .counts)) (head .counts .proofs) (record { proof = 0; witness = 0; parent = 0 }) p (propositions .next)
-    check (eqb (proofs .state .witness) (head .counts .witnesses) && eqb (proofs .state .parent) (head .counts .parents)) 22 (proofs .next)
-    witnesses ← rows (witnessRow 4 (head .counts)) (head .counts .witnesses) 0 p (proofs .next)
-    parents ← rows parentRow (head .counts .parents) tt p (witnesses .next)
-    check (eqb (parents .next) (length p)) 24 (parents .next)
-    ok (record { head = head; propositions = propositions; proofs = proofs; witnesses = witnesses; parents = parents })
+    head ← checkedHead room p
+    tables ← tablesAfter rules (head .counts) p (head .next)
+    ok (whole head tables)
 
   -- the tables of the section at a cursor. They *all read and pass their own checks*, with no byte left over, where this is no refusal
   unfoldable pub tablesAt : List ℕ → ℕ → Out Tables

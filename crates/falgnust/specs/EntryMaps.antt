@@ -9,7 +9,7 @@ use Rattle.evr0_section.specs.Rows.{Entry}
 use Rattle.evr0_section.specs.Proposition as propositions
 use Rattle.evr0_section.specs.Proof.{ProofRecord}
 use Rattle.evr0_section.specs.Witness.{WitnessRecord}
-use Rattle.evr0_head.specs.Maps.{Beside}
+use Rattle.evr0_fields.specs.Maps.{Beside}
 use Rattle.falgnust.specs.Maps.{flatRefusal, noRefusal}
 use Rattle.falgnust.specs.declared.span.Span.{Span}
 use Rattle.falgnust.specs.declared.proposition.Proposition.{Proposition}

@@ -4,13 +4,13 @@ use mathlib.Core.Bool.{true, false, cond}
 use Rattle.local_format.specs.Refusal.{Kind, invalid, limit, strings, debug, ownership, added, Refusal}
 use Rattle.local_format.specs.Out.{Out, ok, refused}
 use Rattle.local_format.specs.Field.{Field, whole, cut}
-use Rattle.local_format.specs.Scan.{Scanned, Utf8}
-use Rattle.local_format.specs.Scan as scan
+use Rattle.utf8.specs.Scan.{Scanned, Utf8}
+use Rattle.utf8.specs.Scan as scan
 use Rattle.local_format.specs.Text.{Span}
 use Rattle.falgnust.specs.declared.field.Field as field
 use Rattle.falgnust.specs.declared.refusal.Refusal as refusal
-use Rattle.falgnust.specs.declared.utf8.Scanned as scanned
-use Rattle.falgnust.specs.declared.utf8.Utf8 as utf8
+use Rattle.falgnust.specs.declared.scan.Scanned as scanned
+use Rattle.falgnust.specs.declared.scan.Utf8 as utf8
 use Rattle.falgnust.specs.declared.text.Text as text
 
 -- the kinds in document 01's order

@@ -1,9 +1,11 @@
 -- The flat struct of a section, with what the decoder answers.
 use Prim.Native.Nat.{ℕ}
 use mathlib.Core.Bool.{true, false}
+use mathlib.Core.Path.{_≡_}
 use mathlib.Core.List.{List}
 use Rattle.local_format.specs.Out.{Out, ok, refused}
-use Rattle.evr0.specs.Answer.{Accepted, Answer}
+use Rattle.evr0_section.specs.Demand.{Demand3}
+use Rattle.evr0.specs.Answer.{Accepted, Answer, answerOf, Lent, Filled, decodeIn, roomOf}
 use Rattle.falgnust.specs.Maps.{flatRefusal, noRefusal}
 use Rattle.falgnust.specs.declared.section.Section.{Section}
 
@@ -42,3 +44,9 @@ flatOutcome source contract cursor (refused r) =
 
 abbrev pub flatSection : Answer → Section
 flatSection a = flatOutcome (a .sourceSet) (a .compilerContract) (a .cursor) (a .outcome)
+
+-- what a call of the section decoder leaves: the flat struct, the lent tables, and that demand 3 holds
+pub record Decodes (bytes : List ℕ) (cursor : ℕ) (before after : Lent) (r : Section) : Type 0 where
+  pub answer : r ≡ flatSection (answerOf cursor (decodeIn before bytes cursor))
+  pub tables : Filled (decodeIn before bytes cursor) before after
+  pub demand3 : Demand3 (roomOf before) bytes cursor

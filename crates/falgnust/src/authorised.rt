@@ -1,15 +1,17 @@
 // Whether a proposition of a section, which is decoded anew, is authorised.
 ghost use mathlib.Core.Path.{_≡_};
-ghost use Rattle.evr0_read.specs.Ask.{authorisedNumber};
-ghost use Rattle.evr0_read.specs.Asked.{decodeAnew, valueIn, Lent};
-ghost use Rattle.evr0_read.specs.Maps.{authorisedOut};
+ghost use Rattle.evr0.specs.Answer.{lentOf};
+ghost use Rattle.evr0_read.specs.Asked.{Answers};
+ghost use Rattle.evr0_read.specs.Ask.{propositionNumber};
+ghost use Rattle.evr0_rulings.specs.Told.{authorisedTold};
+ghost use Rattle.evr0_rulings.specs.Maps.{authorisedOut};
 ghost use Rattle.falgnust.specs.EntryMaps.{flatAuthorised};
 use crate::refusal::Refusal;
 use crate::refusal::flat_refusal;
 use crate::refusal::no_refusal;
-use evr0_head::number::PropositionIndex;
-use evr0_read::authorised::AuthorisedAnswer;
-use evr0_read::authorised::authorised;
+use evr0_fields::number::PropositionIndex;
+use evr0_rulings::authorised::AuthorisedAnswer;
+use evr0_rulings::authorised::authorised;
 
 #[repr(C)]
 pub struct Authorised {
@@ -44,16 +46,9 @@ pub extern "C" fn falgnust_authorised(
     proofs: &mut [u64],
     depths: &mut [u64],
 ) -> Authorised
-    ensures { λ r.
-        ⌜ r ≡
-        flatAuthorised (valueIn (λ v. v)
-        (authorisedNumber proposition
-        (decodeAnew (now (bytes .entry)) cursor (now (propositions .entry)) (now (proofs .entry)) (now (depths .entry))))) ⌝ }
-    ensures { λ r.
-        ⌜ Lent (authorisedNumber proposition
-        (decodeAnew (now (bytes .entry)) cursor (now (propositions .entry)) (now (proofs .entry)) (now (depths .entry))))
-        (now (propositions .entry)) (now (proofs .entry)) (now (depths .entry))
-        (now (propositions .exit)) (now (proofs .exit)) (now (depths .exit)) ⌝ }
+    ensures { λ r. ⌜ Answers (propositionNumber proposition) (λ x. flatAuthorised (authorisedTold proposition x)) (now (bytes .entry)) cursor
+        (lentOf (now (propositions .entry)) (now (proofs .entry)) (now (depths .entry)))
+        (lentOf (now (propositions .exit)) (now (proofs .exit)) (now (depths .exit))) r ⌝ }
 {
     let answer = authorised(
         bytes,

@@ -1,19 +1,15 @@
 // A function's block: its result, with string starts and path starts in two lent tables and the debug symbols in a lent list.
 ghost use mathlib.Core.Path.{_≡_};
-ghost use mathlib.Core.List.{map};
-ghost use lib.ListN.{length};
-ghost use Rattle.lent_table.specs.Lent.{lent};
-ghost use Rattle.semcode_decode.specs.Block.{decodeBlock};
-ghost use Rattle.semcode_decode.specs.Layout.{layout, stringStarts, pathStarts, roomsOf};
+ghost use Rattle.semcode_records.specs.Maps.{symbolIs};
+ghost use Rattle.semcode_decode.specs.Layout.{layout};
 ghost use Rattle.semcode_decode.specs.Maps.{parseOut};
-ghost use Rattle.semcode_symbols.specs.Symbols.{blockSymbols, lentSymbols};
-ghost use Rattle.semcode_symbols.specs.Maps.{symbolIs};
+ghost use Rattle.semcode_symbols.specs.Symbols.{lists, Fills};
 ghost use Rattle.falgnust.specs.BlockMaps.{flatBlock};
 use crate::refusal::Refusal;
 use crate::refusal::flat_refusal;
 use crate::refusal::no_refusal;
 use semcode_decode::decode::Parse;
-use semcode_symbols::DebugSymbol;
+use semcode_records::symbol::DecodedDebugSymbol;
 use semcode_symbols::parse_string_table_debug_and_ownership;
 
 // Counts, whether each tag was found, and places in the block; or a refusal, with zeros beside it.
@@ -67,29 +63,14 @@ pub extern "C" fn falgnust_parse_string_table_debug_and_ownership(
     base_offset: usize,
     code: &[u8],
     header_rev: u16,
-    symbols: &mut [DebugSymbol],
+    symbols: &mut [DecodedDebugSymbol],
     strings: &mut [u64],
     paths: &mut [u64],
 ) -> Block
     ensures { λ r.
-        ⌜ r ≡
-        flatBlock (layout (decodeBlock «base_offset» «header_rev»
-        (roomsOf (now (strings .entry)) (length (now (symbols .entry))) (now (paths .entry))) (now (code .entry)))) ⌝ }
-    ensures { λ r.
-        ⌜ now (strings .exit) ≡
-        lent (length (now (strings .entry)))
-        (stringStarts (decodeBlock «base_offset» «header_rev» (roomsOf (now (strings .entry)) (length (now (symbols .entry))) (now (paths .entry)))
-        (now (code .entry)))) ⌝ }
-    ensures { λ r.
-        ⌜ now (paths .exit) ≡
-        lent (length (now (paths .entry)))
-        (pathStarts (decodeBlock «base_offset» «header_rev» (roomsOf (now (strings .entry)) (length (now (symbols .entry))) (now (paths .entry)))
-        (now (code .entry)))) ⌝ }
-    ensures { λ r.
-        ⌜ map symbolIs (now (symbols .exit)) ≡
-        lentSymbols (length (now (symbols .entry)))
-        (blockSymbols (decodeBlock «base_offset» «header_rev» (roomsOf (now (strings .entry)) (length (now (symbols .entry))) (now (paths .entry)))
-        (now (code .entry)))) ⌝ }
+        ⌜ Fills symbolIs (λ x. flatBlock (layout x)) «base_offset» «header_rev» (now (code .entry))
+        (lists (now (symbols .entry)) (now (strings .entry)) (now (paths .entry)))
+        (lists (now (symbols .exit)) (now (strings .exit)) (now (paths .exit))) r ⌝ }
 {
     let parse = parse_string_table_debug_and_ownership(
         base_offset,

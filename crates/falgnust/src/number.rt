@@ -1,7 +1,7 @@
 // The records of a block by number. Each decodes the block anew first.
-ghost use mathlib.Core.Path.{_≡_};
+ghost use Rattle.semcode_decode.specs.Layout.{tables};
 ghost use Rattle.semcode_decode.specs.Number.{
-  decodeAnew,
+  Reads,
   stringNumber,
   symbolNumber,
   pathNumber,
@@ -10,7 +10,6 @@ ghost use Rattle.semcode_decode.specs.Number.{
   textIn,
   headIn,
 };
-ghost use Rattle.semcode_read.specs.After.{Lent};
 ghost use Rattle.falgnust.specs.Maps.{flatText};
 ghost use Rattle.falgnust.specs.BlockMaps.{flatSymbol, flatPath, flatComponent};
 use crate::record::Component;
@@ -36,14 +35,9 @@ pub extern "C" fn falgnust_string_number(
     paths: &mut [u64],
 ) -> Text
     ensures { λ r.
-        ⌜ r ≡
-        flatText (textIn (stringNumber number (decodeAnew «base_offset» «header_rev» (now (strings .entry)) (now (paths .entry)) (now (code .entry))))) ⌝ }
-    ensures { λ r.
-        ⌜ Lent (stringNumber number (decodeAnew «base_offset» «header_rev» (now (strings .entry)) (now (paths .entry)) (now (code .entry))))
-        (now (strings .entry))
-        (now (paths .entry))
-        (now (strings .exit))
-        (now (paths .exit)) ⌝ }
+        ⌜ Reads (λ x. flatText (textIn x)) (stringNumber number) «base_offset» «header_rev» (now (code .entry))
+        (tables (now (strings .entry)) (now (paths .entry)))
+        (tables (now (strings .exit)) (now (paths .exit))) r ⌝ }
 {
     let read = string_number(base_offset, code, header_rev, number, strings, paths);
     flat_text(read)
@@ -59,15 +53,9 @@ pub extern "C" fn falgnust_symbol_number(
     paths: &mut [u64],
 ) -> Symbol
     ensures { λ r.
-        ⌜ r ≡
-        flatSymbol (takenIn (symbolNumber number
-        (decodeAnew «base_offset» «header_rev» (now (strings .entry)) (now (paths .entry)) (now (code .entry))))) ⌝ }
-    ensures { λ r.
-        ⌜ Lent (symbolNumber number (decodeAnew «base_offset» «header_rev» (now (strings .entry)) (now (paths .entry)) (now (code .entry))))
-        (now (strings .entry))
-        (now (paths .entry))
-        (now (strings .exit))
-        (now (paths .exit)) ⌝ }
+        ⌜ Reads (λ x. flatSymbol (takenIn x)) (symbolNumber number) «base_offset» «header_rev» (now (code .entry))
+        (tables (now (strings .entry)) (now (paths .entry)))
+        (tables (now (strings .exit)) (now (paths .exit))) r ⌝ }
 {
     let read = symbol_number(base_offset, code, header_rev, number, strings, paths);
     flat_symbol(read)
@@ -83,14 +71,9 @@ pub extern "C" fn falgnust_path_number(
     paths: &mut [u64],
 ) -> Path
     ensures { λ r.
-        ⌜ r ≡
-        flatPath (headIn (pathNumber number (decodeAnew «base_offset» «header_rev» (now (strings .entry)) (now (paths .entry)) (now (code .entry))))) ⌝ }
-    ensures { λ r.
-        ⌜ Lent (pathNumber number (decodeAnew «base_offset» «header_rev» (now (strings .entry)) (now (paths .entry)) (now (code .entry))))
-        (now (strings .entry))
-        (now (paths .entry))
-        (now (strings .exit))
-        (now (paths .exit)) ⌝ }
+        ⌜ Reads (λ x. flatPath (headIn x)) (pathNumber number) «base_offset» «header_rev» (now (code .entry))
+        (tables (now (strings .entry)) (now (paths .entry)))
+        (tables (now (strings .exit)) (now (paths .exit))) r ⌝ }
 {
     let read = path_number(base_offset, code, header_rev, number, strings, paths);
     flat_path(read)
@@ -107,15 +90,9 @@ pub extern "C" fn falgnust_component_number(
     paths: &mut [u64],
 ) -> Component
     ensures { λ r.
-        ⌜ r ≡
-        flatComponent (takenIn (componentNumber number component
-        (decodeAnew «base_offset» «header_rev» (now (strings .entry)) (now (paths .entry)) (now (code .entry))))) ⌝ }
-    ensures { λ r.
-        ⌜ Lent (componentNumber number component (decodeAnew «base_offset» «header_rev» (now (strings .entry)) (now (paths .entry)) (now (code .entry))))
-        (now (strings .entry))
-        (now (paths .entry))
-        (now (strings .exit))
-        (now (paths .exit)) ⌝ }
+        ⌜ Reads (λ x. flatComponent (takenIn x)) (componentNumber number component) «base_offset» «header_rev» (now (code .entry))
+        (tables (now (strings .entry)) (now (paths .entry)))
+        (tables (now (strings .exit)) (now (paths .exit))) r ⌝ }
 {
     let read = component_number(
         base_offset,

@@ -1,8 +1,9 @@
 // A parent cell of a section by number, for which the section is decoded anew, and at a place of its payload.
 ghost use mathlib.Core.Path.{_≡_};
 ghost use Rattle.evr0_section.specs.Witness.{parentRow};
-ghost use Rattle.evr0_read.specs.Ask.{parentNumber};
-ghost use Rattle.evr0_read.specs.Asked.{decodeAnew, valueIn, Lent};
+ghost use Rattle.evr0.specs.Answer.{lentOf};
+ghost use Rattle.evr0_read.specs.Asked.{Answers};
+ghost use Rattle.evr0_read.specs.Ask.{parentNumber, entryTold};
 ghost use Rattle.evr0_read.specs.Entry.{placedParent, recordAt};
 ghost use Rattle.evr0_read.specs.Place.{parentPlace};
 ghost use Rattle.evr0_read.specs.Maps.{parentEntryOut};
@@ -53,14 +54,9 @@ pub extern "C" fn falgnust_parent_number(
     proofs: &mut [u64],
     depths: &mut [u64],
 ) -> Parent
-    ensures { λ r.
-        ⌜ r ≡
-        flatParent (valueIn (λ e. e) (parentNumber number
-        (decodeAnew (now (bytes .entry)) cursor (now (propositions .entry)) (now (proofs .entry)) (now (depths .entry))))) ⌝ }
-    ensures { λ r.
-        ⌜ Lent (parentNumber number (decodeAnew (now (bytes .entry)) cursor (now (propositions .entry)) (now (proofs .entry)) (now (depths .entry))))
-        (now (propositions .entry)) (now (proofs .entry)) (now (depths .entry))
-        (now (propositions .exit)) (now (proofs .exit)) (now (depths .exit)) ⌝ }
+    ensures { λ r. ⌜ Answers (parentNumber number) (λ x. flatParent (entryTold x)) (now (bytes .entry)) cursor
+        (lentOf (now (propositions .entry)) (now (proofs .entry)) (now (depths .entry)))
+        (lentOf (now (propositions .exit)) (now (proofs .exit)) (now (depths .exit))) r ⌝ }
 {
     let entry = parent_number(bytes, cursor, number, propositions, proofs, depths);
     flat_parent(entry)

@@ -1,9 +1,10 @@
 // A proof of a section by number, for which the section is decoded anew, and at a place of its payload.
 ghost use mathlib.Core.Path.{_≡_};
 ghost use Rattle.evr0_section.specs.Proof.{proofOf};
-ghost use Rattle.evr0_read.specs.Ask.{proofNumber};
-ghost use Rattle.evr0_read.specs.Asked.{decodeAnew, valueIn, Lent};
-ghost use Rattle.evr0_read.specs.Entry.{shown, shownSettled, placedProof, recordAt};
+ghost use Rattle.evr0.specs.Answer.{lentOf};
+ghost use Rattle.evr0_read.specs.Asked.{Answers};
+ghost use Rattle.evr0_read.specs.Ask.{proofNumber, proofTold};
+ghost use Rattle.evr0_read.specs.Entry.{placedProof, recordAt};
 ghost use Rattle.evr0_read.specs.Maps.{proofEntryOut};
 ghost use Rattle.falgnust.specs.EntryMaps.{flatProof};
 use crate::refusal::Refusal;
@@ -11,7 +12,7 @@ use crate::refusal::flat_refusal;
 use crate::refusal::no_refusal;
 use crate::span::Span;
 use crate::span::flat_span;
-use evr0_head::number::ProofNumber;
+use evr0_fields::number::ProofNumber;
 use evr0_read::ask::proof_number;
 use evr0_read::entry::ProofEntry;
 use evr0_read::entry::proof_at;
@@ -85,14 +86,9 @@ pub extern "C" fn falgnust_proof_number(
     proofs: &mut [u64],
     depths: &mut [u64],
 ) -> Proof
-    ensures { λ r.
-        ⌜ r ≡
-        flatProof (valueIn (shown shownSettled)
-        (proofNumber number (decodeAnew (now (bytes .entry)) cursor (now (propositions .entry)) (now (proofs .entry)) (now (depths .entry))))) ⌝ }
-    ensures { λ r.
-        ⌜ Lent (proofNumber number (decodeAnew (now (bytes .entry)) cursor (now (propositions .entry)) (now (proofs .entry)) (now (depths .entry))))
-        (now (propositions .entry)) (now (proofs .entry)) (now (depths .entry))
-        (now (propositions .exit)) (now (proofs .exit)) (now (depths .exit)) ⌝ }
+    ensures { λ r. ⌜ Answers (proofNumber number) (λ x. flatProof (proofTold x)) (now (bytes .entry)) cursor
+        (lentOf (now (propositions .entry)) (now (proofs .entry)) (now (depths .entry)))
+        (lentOf (now (propositions .exit)) (now (proofs .exit)) (now (depths .exit))) r ⌝ }
 {
     let entry = proof_number(
         bytes,

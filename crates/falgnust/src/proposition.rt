@@ -1,9 +1,10 @@
 // A proposition of a section by number, for which the section is decoded anew, and at a place of its payload.
 ghost use mathlib.Core.Path.{_≡_};
 ghost use Rattle.evr0_section.specs.Proposition.{propositionOf};
-ghost use Rattle.evr0_read.specs.Ask.{propositionNumber};
-ghost use Rattle.evr0_read.specs.Asked.{decodeAnew, valueIn, Lent};
-ghost use Rattle.evr0_read.specs.Entry.{shown, shownProposition, placedProposition, recordAt};
+ghost use Rattle.evr0.specs.Answer.{lentOf};
+ghost use Rattle.evr0_read.specs.Asked.{Answers};
+ghost use Rattle.evr0_read.specs.Ask.{propositionNumber, propositionTold};
+ghost use Rattle.evr0_read.specs.Entry.{placedProposition, recordAt};
 ghost use Rattle.evr0_read.specs.Maps.{propositionEntryOut};
 ghost use Rattle.falgnust.specs.EntryMaps.{flatProposition};
 use crate::refusal::Refusal;
@@ -11,7 +12,7 @@ use crate::refusal::flat_refusal;
 use crate::refusal::no_refusal;
 use crate::span::Span;
 use crate::span::flat_span;
-use evr0_head::number::PropositionIndex;
+use evr0_fields::number::PropositionIndex;
 use evr0_read::ask::proposition_number;
 use evr0_read::entry::PropositionEntry;
 use evr0_read::entry::proposition_at;
@@ -70,14 +71,9 @@ pub extern "C" fn falgnust_proposition_number(
     proofs: &mut [u64],
     depths: &mut [u64],
 ) -> Proposition
-    ensures { λ r.
-        ⌜ r ≡
-        flatProposition (valueIn (shown shownProposition)
-        (propositionNumber number (decodeAnew (now (bytes .entry)) cursor (now (propositions .entry)) (now (proofs .entry)) (now (depths .entry))))) ⌝ }
-    ensures { λ r.
-        ⌜ Lent (propositionNumber number (decodeAnew (now (bytes .entry)) cursor (now (propositions .entry)) (now (proofs .entry)) (now (depths .entry))))
-        (now (propositions .entry)) (now (proofs .entry)) (now (depths .entry))
-        (now (propositions .exit)) (now (proofs .exit)) (now (depths .exit)) ⌝ }
+    ensures { λ r. ⌜ Answers (propositionNumber number) (λ x. flatProposition (propositionTold x)) (now (bytes .entry)) cursor
+        (lentOf (now (propositions .entry)) (now (proofs .entry)) (now (depths .entry)))
+        (lentOf (now (propositions .exit)) (now (proofs .exit)) (now (depths .exit))) r ⌝ }
 {
     let entry = proposition_number(
         bytes,

@@ -1,11 +1,8 @@
 // An evidence section: what is given of it, with proposition starts, proof starts and depths in three lent tables.
 ghost use mathlib.Core.Path.{_≡_};
-ghost use lib.ListN.{length};
-ghost use Rattle.lent_table.specs.Lent.{lent};
-ghost use Rattle.evr0.specs.Answer.{answerOf, propositionStarts, proofStarts, proofDepths};
+ghost use Rattle.evr0.specs.Answer.{lentOf};
 ghost use Rattle.evr0.specs.AnswerMaps.{answerOut};
-ghost use Rattle.evr0_read.specs.Asked.{decodeAnew};
-ghost use Rattle.falgnust.specs.SectionMaps.{flatSection};
+ghost use Rattle.falgnust.specs.SectionMaps.{flatSection, Decodes};
 use crate::refusal::Refusal;
 use crate::refusal::flat_refusal;
 use crate::refusal::no_refusal;
@@ -78,21 +75,9 @@ pub extern "C" fn falgnust_decode_evr0_section(
     proofs: &mut [u64],
     depths: &mut [u64],
 ) -> Section
-    ensures { λ r.
-        ⌜ r ≡
-        flatSection (answerOf cursor (decodeAnew (now (bytes .entry)) cursor (now (propositions .entry)) (now (proofs .entry)) (now (depths .entry)))) ⌝ }
-    ensures { λ r.
-        ⌜ now (propositions .exit) ≡
-        lent (length (now (propositions .entry)))
-        (propositionStarts (decodeAnew (now (bytes .entry)) cursor (now (propositions .entry)) (now (proofs .entry)) (now (depths .entry)))) ⌝ }
-    ensures { λ r.
-        ⌜ now (proofs .exit) ≡
-        lent (length (now (proofs .entry)))
-        (proofStarts (decodeAnew (now (bytes .entry)) cursor (now (propositions .entry)) (now (proofs .entry)) (now (depths .entry)))) ⌝ }
-    ensures { λ r.
-        ⌜ now (depths .exit) ≡
-        lent (length (now (depths .entry)))
-        (proofDepths (decodeAnew (now (bytes .entry)) cursor (now (propositions .entry)) (now (proofs .entry)) (now (depths .entry)))) ⌝ }
+    ensures { λ r. ⌜ Decodes (now (bytes .entry)) cursor
+        (lentOf (now (propositions .entry)) (now (proofs .entry)) (now (depths .entry)))
+        (lentOf (now (propositions .exit)) (now (proofs .exit)) (now (depths .exit))) r ⌝ }
 {
     let decoded = decode_evr0_section(bytes, cursor, propositions, proofs, depths);
     flat_section(decoded)

@@ -1,6 +1,6 @@
 // A text of a record.
 ghost use mathlib.Core.Path.{_≡_};
-ghost use Rattle.evr0_head.specs.Maps.{spanOut};
+ghost use Rattle.evr0_fields.specs.Maps.{spanOut};
 ghost use Rattle.falgnust.specs.EntryMaps.{flatSpan};
 
 // Where the bytes start in the payload, how many they are, the number of characters and the place after them.
@@ -12,7 +12,7 @@ pub struct Span {
     pub next: usize,
 }
 
-pub fn flat_span(span: evr0_head::span::Span) -> Span
+pub fn flat_span(span: evr0_fields::span::Span) -> Span
     ensures { λ r. ⌜ r ≡ flatSpan (spanOut span) ⌝ }
 {
     Span {

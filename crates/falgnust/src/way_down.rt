@@ -1,15 +1,17 @@
 // The way down from a proof of a section, which is decoded anew: always the first parent.
 ghost use mathlib.Core.Path.{_≡_};
-ghost use Rattle.evr0_read.specs.Ask.{wayDownFrom};
-ghost use Rattle.evr0_read.specs.Asked.{decodeAnew, valueIn, Lent};
-ghost use Rattle.evr0_read.specs.Maps.{wayDownOut};
+ghost use Rattle.evr0.specs.Answer.{lentOf};
+ghost use Rattle.evr0_read.specs.Asked.{Answers};
+ghost use Rattle.evr0_read.specs.Ask.{proofNumber};
+ghost use Rattle.evr0_rulings.specs.Told.{wayDownTold};
+ghost use Rattle.evr0_rulings.specs.Maps.{wayDownOut};
 ghost use Rattle.falgnust.specs.EntryMaps.{flatWay};
 use crate::refusal::Refusal;
 use crate::refusal::flat_refusal;
 use crate::refusal::no_refusal;
-use evr0_head::number::ProofNumber;
-use evr0_read::down::Down;
-use evr0_read::down::way_down;
+use evr0_fields::number::ProofNumber;
+use evr0_rulings::down::Down;
+use evr0_rulings::down::way_down;
 
 // The witness and the moves made; or, where the limit was spent, the proof reached; or a refusal. The other numbers are zeros.
 #[repr(C)]
@@ -22,11 +24,11 @@ pub struct WayDown {
     pub proof: u32,
 }
 
-fn flat_way_down(way: evr0_read::down::WayDown) -> WayDown
+fn flat_way_down(way: evr0_rulings::down::WayDown) -> WayDown
     ensures { λ r. ⌜ r ≡ flatWay (wayDownOut way) ⌝ }
 {
     match way {
-        evr0_read::down::WayDown::Answer(down) => match down {
+        evr0_rulings::down::WayDown::Answer(down) => match down {
             Down::Witness { witness, moves } => WayDown {
                 accepted: true,
                 refusal: no_refusal(),
@@ -44,7 +46,7 @@ fn flat_way_down(way: evr0_read::down::WayDown) -> WayDown
                 proof: proof.0,
             },
         },
-        evr0_read::down::WayDown::Refused(refused) => WayDown {
+        evr0_rulings::down::WayDown::Refused(refused) => WayDown {
             accepted: false,
             refusal: flat_refusal(refused),
             spent: false,
@@ -65,14 +67,9 @@ pub extern "C" fn falgnust_way_down(
     proofs: &mut [u64],
     depths: &mut [u64],
 ) -> WayDown
-    ensures { λ r.
-        ⌜ r ≡
-        flatWay (valueIn (λ v. v) (wayDownFrom limit from
-        (decodeAnew (now (bytes .entry)) cursor (now (propositions .entry)) (now (proofs .entry)) (now (depths .entry))))) ⌝ }
-    ensures { λ r.
-        ⌜ Lent (wayDownFrom limit from (decodeAnew (now (bytes .entry)) cursor (now (propositions .entry)) (now (proofs .entry)) (now (depths .entry))))
-        (now (propositions .entry)) (now (proofs .entry)) (now (depths .entry))
-        (now (propositions .exit)) (now (proofs .exit)) (now (depths .exit)) ⌝ }
+    ensures { λ r. ⌜ Answers (proofNumber from) (λ x. flatWay (wayDownTold limit from x)) (now (bytes .entry)) cursor
+        (lentOf (now (propositions .entry)) (now (proofs .entry)) (now (depths .entry)))
+        (lentOf (now (propositions .exit)) (now (proofs .exit)) (now (depths .exit))) r ⌝ }
 {
     let way = way_down(
         bytes,

@@ -1,17 +1,18 @@
 // A witness of a section by number, for which the section is decoded anew, and at a place of its payload.
 ghost use mathlib.Core.Path.{_≡_};
 ghost use Rattle.evr0_section.specs.Witness.{witnessOf};
+ghost use Rattle.evr0.specs.Answer.{lentOf};
+ghost use Rattle.evr0_read.specs.Asked.{Answers};
 ghost use Rattle.evr0_read.specs.Ask.{witnessNumber};
-ghost use Rattle.evr0_read.specs.Asked.{decodeAnew, valueIn, Lent};
 ghost use Rattle.evr0_read.specs.Entry.{placedWitness, recordAt};
 ghost use Rattle.evr0_read.specs.Place.{witnessPlace};
-ghost use Rattle.evr0_read.specs.Maps.{witnessEntryOut, witnessBeside};
+ghost use Rattle.evr0_read.specs.Maps.{witnessEntryOut, witnessBeside, witnessTold};
 ghost use Rattle.falgnust.specs.EntryMaps.{flatWitness};
 use crate::refusal::Refusal;
 use crate::refusal::flat_refusal;
 use crate::refusal::no_refusal;
+use evr0_fields::number::WitnessNumber;
 use evr0_head::counts::Counts;
-use evr0_head::number::WitnessNumber;
 use evr0_read::ask::witness_number;
 use evr0_read::cell::WitnessEntry;
 use evr0_read::cell::WitnessFound;
@@ -76,14 +77,9 @@ pub extern "C" fn falgnust_witness_number(
     proofs: &mut [u64],
     depths: &mut [u64],
 ) -> Witness
-    ensures { λ r.
-        ⌜ r ≡
-        flatWitness (witnessBeside (valueIn (λ e. e)
-        (witnessNumber number (decodeAnew (now (bytes .entry)) cursor (now (propositions .entry)) (now (proofs .entry)) (now (depths .entry)))))) ⌝ }
-    ensures { λ r.
-        ⌜ Lent (witnessNumber number (decodeAnew (now (bytes .entry)) cursor (now (propositions .entry)) (now (proofs .entry)) (now (depths .entry))))
-        (now (propositions .entry)) (now (proofs .entry)) (now (depths .entry))
-        (now (propositions .exit)) (now (proofs .exit)) (now (depths .exit)) ⌝ }
+    ensures { λ r. ⌜ Answers (witnessNumber number) (λ x. flatWitness (witnessTold x)) (now (bytes .entry)) cursor
+        (lentOf (now (propositions .entry)) (now (proofs .entry)) (now (depths .entry)))
+        (lentOf (now (propositions .exit)) (now (proofs .exit)) (now (depths .exit))) r ⌝ }
 {
     let entry = witness_number(
         bytes,

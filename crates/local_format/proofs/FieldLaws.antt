@@ -6,13 +6,13 @@ use native.Mathlib.Nat.{add-assoc, pow-succ'}
 use mathlib.Core.List.{List}
 use mathlib.Core.Bool.{Bool, true, false, cond}
 use lib.Dec.{leb}
-use lib.ListN.{length, getD, take, drop, length-drop, length-take}
+use lib.ListN.{length, getD, take, drop, length-take}
 use lib.Seq.{getD-drop, getD-take}
 use borrow.Author.Tests.{le-leb, lt-leb, leb-true, leb-false}
 use Rattle.local_format.specs.Refusal.{Refusal, refusal}
-use Rattle.local_format.specs.Out.{ok, refused}
+use Rattle.local_format.specs.Out.{Out, ok, refused, refuse}
 use Rattle.local_format.specs.Field.{Field, whole, cut, Got, le, fieldAt, orCut, field}
-use Rattle.local_format.proofs.OutLaws.{told, never, refused-same, RefusesWithin, refused-within}
+use Rattle.local_format.proofs.OutLaws.{told, never, refused-same}
 
 -- ---- A reader's answer
 module _ (width : ℕ) (s : List ℕ) (at : ℕ) where
@@ -45,37 +45,26 @@ pub field-told : {R : Type 0} (out : R → Field) {r x : R} {f : Field} (number 
 field-told out number at e h = ap (orCut number at) (told out e h)
 
 module _ (number width : ℕ) (s : List ℕ) (at : ℕ) where
-  pub field-ok : {g : Got} → field number width s at ≡ ok g → (g .next ≡ at + width) × (at + width ≤ length s) × (g .value ≡ le width s at)
+  -- whatever holds of a field that is there and of one that is cut
+  by-end : (P : Out Got → Type 0) → (at + width ≤ length s → P (ok (record { value = le width s at; next = at + width })))
+      → (length s < at + width → P (refuse number at)) → P (field number width s at)
   unfolding fieldAt
-  field-ok {g} e = go (leb (at + width) (length s)) refl e
+  by-end P in-it past = go (leb (at + width) (length s)) refl
     where
       go : (t : Bool) → leb (at + width) (length s) ≡ t
-          → orCut number at (cond t (whole (record { value = le width s at; next = at + width })) cut) ≡ ok g
-          → (g .next ≡ at + width) × (at + width ≤ length s) × (g .value ≡ le width s at)
-      go true h k = (cc, leb-true (at + width) (length s) h, cc)
-      go false h k = absurd (never k)
+          → P (orCut number at (cond t (whole (record { value = le width s at; next = at + width })) cut))
+      go true h = in-it (leb-true (at + width) (length s) h)
+      go false h = past (leb-false (at + width) (length s) h)
+
+  pub field-ok : {g : Got} → field number width s at ≡ ok g → (g .next ≡ at + width) × (at + width ≤ length s) × (g .value ≡ le width s at)
+  field-ok {g} =
+      by-end (λ x. x ≡ ok g → (g .next ≡ at + width) × (at + width ≤ length s) × (g .value ≡ le width s at)) (λ h k. (cc, h, cc))
+      (λ h k. absurd (never k))
 
   pub field-refused : {r : Refusal} → field number width s at ≡ refused r → (r ≡ refusal number at) × (length s < at + width)
-  unfolding fieldAt
-  field-refused {r} e = go (leb (at + width) (length s)) refl e
-    where
-      go : (t : Bool) → leb (at + width) (length s) ≡ t
-          → orCut number at (cond t (whole (record { value = le width s at; next = at + width })) cut) ≡ refused r
-          → (r ≡ refusal number at) × (length s < at + width)
-      go true h k = absurd (never (sym k))
-      go false h k = (sym (refused-same k), leb-false (at + width) (length s) h)
-
-  -- a refusal stands within the list where the field starts there
-  pub field-within : at ≤ length s → RefusesWithin (length s) (field number width s at)
-  unfolding fieldAt
-  field-within h = go (leb (at + width) (length s))
-    where
-      go : (t : Bool) → RefusesWithin (length s) (orCut number at (cond t (whole (record { value = le width s at; next = at + width })) cut))
-      go true = tt
-      go false = h
-
-  pub field-refused-within : {r : Refusal} → at ≤ length s → field number width s at ≡ refused r → r .offset ≤ length s
-  field-refused-within h e = refused-within (length s) e (field-within h)
+  field-refused {r} =
+      by-end (λ x. x ≡ refused r → (r ≡ refusal number at) × (length s < at + width)) (λ h k. absurd (never (sym k)))
+      (λ h k. (sym (refused-same k), h))
 
 -- a field that is there
 pub field-there : (number width : ℕ) (s : List ℕ) (at : ℕ) → at + width ≤ length s
@@ -104,26 +93,6 @@ le-take (suc width) s n at h =
     let e : at < n = omega arith in
     let f : at + 1 + width ≤ n = omega arith in
     rw (getD-take n s at 0 e, le-take width s n (at + 1) f)
-
--- the same field with its next place counted from the start of the whole
-abbrev pub shifted : ℕ → Field → Field
-shifted k (whole g) = whole (record { value = g .value; next = k + g .next })
-shifted k cut = cut
-
-pub field-drop : (width : ℕ) (s : List ℕ) (k at : ℕ) → k ≤ length s → shifted k (fieldAt width (drop k s) at) ≡ fieldAt width s (k + at)
-unfolding fieldAt
-field-drop width s k at h = go (leb (at + width) (length (drop k s))) refl
-  where
-    go : (t : Bool) → leb (at + width) (length (drop k s)) ≡ t
-        → shifted k (cond t (whole (record { value = le width (drop k s) at; next = at + width })) cut)
-        ≡ cond (leb (k + at + width) (length s)) (whole (record { value = le width s (k + at); next = k + at + width })) cut
-    go true e =
-        let l : at + width ≤ length s - k = rw length-drop at (leb-true (at + width) (length (drop k s)) e) in
-        let m : k + (at + width) ≡ k + at + width = omega arith in
-        rw (le-leb (k + at + width) (length s) (omega arith), le-drop, m)
-    go false e =
-        let l : length s - k < at + width = rw length-drop at (leb-false (at + width) (length (drop k s)) e) in
-        rw (lt-leb (k + at + width) (length s) (omega arith))
 
 -- a field that ends within the first bytes
 pub field-take : (width : ℕ) (s : List ℕ) (n at : ℕ) → at + width ≤ n → fieldAt width (take n s) at ≡ fieldAt width s at

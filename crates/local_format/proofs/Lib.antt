@@ -1,10 +1,6 @@
-pub mod BoolLaws
 pub mod OutLaws
+pub mod Each
 pub mod FieldLaws
 pub mod TagLaws
-pub mod Utf8Laws
-pub mod ScanLaws
-pub mod CharLaws
 pub mod TextLaws
-pub mod Encoding
 pub mod NumberLaws

@@ -4,12 +4,12 @@ use mathlib.Core.Path.{_≡_, refl, ap}
 use mathlib.Core.List.{List, [], _∷_, map}
 use native.Mathlib.Omega.{arith}
 use lib.ListN.{length, getD}
-use Rattle.local_format.specs.Out.{ok, refuse}
-use Rattle.local_format.specs.Number.{numbered}
+use Rattle.local_format.specs.Out.{ok}
+use Rattle.local_format.specs.Number.{notInTable, numbered}
 use Rattle.local_format.proofs.OutLaws.{ok-same, never}
 
 module _ {A : Type 0} where
-  pub not-there : (i : ℕ) (xs : List A) → length xs ≤ i → numbered i xs ≡ refuse 62 0
+  pub not-there : (i : ℕ) (xs : List A) → length xs ≤ i → numbered i xs ≡ notInTable
   unfolding numbered
   not-there i [] h = refl
   not-there zero (x ∷ xs) h = absurd (omega arith)

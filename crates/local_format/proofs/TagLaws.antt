@@ -5,11 +5,11 @@ use native.Mathlib.Numerals.{add-one}
 use mathlib.Core.List.{List, [], _∷_}
 use mathlib.Core.Bool.{Bool, true, false, _&&_, and-false}
 use lib.Dec.{eqb, leb}
-use borrow.Author.Tests.{eqb-true, eq-eqb, le-leb, lt-leb, leb-true}
+use borrow.Author.Tests.{eqb-true, le-leb, lt-leb, leb-true}
 use lib.ListN.{length, getD, take, drop, drop-of-length-le}
 use lib.Seq.{drop-cons}
 use Rattle.local_format.specs.Tag.{equal, tagAt}
-use Rattle.local_format.proofs.BoolLaws.{both}
+use Rattle.utf8.proofs.BoolLaws.{both}
 
 pub unequal : (a b : List ℕ) → (length a ≡ length b → ⊥) → false ≡ equal a b
 unfolding equal
@@ -51,11 +51,6 @@ module _ (tag s : List ℕ) (at : ℕ) where
   tag-whole h = simp (le-leb (at + length tag) (length s) h)
 
 -- ---- What a tag at a place says
-pub equal-self : (a : List ℕ) → equal a a ≡ true
-unfolding equal
-equal-self [] = refl
-equal-self (x ∷ xs) = simp (eq-eqb x x refl) (equal-self xs)
-
 pub tag-there : (tag s : List ℕ) (at : ℕ) → tagAt tag s at ≡ true → (at + length tag ≤ length s) × (take (length tag) (drop at s) ≡ tag)
 unfolding tagAt
 tag-there tag s at e =

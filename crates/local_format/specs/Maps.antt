@@ -1,14 +1,9 @@
 -- From the code's structs and enums to the definitions' types.
-use Prim.Native.Nat.{ℕ, _≤_, _<_}
-use mathlib.Core.List.{List}
-use lib.ListN.{length, drop}
 use Rattle.local_format.specs.Refusal.{Refusal, refusal}
 use Rattle.local_format.specs.Refusal as of
 use Rattle.local_format.specs.Out.{Out, ok, refused}
 use Rattle.local_format.specs.Field.{Field, whole, cut}
-use Rattle.local_format.specs.Utf8.{decode}
 use Rattle.local_format.specs.Text.{Span}
-use Rattle.local_format.specs.Scan as scan
 use Rattle.local_format.specs.declared.refusal.Kind as kind
 use Rattle.local_format.specs.declared.refusal.Kind.the-variants.{Invalid, Limit, Strings, Debug, Ownership, Added}
 use Rattle.local_format.specs.declared.refusal.Refusal as code
@@ -18,12 +13,6 @@ use Rattle.local_format.specs.declared.field.U16.{U16}
 use Rattle.local_format.specs.declared.field.U16.the-variants as u16
 use Rattle.local_format.specs.declared.field.U32.{U32}
 use Rattle.local_format.specs.declared.field.U32.the-variants as u32
-use Rattle.local_format.specs.declared.utf8.Char.{Char}
-use Rattle.local_format.specs.declared.utf8.Char.the-variants as char
-use Rattle.local_format.specs.declared.utf8.Scanned.{Scanned}
-use Rattle.local_format.specs.declared.utf8.Scanned.the-variants as scanned
-use Rattle.local_format.specs.declared.utf8.Utf8.{Utf8}
-use Rattle.local_format.specs.declared.utf8.Utf8.the-variants as utf8
 use Rattle.local_format.specs.declared.text.Text.{Text}
 use Rattle.local_format.specs.declared.text.Text.the-variants as text
 
@@ -56,26 +45,6 @@ u16Out u16.Cut = cut
 abbrev pub u32Out : U32 → Field
 u32Out (u32.Value v n) = whole (record { value = v; next = n })
 u32Out u32.Cut = cut
-
--- ---- UTF-8
--- a character and the text after it
-abbrev pub charThen : List ℕ → Char → scan.Scanned
-charThen s (char.Whole control next) = scan.joined 1 control (scan.scanOf (decode (drop next s)))
-charThen s char.Ill = scan.notUtf8
-
--- a character that was read ends after its start and within the bytes
-abbrev pub Within : ℕ → List ℕ → Char → Type 0
-Within at s (char.Whole control next) = (at < next) × (next ≤ length s)
-Within at s char.Ill = Unit {0}
-
-abbrev pub scannedOut : Scanned → scan.Scanned
-scannedOut (scanned.Text chars control) = scan.text chars control
-scannedOut scanned.NotUtf8 = scan.notUtf8
-
-abbrev pub utf8Out : Utf8 → scan.Utf8
-utf8Out (utf8.Text chars control next) = scan.whole (scan.text chars control) next
-utf8Out (utf8.NotUtf8 next) = scan.whole scan.notUtf8 next
-utf8Out utf8.Cut = scan.cut
 
 -- ---- Texts
 abbrev pub textOut : Text → Out Span

@@ -4,8 +4,11 @@ use mathlib.Core.List.{List, [], _∷_}
 use Rattle.local_format.specs.Out.{Out, ok, refuse, _>>=_}
 
 -- 62: a number that is not in the table
+abbrev pub notInTable : {A : Type 0} → Out A
+notInTable = refuse 62 0
+
 unfoldable pub numbered : {A : Type 0} → ℕ → List A → Out A
-numbered n [] = refuse 62 0
+numbered n [] = notInTable
 numbered zero (x ∷ xs) = ok x
 numbered (suc n) (x ∷ xs) = numbered n xs
 

@@ -6,7 +6,7 @@ use lib.ListN.{length, take, drop}
 use lib.Dec.{leb}
 use Rattle.local_format.specs.Out.{Out, ok, refuse, check, _>>=_, _>>_}
 use Rattle.local_format.specs.Field.{Got, field}
-use Rattle.local_format.specs.Utf8.{Decoded, points, ill, decode, anyControl}
+use Rattle.utf8.specs.Utf8.{Decoded, points, ill, decode, anyControl}
 
 -- where a text's bytes start, how many they are, its number of characters, and the place after it
 pub record Span : Type 0 where

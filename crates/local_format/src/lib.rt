@@ -4,4 +4,3 @@ pub mod part;
 pub mod refusal;
 pub mod tag;
 pub mod text;
-pub mod utf8;

@@ -1,7 +1,7 @@
 // Texts: a 2-byte length and that many bytes of UTF-8.
 use crate::field::U16;
 use crate::refusal::Refusal;
-use crate::utf8::Utf8;
+use utf8::Utf8;
 ghost use mathlib.Core.Path.{_≡_};
 ghost use Rattle.local_format.specs.Out.{refuse};
 ghost use Rattle.local_format.specs.Text.{textAt, stringAt};
@@ -38,7 +38,7 @@ pub fn read_text(bytes: &[u8], at: usize) -> Text
     if 4096 < len {
         return refused(6, start);
     }
-    let body = crate::utf8::read_utf8(bytes, start, len);
+    let body = utf8::read_utf8(bytes, start, len);
     match body {
         Utf8::Text {
             chars,
@@ -73,7 +73,7 @@ pub fn read_string(bytes: &[u8], at: usize) -> Text
     if 1024 < len {
         return refused(33, start);
     }
-    let body = crate::utf8::read_utf8(bytes, start, len);
+    let body = utf8::read_utf8(bytes, start, len);
     match body {
         Utf8::Text {
             chars,

@@ -5,7 +5,7 @@ use lib.ListN.{length, length-map}
 use Rattle.local_format.specs.Out.{Out, ok, refused, based}
 use Rattle.local_format.proofs.OutLaws.{never, ok-same}
 use Rattle.semcode_decode.specs.Block.{Block}
-use Rattle.semcode_decode.specs.Layout.{Layout, layout, stringStarts, pathStarts}
+use Rattle.semcode_decode.specs.Layout.{Layout, layout, stringStarts, pathStarts, Lent, Leaves}
 
 module _ (base : ℕ) where
   -- an accepted block is the same at every base
@@ -23,3 +23,8 @@ module _ (base : ℕ) where
     length-map (b .ownership .table .entries) _ ∙ ap (λ (l : Layout). l .paths) (sym (ok-same e)),
   )
   accepted (refused r) e = absurd (never (sym e))
+
+-- the same is left where a map of the answer is told
+pub mapped : {A B : Type 0} (f : A → B) {block : Out Block} {before after : Lent} {told due : A} {answer : B} → Leaves block before after told due
+    → answer ≡ f told → Leaves block before after answer (f due)
+mapped f l e = record { answer = e ∙ ap f (l .answer); strings = l .strings; paths = l .paths }

@@ -1,4 +1,3 @@
-pub mod Specimens
 pub mod TableLaws
 pub mod SectionLaws
 pub mod BlockLaws

@@ -1,11 +1,13 @@
--- What the decoder answers of a block, and the starts that it writes to the lent tables.
+-- What the decoder answers of a block, and what it leaves in the lent tables.
+use mathlib.Core.Path.{_≡_}
 use Prim.Native.Nat.{ℕ}
 use mathlib.Core.List.{List, [], map}
 use mathlib.Core.Bool.{Bool}
 use lib.ListN.{length}
 use Rattle.local_format.specs.Out.{Out, ok, refused, _>>=_}
+use Rattle.lent_table.specs.Lent.{lent, Front}
 use Rattle.semcode_records.specs.Records.{Table}
-use Rattle.semcode_decode.specs.Block.{Rooms, Section, Block}
+use Rattle.semcode_decode.specs.Block.{Rooms, Section, Block, decodeBlock}
 
 -- the result: three counts, whether each tag was found, and places in the block
 pub record Layout : Type 0 where
@@ -81,8 +83,35 @@ stringStarts x = starts (x >>= λ b. ok (b .strings))
 abbrev pub pathStarts : Out Block → List ℕ
 pathStarts x = starts (x >>= λ b. ok (b .ownership .table))
 
--- ---- What is lent
+-- ---- The lent tables
 
--- the lengths of two lent tables, and of a lent list of symbols
-abbrev pub roomsOf : List ℕ → ℕ → List ℕ → Rooms
-roomsOf strings symbols paths = record { strings = length strings; symbols = symbols; paths = length paths }
+-- the tables, as brought or as left
+pub record Lent : Type 0 where
+  pub strings : List ℕ
+  pub paths : List ℕ
+
+abbrev pub tables : List ℕ → List ℕ → Lent
+tables strings paths = record { strings = strings; paths = paths }
+
+-- how many entries they have, beside a lent list of so many symbols
+abbrev pub roomsOf : Lent → ℕ → Rooms
+roomsOf brought symbols =
+    record { strings = length (brought .strings); symbols = symbols; paths = length (brought .paths) }
+
+-- what a call leaves: the answer that is due, and in each table the block's starts and then zeros; a refused block has no starts
+pub record Leaves {A : Type 0} (block : Out Block) (before after : Lent) (told due : A) : Type 0 where
+  pub answer : told ≡ due
+  pub strings : after .strings ≡ lent (length (before .strings)) (stringStarts block)
+  pub paths : after .paths ≡ lent (length (before .paths)) (pathStarts block)
+
+-- a block at a base, with a lent list of so many symbols, is decoded, and this is told of it
+abbrev pub Decodes : {A : Type 0} → (Out Block → A) → ℕ → ℕ → ℕ → List ℕ → Lent → Lent → A → Type 0
+Decodes told base revision symbols code before after answer =
+    let block = decodeBlock base revision (roomsOf before symbols) code in
+    Leaves block before after answer (told block)
+
+-- before the tables are cleared past the starts
+pub record Begins (block : Out Block) (after : Lent) (told : Out Layout) : Type 0 where
+  pub answer : told ≡ layout block
+  pub strings : Front (stringStarts block) (after .strings)
+  pub paths : Front (pathStarts block) (after .paths)

@@ -1,5 +1,4 @@
 pub mod Block
 pub mod Layout
 pub mod Number
-pub mod Specimens
 pub mod Maps

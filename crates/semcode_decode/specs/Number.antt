@@ -9,11 +9,11 @@ use Rattle.semcode_records.specs.Symbol.{Symbol}
 use Rattle.semcode_records.specs.Component.{Component}
 use Rattle.semcode_records.specs.Path.{Path, Head, headOf}
 use Rattle.semcode_decode.specs.Block.{Block, decodeBlock}
-use Rattle.semcode_decode.specs.Layout.{roomsOf}
+use Rattle.semcode_decode.specs.Layout.{Lent, roomsOf, Leaves}
 
--- the block decoded anew, with two tables lent and no list of symbols: there is room for all that 36 lets pass
-abbrev pub decodeAnew : ℕ → ℕ → List ℕ → List ℕ → List ℕ → Out Block
-decodeAnew base revision strings paths s = decodeBlock base revision (roomsOf strings 8192 paths) s
+-- the block decoded anew, with tables lent and no list of symbols: there is room for all that 36 lets pass
+abbrev pub decodeAnew : ℕ → ℕ → List ℕ → Lent → Out Block
+decodeAnew base revision code brought = decodeBlock base revision (roomsOf brought 8192) code
 
 -- the block, and the record that was asked for
 abbrev pub Asked : Type 0 → Type 0
@@ -36,7 +36,6 @@ componentNumber n k = choose (λ b. do
 
 -- ---- The answers
 
--- the lent tables are those of the block; where any number is not there, they are zeros
 abbrev pub blockIn : {A : Type 0} → Out (Asked A) → Out Block
 blockIn x = do
   chosen ← x
@@ -56,3 +55,9 @@ abbrev pub headIn : Out (Asked Path) → Out (Taken Head)
 headIn x = do
   chosen ← x
   taken (headOf (chosen .value .value)) (chosen .value .next)
+
+-- the tables are left as the block has them; where the record is refused, as zeros
+abbrev pub Reads : {A B : Type 0} → (Out (Asked A) → B) → (Out Block → Out (Asked A)) → ℕ → ℕ → List ℕ → Lent → Lent → B → Type 0
+Reads told ask base revision code before after answer =
+    let asked = ask (decodeAnew base revision code before) in
+    Leaves (blockIn asked) before after answer (told asked)

@@ -12,11 +12,9 @@ use local_format::refusal::Refusal;
 use local_format::refusal::based;
 use local_format::refusal::refuse;
 ghost use mathlib.Core.Path.{_≡_};
-ghost use lib.ListN.{length};
 ghost use Rattle.local_format.specs.Maps.{refusalOf, refusalOut};
-ghost use Rattle.lent_table.specs.Lent.{lent, Front};
-ghost use Rattle.semcode_decode.specs.Block.{blockOf, decodeBlock};
-ghost use Rattle.semcode_decode.specs.Layout.{layout, stringStarts, pathStarts, roomsOf};
+ghost use Rattle.semcode_decode.specs.Block.{blockOf};
+ghost use Rattle.semcode_decode.specs.Layout.{layout, tables, roomsOf, Begins, Decodes};
 ghost use Rattle.semcode_decode.specs.Maps.{parseOut};
 
 // Counts, tags found and places in the block.
@@ -54,14 +52,8 @@ fn parse_tables(
     paths: &mut [u64],
 ) -> Parse
     ensures { λ r.
-        ⌜ parseOut r ≡
-        layout (blockOf «header_rev» (roomsOf (now (strings .entry)) symbols (now (paths .entry))) (now (code .entry))) ⌝ }
-    ensures { λ r.
-        ⌜ Front (stringStarts (blockOf «header_rev» (roomsOf (now (strings .entry)) symbols (now (paths .entry))) (now (code .entry))))
-        (now (strings .exit)) ⌝ }
-    ensures { λ r.
-        ⌜ Front (pathStarts (blockOf «header_rev» (roomsOf (now (strings .entry)) symbols (now (paths .entry))) (now (code .entry))))
-        (now (paths .exit)) ⌝ }
+        ⌜ Begins (blockOf «header_rev» (roomsOf (tables (now (strings .entry)) (now (paths .entry))) symbols) (now (code .entry)))
+        (tables (now (strings .exit)) (now (paths .exit))) (parseOut r) ⌝ }
 {
     let first = string_table(code, 0, strings);
     let Table::Whole {
@@ -114,16 +106,9 @@ pub fn parse_block(
     paths: &mut [u64],
 ) -> Parse
     ensures { λ r.
-        ⌜ parseOut r ≡
-        layout (decodeBlock «base_offset» «header_rev» (roomsOf (now (strings .entry)) symbols (now (paths .entry))) (now (code .entry))) ⌝ }
-    ensures { λ r.
-        ⌜ now (strings .exit) ≡
-        lent (length (now (strings .entry)))
-        (stringStarts (decodeBlock «base_offset» «header_rev» (roomsOf (now (strings .entry)) symbols (now (paths .entry))) (now (code .entry)))) ⌝ }
-    ensures { λ r.
-        ⌜ now (paths .exit) ≡
-        lent (length (now (paths .entry)))
-        (pathStarts (decodeBlock «base_offset» «header_rev» (roomsOf (now (strings .entry)) symbols (now (paths .entry))) (now (code .entry)))) ⌝ }
+        ⌜ Decodes layout «base_offset» «header_rev» symbols (now (code .entry))
+        (tables (now (strings .entry)) (now (paths .entry)))
+        (tables (now (strings .exit)) (now (paths .exit))) (parseOut r) ⌝ }
 {
     let answer = parse_tables(code, header_rev, symbols, strings, paths);
     let Parse::Whole(parsed) = answer else {

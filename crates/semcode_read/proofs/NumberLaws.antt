@@ -2,7 +2,7 @@
 use mathlib.Core.Path.{_≡_, refl, ap, sym, _∙_}
 use Prim.Native.Nat.{ℕ, _+_, _-_, _*_, _≤_, _<_}
 use native.Mathlib.Omega.{arith}
-use mathlib.Core.List.{List, []}
+use mathlib.Core.List.{List}
 use lib.ListN.{length, getD, replicate, length-append, length-map, List·getD-append}
 use Rattle.local_format.specs.Refusal.{Refusal}
 use Rattle.local_format.specs.Out.{Out, ok, refused, refuse}
@@ -17,28 +17,9 @@ use Rattle.semcode_records.proofs.RecordsLaws.{as-many}
 use Rattle.semcode_records.proofs.SymbolLaws.{symbols-whole}
 use Rattle.semcode_decode.specs.Block.{Rooms, Block, stringRecord, blockOf}
 use Rattle.semcode_decode.specs.Layout.{Layout, layoutOf, layout, stringStarts, pathStarts}
-use Rattle.semcode_decode.specs.Number.{Asked, stringNumber, symbolNumber, pathNumber, blockIn, takenIn, textIn, headIn}
+use Rattle.semcode_decode.specs.Number.{stringNumber, symbolNumber, pathNumber, blockIn, takenIn, textIn, headIn}
 use Rattle.semcode_decode.proofs.BlockLaws.{layout-refused}
 use Rattle.semcode_decode.proofs.ReadLaws.{there, tables-read, symbol-start}
-use Rattle.semcode_read.specs.After.{Lent}
-
--- ---- The lent tables
-module _ {A : Type 0} (y : Out (Asked A)) (strings paths strings′ paths′ : List ℕ) where
-  -- they are the block's
-  pub tables-kept : (x : Out Block) → blockIn y ≡ x
-      → strings′ ≡ lent (length strings) (stringStarts x) → paths′ ≡ lent (length paths) (pathStarts x)
-      → Lent y strings paths strings′ paths′
-  tables-kept x e p q = record { of-strings = rw e p; of-paths = rw e q }
-
-  -- they are cleared
-  pub tables-cleared : {r : Refusal} (last last′ : List ℕ) → y ≡ refused r → length last ≡ length strings → length last′ ≡ length paths
-      → strings′ ≡ lent (length last) [] → paths′ ≡ lent (length last′) []
-      → Lent y strings paths strings′ paths′
-  tables-cleared last last′ e l m p q =
-      record {
-        of-strings = rw e (p ∙ ap (λ (n : ℕ). lent n []) l);
-        of-paths = rw e (q ∙ ap (λ (n : ℕ). lent n []) m);
-      }
 
 -- an entry of a lent table
 pub lent-entry : (n i : ℕ) (xs : List ℕ) → i < length xs → (i < length (lent n xs)) × (getD (lent n xs) i 0 ≡ getD xs i 0)

@@ -19,14 +19,13 @@ use semcode_records::path::read_path;
 use semcode_records::symbol::Symbol;
 use semcode_records::symbol::read_debug_symbol;
 ghost use mathlib.Core.Path.{_≡_};
-ghost use mathlib.Core.List.{[]};
-ghost use lib.ListN.{length};
+ghost use Rattle.local_format.specs.Out.{refuse};
 ghost use Rattle.local_format.specs.Refusal.{refusal};
 ghost use Rattle.local_format.specs.Maps.{refusalOut, textOut};
-ghost use Rattle.lent_table.specs.Lent.{lent};
 ghost use Rattle.semcode_records.specs.Maps.{symbolOut, componentOut, pathOut};
+ghost use Rattle.semcode_decode.specs.Layout.{tables, Leaves};
 ghost use Rattle.semcode_decode.specs.Number.{
-  decodeAnew,
+  Reads,
   stringNumber,
   symbolNumber,
   pathNumber,
@@ -35,16 +34,17 @@ ghost use Rattle.semcode_decode.specs.Number.{
   textIn,
   headIn,
 };
-ghost use Rattle.semcode_read.specs.After.{Lent, componentAfter};
+ghost use Rattle.semcode_read.specs.After.{componentAfter};
 
 // As many symbols as any block has: no list is lent for them.
 const SYMBOLS: usize = 8192;
 
 // A number that is not in the table: zeros in both lent tables.
 fn not_there(strings: &mut [u64], paths: &mut [u64]) -> Refusal
-    ensures { λ r. ⌜ refusalOut r ≡ refusal 62 0 ⌝ }
-    ensures { λ r. ⌜ now (strings .exit) ≡ lent (length (now (strings .entry))) [] ⌝ }
-    ensures { λ r. ⌜ now (paths .exit) ≡ lent (length (now (paths .entry))) [] ⌝ }
+    ensures { λ r.
+        ⌜ Leaves (refuse 62 0)
+        (tables (now (strings .entry)) (now (paths .entry)))
+        (tables (now (strings .exit)) (now (paths .exit))) (refusalOut r) (refusal 62 0) ⌝ }
 {
     clear(strings);
     clear(paths);
@@ -60,14 +60,9 @@ pub fn string_number(
     paths: &mut [u64],
 ) -> Text
     ensures { λ r.
-        ⌜ textOut r ≡
-        textIn (stringNumber number (decodeAnew «base_offset» «header_rev» (now (strings .entry)) (now (paths .entry)) (now (code .entry)))) ⌝ }
-    ensures { λ r.
-        ⌜ Lent (stringNumber number (decodeAnew «base_offset» «header_rev» (now (strings .entry)) (now (paths .entry)) (now (code .entry))))
-        (now (strings .entry))
-        (now (paths .entry))
-        (now (strings .exit))
-        (now (paths .exit)) ⌝ }
+        ⌜ Reads textIn (stringNumber number) «base_offset» «header_rev» (now (code .entry))
+        (tables (now (strings .entry)) (now (paths .entry)))
+        (tables (now (strings .exit)) (now (paths .exit))) (textOut r) ⌝ }
 {
     let answer = parse_block(base_offset, code, header_rev, SYMBOLS, strings, paths);
     let Parse::Whole(parsed) = answer else {
@@ -88,14 +83,9 @@ pub fn symbol_number(
     paths: &mut [u64],
 ) -> Symbol
     ensures { λ r.
-        ⌜ symbolOut r ≡
-        takenIn (symbolNumber number (decodeAnew «base_offset» «header_rev» (now (strings .entry)) (now (paths .entry)) (now (code .entry)))) ⌝ }
-    ensures { λ r.
-        ⌜ Lent (symbolNumber number (decodeAnew «base_offset» «header_rev» (now (strings .entry)) (now (paths .entry)) (now (code .entry))))
-        (now (strings .entry))
-        (now (paths .entry))
-        (now (strings .exit))
-        (now (paths .exit)) ⌝ }
+        ⌜ Reads takenIn (symbolNumber number) «base_offset» «header_rev» (now (code .entry))
+        (tables (now (strings .entry)) (now (paths .entry)))
+        (tables (now (strings .exit)) (now (paths .exit))) (symbolOut r) ⌝ }
 {
     let answer = parse_block(base_offset, code, header_rev, SYMBOLS, strings, paths);
     let Parse::Whole(parsed) = answer else {
@@ -116,14 +106,9 @@ pub fn path_number(
     paths: &mut [u64],
 ) -> Path
     ensures { λ r.
-        ⌜ pathOut r ≡
-        headIn (pathNumber number (decodeAnew «base_offset» «header_rev» (now (strings .entry)) (now (paths .entry)) (now (code .entry)))) ⌝ }
-    ensures { λ r.
-        ⌜ Lent (pathNumber number (decodeAnew «base_offset» «header_rev» (now (strings .entry)) (now (paths .entry)) (now (code .entry))))
-        (now (strings .entry))
-        (now (paths .entry))
-        (now (strings .exit))
-        (now (paths .exit)) ⌝ }
+        ⌜ Reads headIn (pathNumber number) «base_offset» «header_rev» (now (code .entry))
+        (tables (now (strings .entry)) (now (paths .entry)))
+        (tables (now (strings .exit)) (now (paths .exit))) (pathOut r) ⌝ }
 {
     let answer = parse_block(base_offset, code, header_rev, SYMBOLS, strings, paths);
     let Parse::Whole(parsed) = answer else {
@@ -159,15 +144,9 @@ pub fn component_number(
     paths: &mut [u64],
 ) -> Component
     ensures { λ r.
-        ⌜ componentOut r ≡
-        takenIn (componentNumber number component
-        (decodeAnew «base_offset» «header_rev» (now (strings .entry)) (now (paths .entry)) (now (code .entry)))) ⌝ }
-    ensures { λ r.
-        ⌜ Lent (componentNumber number component (decodeAnew «base_offset» «header_rev» (now (strings .entry)) (now (paths .entry)) (now (code .entry))))
-        (now (strings .entry))
-        (now (paths .entry))
-        (now (strings .exit))
-        (now (paths .exit)) ⌝ }
+        ⌜ Reads takenIn (componentNumber number component) «base_offset» «header_rev» (now (code .entry))
+        (tables (now (strings .entry)) (now (paths .entry)))
+        (tables (now (strings .exit)) (now (paths .exit))) (componentOut r) ⌝ }
 {
     let answer = path_number(base_offset, code, header_rev, number, strings, paths);
     let Path::Whole { path, next: _ } = answer else {

@@ -12,7 +12,8 @@ use Rattle.local_format.specs.Field.{field}
 use Rattle.local_format.proofs.OutLaws.{never, refused-same, ok-same, bind-ok}
 use Rattle.semcode_records.specs.Records.{Taken, taken, Table, records, ends}
 use Rattle.semcode_records.specs.Component.{Component, componentAt}
-use Rattle.semcode_records.specs.Path.{Activation, noActivation, activationAt, Execution, noExecution, executionAt, Event, borrow, write, modeAt, Kinded, known, unknown, borrowed, written, eventOf, orUnknown, kindOfEvent, Path, pathAt, Head, headOf, headAt}
+use Rattle.semcode_records.specs.Path.{Activation, noActivation, activationAt, Execution, noExecution, executionAt, Event, borrow, write, modeAt, Kinded}
+use Rattle.semcode_records.specs.Path.{known, unknown, borrowed, written, eventOf, orUnknown, kindOfEvent, Path, pathAt, Head, headOf, headAt}
 use Rattle.semcode_records.proofs.RecordsLaws.{as-many}
 
 -- a step in front of two others

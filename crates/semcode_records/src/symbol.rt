@@ -10,6 +10,7 @@ ghost use Rattle.local_format.specs.Maps.{refusalOf, refusalOut};
 ghost use Rattle.semcode_records.specs.Maps.{symbolOut};
 ghost use Rattle.semcode_records.specs.Symbol.{symbolAt};
 
+#[repr(C)]
 pub struct DecodedDebugSymbol {
     pub pc: usize,
     pub line: u32,

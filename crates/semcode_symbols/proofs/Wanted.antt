@@ -5,9 +5,9 @@ use native.Mathlib.Omega.{arith}
 use mathlib.Core.List.{List, [], _∷_, _++_, map}
 use lib.ListN.{length, getD, replicate, length-append, length-map, length-replicate}
 use Rattle.semcode_records.specs.Symbol.{Symbol}
-use Rattle.semcode_symbols.specs.declared.DebugSymbol.{DebugSymbol}
+use Rattle.semcode_records.specs.declared.symbol.DecodedDebugSymbol.{DecodedDebugSymbol as DebugSymbol}
 use Rattle.semcode_symbols.specs.Symbols.{noSymbol, lentSymbols}
-use Rattle.semcode_symbols.specs.Maps.{symbolIs}
+use Rattle.semcode_records.specs.Maps.{symbolIs}
 
 abbrev pub structOf : Symbol → DebugSymbol
 structOf y = record { pc = y .pc; line = y .line; col = y .column }
@@ -52,10 +52,3 @@ module _ (n : ℕ) (xs : List Symbol) where
   pub is-wanted : (i : ℕ) (r : DebugSymbol) → symbolIs r ≡ getD xs i noSymbol → r ≡ getD wanted i none
   is-wanted i r e =
       ap structOf (e ∙ sym (getD-padded xs (n - length xs) i noSymbol)) ∙ sym (getD-map structOf (lentSymbols n xs) i noSymbol)
-
-  -- an entry of a list that holds these symbols and then zeros
-  pub entry-is : (l : List DebugSymbol) → map symbolIs l ≡ lentSymbols n xs → (i : ℕ) → symbolIs (getD l i none) ≡ getD xs i noSymbol
-  entry-is l e i =
-      sym (getD-map symbolIs l i none)
-      ∙ ap (λ (ys : List Symbol). getD ys i noSymbol) e
-      ∙ getD-padded xs (n - length xs) i noSymbol

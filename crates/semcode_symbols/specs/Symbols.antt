@@ -1,12 +1,13 @@
 -- The lent list of debug symbols: one record for each symbol, and zeros past them.
-use Prim.Native.Nat.{ℕ, _-_}
+use mathlib.Core.Path.{_≡_}
+use Prim.Native.Nat.{ℕ, _-_, _*_, _≤_}
 use mathlib.Core.List.{List, [], _++_, map}
 use lib.ListN.{length, replicate}
 use Rattle.local_format.specs.Out.{Out, ok, refused, _>>=_}
-use Rattle.semcode_records.specs.Records.{Table}
-use Rattle.semcode_records.specs.Symbol.{Symbol}
-use Rattle.semcode_decode.specs.Block.{Block}
-use Rattle.semcode_decode.specs.Layout.{Layout}
+use Rattle.semcode_records.specs.Records.{Table, records}
+use Rattle.semcode_records.specs.Symbol.{Symbol, symbolAt}
+use Rattle.semcode_decode.specs.Block.{Block, decodeBlock}
+use Rattle.semcode_decode.specs.Layout.{Layout, layout, Lent, tables, roomsOf, Decodes}
 
 -- a refusal has none
 abbrev pub symbolsIn : Out (Table Symbol) → List Symbol
@@ -33,3 +34,28 @@ symbolCount (refused r) = 0
 abbrev pub symbolsStart : Out Layout → ℕ
 symbolsStart (ok l) = l .symbolsStart
 symbolsStart (refused r) = 0
+
+-- ---- What a call leaves
+
+-- the lent list of records and the lent tables, as brought or as left
+pub record Lists (S : Type 0) : Type 0 where
+  pub symbols : List S
+  pub tables : Lent
+
+abbrev pub lists : {S : Type 0} → List S → List ℕ → List ℕ → Lists S
+lists symbols strings paths = record { symbols = symbols; tables = tables strings paths }
+
+-- the block is decoded, and the list has its symbols and then zeros; `is` carries the list's records over
+pub record Fills {S A : Type 0} (is : S → Symbol) (told : Out Block → A) (base revision : ℕ) (code : List ℕ) (before after : Lists S)
+    (answer : A) : Type 0 where
+  pub decoded : Decodes told base revision (length (before .symbols)) code (before .tables) (after .tables) answer
+  pub symbols :
+      let entries = length (before .symbols) in
+      map is (after .symbols) ≡ lentSymbols entries (blockSymbols (decodeBlock base revision (roomsOf (before .tables) entries) code))
+
+-- before the list is filled: the symbols lie in the block from that place on, and fit the list
+pub record Placed (base revision symbols : ℕ) (code : List ℕ) (before after : Lent) (answer : Out Layout) (start count : ℕ) : Type 0 where
+  pub decoded : Decodes layout base revision symbols code before after answer
+  pub inside : 10 * count ≤ length code - start
+  pub room : count ≤ symbols
+  pub are : symbolsIn (records (symbolAt code) count start) ≡ blockSymbols (decodeBlock base revision (roomsOf before symbols) code)

@@ -4,25 +4,26 @@ use local_format::field::le16;
 use local_format::field::le32;
 use semcode_decode::decode::Parse;
 use semcode_decode::decode::parse_block;
+use semcode_records::symbol::DecodedDebugSymbol;
 ghost use mathlib.Core.Path.{_≡_};
 ghost use mathlib.Core.List.{map};
 ghost use Prim.Native.Nat.{_-_, _*_, _≤_, _<_};
 ghost use lib.ListN.{length, getD, set};
-ghost use Rattle.lent_table.specs.Lent.{lent};
 ghost use Rattle.semcode_records.specs.Records.{records};
 ghost use Rattle.semcode_records.specs.Symbol.{symbolAt};
-ghost use Rattle.semcode_decode.specs.Block.{decodeBlock};
-ghost use Rattle.semcode_decode.specs.Layout.{layout, stringStarts, pathStarts, roomsOf};
+ghost use Rattle.semcode_records.specs.Maps.{symbolIs};
+ghost use Rattle.semcode_decode.specs.Layout.{layout, tables};
 ghost use Rattle.semcode_decode.specs.Maps.{parseOut};
-ghost use Rattle.semcode_symbols.specs.Symbols.{noSymbol, symbolsIn, blockSymbols, lentSymbols, symbolCount, symbolsStart};
-ghost use Rattle.semcode_symbols.specs.Maps.{symbolIs};
-
-#[repr(C)]
-pub struct DebugSymbol {
-    pub pc: usize,
-    pub line: u32,
-    pub col: u16,
-}
+ghost use Rattle.semcode_symbols.specs.Symbols.{
+  noSymbol,
+  symbolsIn,
+  lentSymbols,
+  symbolCount,
+  symbolsStart,
+  Placed,
+  lists,
+  Fills,
+};
 
 // ---- What the core says of the symbols
 
@@ -44,8 +45,34 @@ fn symbols_start(answer: Parse) -> usize
     }
 }
 
+// The answer, and where how many symbols start; a refusal has none.
+struct PlacedParse {
+    answer: Parse,
+    at: usize,
+    count: usize,
+}
+
+fn parse_placed(
+    base_offset: usize,
+    code: &[u8],
+    header_rev: u16,
+    symbols: usize,
+    strings: &mut [u64],
+    paths: &mut [u64],
+) -> PlacedParse
+    ensures { λ r.
+        ⌜ Placed «base_offset» «header_rev» symbols (now (code .entry))
+        (tables (now (strings .entry)) (now (paths .entry)))
+        (tables (now (strings .exit)) (now (paths .exit))) (parseOut (r .answer)) (r .at) (r .count) ⌝ }
+{
+    let answer = parse_block(base_offset, code, header_rev, symbols, strings, paths);
+    let at = symbols_start(answer);
+    let count = symbol_count(answer);
+    PlacedParse { answer, at, count }
+}
+
 // Symbol `i` of so many from a place on; zeros past them.
-fn symbol_at(code: &[u8], at: usize, count: usize, i: usize) -> DebugSymbol
+fn symbol_at(code: &[u8], at: usize, count: usize, i: usize) -> DecodedDebugSymbol
     requires { ⌜ 10 * count ≤ length (now code) - at ⌝ }
     ensures { λ r.
         ⌜ symbolIs r ≡ getD (symbolsIn (records (symbolAt (now (code .entry))) count at)) i noSymbol ⌝ }
@@ -55,13 +82,13 @@ fn symbol_at(code: &[u8], at: usize, count: usize, i: usize) -> DebugSymbol
         let pc = le32(code[p], code[p + 1], code[p + 2], code[p + 3]);
         let line = le32(code[p + 4], code[p + 5], code[p + 6], code[p + 7]);
         let col = le16(code[p + 8], code[p + 9]);
-        DebugSymbol {
+        DecodedDebugSymbol {
             pc: pc as usize,
             line,
             col,
         }
     } else {
-        DebugSymbol {
+        DecodedDebugSymbol {
             pc: 0,
             line: 0,
             col: 0,
@@ -71,16 +98,16 @@ fn symbol_at(code: &[u8], at: usize, count: usize, i: usize) -> DebugSymbol
 
 // ---- The list
 
-fn store_symbol(symbols: &mut [DebugSymbol], i: usize, pc: usize, line: u32, col: u16)
+fn store_symbol(symbols: &mut [DecodedDebugSymbol], i: usize, pc: usize, line: u32, col: u16)
     requires { ⌜ i < length (now symbols) ⌝ }
     ensures { λ _.
         ⌜ now (symbols .exit) ≡ set (now (symbols .entry)) i (record { pc = pc; line = line; col = col }) ⌝ }
 {
-    symbols[i] = DebugSymbol { pc, line, col };
+    symbols[i] = DecodedDebugSymbol { pc, line, col };
 }
 
 // So many symbols from a place on, then zeros.
-fn fill_symbols(symbols: &mut [DebugSymbol], code: &[u8], at: usize, count: usize)
+fn fill_symbols(symbols: &mut [DecodedDebugSymbol], code: &[u8], at: usize, count: usize)
     requires { ⌜ (10 * count ≤ length (now code) - at) × (count ≤ length (now symbols)) ⌝ }
     ensures { λ _.
         ⌜ map symbolIs (now (symbols .exit)) ≡
@@ -99,33 +126,16 @@ pub fn parse_string_table_debug_and_ownership(
     base_offset: usize,
     code: &[u8],
     header_rev: u16,
-    symbols: &mut [DebugSymbol],
+    symbols: &mut [DecodedDebugSymbol],
     strings: &mut [u64],
     paths: &mut [u64],
 ) -> Parse
     ensures { λ r.
-        ⌜ parseOut r ≡
-        layout (decodeBlock «base_offset» «header_rev» (roomsOf (now (strings .entry)) (length (now (symbols .entry))) (now (paths .entry)))
-        (now (code .entry))) ⌝ }
-    ensures { λ r.
-        ⌜ now (strings .exit) ≡
-        lent (length (now (strings .entry)))
-        (stringStarts (decodeBlock «base_offset» «header_rev» (roomsOf (now (strings .entry)) (length (now (symbols .entry))) (now (paths .entry)))
-        (now (code .entry)))) ⌝ }
-    ensures { λ r.
-        ⌜ now (paths .exit) ≡
-        lent (length (now (paths .entry)))
-        (pathStarts (decodeBlock «base_offset» «header_rev» (roomsOf (now (strings .entry)) (length (now (symbols .entry))) (now (paths .entry)))
-        (now (code .entry)))) ⌝ }
-    ensures { λ r.
-        ⌜ map symbolIs (now (symbols .exit)) ≡
-        lentSymbols (length (now (symbols .entry)))
-        (blockSymbols (decodeBlock «base_offset» «header_rev» (roomsOf (now (strings .entry)) (length (now (symbols .entry))) (now (paths .entry)))
-        (now (code .entry)))) ⌝ }
+        ⌜ Fills symbolIs layout «base_offset» «header_rev» (now (code .entry))
+        (lists (now (symbols .entry)) (now (strings .entry)) (now (paths .entry)))
+        (lists (now (symbols .exit)) (now (strings .exit)) (now (paths .exit))) (parseOut r) ⌝ }
 {
-    let answer = parse_block(base_offset, code, header_rev, symbols.len(), strings, paths);
-    let at = symbols_start(answer);
-    let count = symbol_count(answer);
-    fill_symbols(symbols, code, at, count);
-    answer
+    let placed = parse_placed(base_offset, code, header_rev, symbols.len(), strings, paths);
+    fill_symbols(symbols, code, placed.at, placed.count);
+    placed.answer
 }

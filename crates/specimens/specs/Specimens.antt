@@ -1,9 +1,9 @@
 -- The twelve specimens of document 01, in one table: sections at cursor 0, and blocks at a base.
 use Prim.Native.Nat.{ℕ}
 use mathlib.Core.List.{List, map, _++_}
-use Rattle.evr0_section.specs.Build.{Free}
-use Rattle.evr0_section.specs.Specimens as evr0
-use Rattle.semcode_decode.specs.Specimens as semcode
+use Rattle.specimens.specs.Build.{Free}
+use Rattle.specimens.specs.EvidenceSpecimens as evr0
+use Rattle.specimens.specs.FunctionSpecimens as semcode
 
 pub data Specimen : Type 0 where
   section : evr0.Specimen → Specimen

@@ -20,9 +20,9 @@ use denote.ArrayMemory.{array-apart, array-whole}
 use denote.Index.{whole-in}
 use denote.Struct.Laws as LL
 use denote.Struct.Steps.{spelt}
-use Rattle.semcode_symbols.specs.declared.DebugSymbol.{DebugSymbol}
-use Rattle.semcode_symbols.proofs.DebugSymbol as T
-use Rattle.semcode_symbols.proofs.DebugSymbol.Laws as T′
+use Rattle.semcode_records.specs.declared.symbol.DecodedDebugSymbol.{DecodedDebugSymbol as DebugSymbol}
+use Rattle.semcode_records.proofs.symbol.DecodedDebugSymbol as T
+use Rattle.semcode_records.proofs.symbol.DecodedDebugSymbol.Laws as T′
 
 abbrev R : RattleType
 R = T.the-row

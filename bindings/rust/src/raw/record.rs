@@ -108,13 +108,17 @@ pub struct Parent {
 
 unsafe extern "C" {
     /// The proposition at a place of an accepted section's payload, as its start in the table is.
-    pub fn falgnust_read_proposition(payload: *const u8, len: usize, at: usize) -> Proposition;
+    pub fn falgnust_read_proposition(
+        payload: *const u8,
+        payload_len: usize,
+        at: usize,
+    ) -> Proposition;
     /// The proof at a place of the payload, as its start in the table is.
-    pub fn falgnust_read_proof(payload: *const u8, len: usize, at: usize) -> Proof;
+    pub fn falgnust_read_proof(payload: *const u8, payload_len: usize, at: usize) -> Proof;
     /// The witness at a place of the payload, as `falgnust_witness_place` gives it.
-    pub fn falgnust_read_witness(payload: *const u8, len: usize, at: usize) -> Witness;
+    pub fn falgnust_read_witness(payload: *const u8, payload_len: usize, at: usize) -> Witness;
     /// The parent cell at a place of the payload, as `falgnust_parent_place` gives it.
-    pub fn falgnust_read_parent(payload: *const u8, len: usize, at: usize) -> Parent;
+    pub fn falgnust_read_parent(payload: *const u8, payload_len: usize, at: usize) -> Parent;
     /// Where a witness stands in a payload of `len` bytes with so many witnesses and parents.
     pub fn falgnust_witness_place(
         len: usize,

@@ -106,6 +106,20 @@ unsafe extern "C" {
         depths: *mut u64,
         depths_len: usize,
     ) -> WayDown;
+
+    /// Whether some proof of a proposition has operation 1.
+    pub fn falgnust_authorised(
+        bytes: *const u8,
+        bytes_len: usize,
+        cursor: usize,
+        proposition: u32,
+        propositions: *mut u64,
+        propositions_len: usize,
+        proofs: *mut u64,
+        proofs_len: usize,
+        depths: *mut u64,
+        depths_len: usize,
+    ) -> Authorised;
 }
 
 /// Functions of the form [`OfSection`].
@@ -140,6 +154,4 @@ of_section! {
     falgnust_witness_number -> Witness;
     /// A parent cell by its number.
     falgnust_parent_number -> Parent;
-    /// Whether some proof of the proposition of that number has operation 1.
-    falgnust_authorised -> Authorised;
 }

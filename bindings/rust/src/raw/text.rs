@@ -71,25 +71,25 @@ pub struct Text {
 
 unsafe extern "C" {
     /// A field of 1 byte.
-    pub fn falgnust_read_u8(bytes: *const u8, len: usize, at: usize) -> Field;
+    pub fn falgnust_read_u8(bytes: *const u8, bytes_len: usize, at: usize) -> Field;
     /// A field of 2 bytes, the lowest first.
-    pub fn falgnust_read_u16_le(bytes: *const u8, len: usize, at: usize) -> Field;
+    pub fn falgnust_read_u16_le(bytes: *const u8, bytes_len: usize, at: usize) -> Field;
     /// A field of 4 bytes, the lowest first.
-    pub fn falgnust_read_u32_le(bytes: *const u8, len: usize, at: usize) -> Field;
+    pub fn falgnust_read_u32_le(bytes: *const u8, bytes_len: usize, at: usize) -> Field;
     /// Whether a fixed byte string stands at a place.
     pub fn falgnust_tag_at(
         bytes: *const u8,
-        len: usize,
+        bytes_len: usize,
         at: usize,
         tag: *const u8,
         tag_len: usize,
     ) -> bool;
     /// Whether bytes are UTF-8, and hold a control character.
-    pub fn falgnust_scan(bytes: *const u8, len: usize) -> Scanned;
+    pub fn falgnust_scan(bytes: *const u8, bytes_len: usize) -> Scanned;
     /// The same of so many bytes at a place.
     pub fn falgnust_read_utf8(bytes: *const u8, bytes_len: usize, at: usize, len: usize) -> Utf8;
     /// A text of a section: a 2-byte length from 1 to 4,096 and that many bytes of UTF-8 without control characters.
-    pub fn falgnust_read_text(bytes: *const u8, len: usize, at: usize) -> Text;
+    pub fn falgnust_read_text(bytes: *const u8, bytes_len: usize, at: usize) -> Text;
     /// A string of a block: a 2-byte length up to 1,024 and that many bytes of UTF-8.
-    pub fn falgnust_read_string(bytes: *const u8, len: usize, at: usize) -> Text;
+    pub fn falgnust_read_string(bytes: *const u8, bytes_len: usize, at: usize) -> Text;
 }

@@ -9,8 +9,8 @@ use Rattle.evidence.proofs.main.Tie as tie
 array-share-prefix-output : tie.Need-array-share-prefix-output
 array-share-prefix-output c = written-within (c .before .evidence .ensures)
 
-slice-aggregate-write-all : tie.Need-slice-aggregate-write-all
-slice-aggregate-write-all c = sym (length-take-le _ _ (written-within (c .before .before .evidence .ensures)))
+slice-aggregate-tell-2 : tie.Need-slice-aggregate-tell-2
+slice-aggregate-tell-2 c = sym (length-take-le _ _ (written-within (c .before .before .evidence .ensures)))
 
 pub main-spec : {M : Type 1} → statement M
 main-spec =
@@ -19,10 +19,13 @@ main-spec =
     (λ c. search needs)
     (λ c κs. search needs)
     (λ c. search needs)
+    (λ c κs. search needs)
+    (λ c. search needs)
+    (λ c. search needs)
     (λ c. search needs)
     (λ c. search needs)
     (λ c κs. search needs)
     array-share-prefix-output
-    slice-aggregate-write-all
+    slice-aggregate-tell-2
     (λ c κs. search needs)
     (λ c. search needs))

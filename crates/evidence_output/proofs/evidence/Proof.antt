@@ -16,19 +16,22 @@ use Rattle.evidence_output.proofs.evidence.Tie as tie
 
 returns : tie.Need-returns
 returns c =
-    let at-if1 = c .before .before .before .before in
-    rw (← too-long _ (at-if1 .if1 .taken)) (c .before .before .put-too-long .ensures)
+    let at-if1 = c .before .before .before .before .before in
+    rw (← too-long _ (at-if1 .if1 .taken)) (c .before .before .put-bytes .ensures)
 
 -- what the decoder answers
 module _ (c : tie.After-decode-evr0-section) where
+  abbrev tested : tie.Else1
+  tested = c .before .before .before .before
+
   abbrev start : tie.Start
-  start = c .before .before .before .before .before .before .before
+  start = tested .before .before .before
 
   answered : outcomeOut (c .decode-evr0-section .result .outcome) ≡ answerOf 0 (decodeSection enough (start .args .input .now) 0) .outcome
-  answered = ap (λ (a : Answer). a .outcome) (c .decode-evr0-section .ensures .0)
+  answered = ap (λ (a : Answer). a .outcome) (c .decode-evr0-section .ensures .answer)
 
   short : length (start .args .input .now) ≤ 65536
-  short = c .before .before .before .before .if1 .left
+  short = tested .if1 .left
 
 -- an accepted section
 module _ (c : tie.After-outcome2) where
@@ -38,20 +41,19 @@ module _ (c : tie.After-outcome2) where
   is-given : Given (start decoding .args .input .now) (short decoding) (decoding .decode-evr0-section .result .cursor)
       (countsOut (c .outcome2 .given .0 .0 .counts))
   is-given =
-      given _ (short decoding) _ refl (ap (λ (a : Answer). a .cursor) (decoding .decode-evr0-section .ensures .0))
+      given _ (short decoding) _ refl (ap (λ (a : Answer). a .cursor) (decoding .decode-evr0-section .ensures .answer))
       (told outcomeOut (answered decoding) (c .outcome2 .given .1))
 
 returns-2 : tie.Need-returns-2
 returns-2 c =
     let w = c .before .before in
-    let o = w .before .before .before .before in
+    let o = w .before .before .before .before .before .before in
     let q = o .before .before .before .before .before in
-    rw (← refusal-printed _ (short q) _ refl (told outcomeOut (answered q) (o .outcome .given .1))) (w .put-refused .ensures)
+    rw (← refusal-printed _ (short q) _ refl (told outcomeOut (answered q) (o .outcome .given .1))) (w .put-line .ensures)
 
 requires : tie.Need-put-accepted-requires
 requires c κs =
-    let stage = c .before .before .before .before .before in
-    let o = stage in
+    let o = c .before .before .before .before .before in
     let d = decoding o .decode-evr0-section in
     let g = is-given o in
     ((g .start, g .end), (omega (arith, g .few, d .kept .1 .1 .1 .0), omega (arith, g .few, d .kept .1 .1 .1 .1 .0)))
@@ -61,12 +63,13 @@ returns-3 c =
     let w = c .before .before in
     let o = w .before .before .before .before .before .before in
     let d = decoding o .decode-evr0-section in
-    rw (← is-given o .lines _ _ (d .ensures .1 .1 .0) (d .ensures .1 .1 .1 .0)) (w .put-accepted .ensures)
+    rw (← is-given o .lines _ _ (d .ensures .tables .proofs) (d .ensures .tables .depths)) (w .put-accepted .ensures)
 
 pub evidence-spec : {M : Type 1} → statement M
 evidence-spec =
     tie.close
     (tie.spec
+    (λ c. search needs)
     (λ c κs. search needs)
     (λ c. search needs)
     returns
@@ -74,6 +77,8 @@ evidence-spec =
     (λ c. search needs)
     (λ c. search needs)
     (λ c κs. search needs)
+    (λ c. search needs)
+    (λ c. search needs)
     (λ c. search needs)
     (λ c. search needs)
     (λ c κs. search needs)

@@ -10,7 +10,8 @@ use Rattle.evidence_output.proofs.put_accepted.Tie as tie
 returns : tie.Need-returns
 returns c =
     let lines = c .before .before in
-    written-append (lines .before .before .before .before .before .before .before .put-head .ensures) (lines .put-proofs .ensures)
+    let parts = lines .before .before .before .before in
+    written-append (parts .before .before .before .put-head .ensures) (lines .put-proofs .ensures)
 
 pub put-accepted-spec : {M : Type 1} → statement M
 put-accepted-spec =

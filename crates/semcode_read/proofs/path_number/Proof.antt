@@ -1,124 +1,84 @@
 -- Meets its contract: the block is decoded anew, and the path is read at its start.
 use borrow.Author.Needs.{needs}
 use native.Mathlib.Omega.{arith}
+use mathlib.Core.Path.{refl, ap, _∙_}
 use Prim.Native.Nat.{_<_}
-use mathlib.Core.Path.{_≡_, refl, _∙_}
-use lib.ListN.{length, getD}
-use Rattle.local_format.specs.Out.{Out, ok}
+use lib.ListN.{length}
+use Rattle.local_format.specs.Out.{refused}
 use Rattle.local_format.specs.Number.{numbered}
-use Rattle.local_format.proofs.OutLaws.{told}
-use Rattle.semcode_records.specs.Path.{headAt}
-use Rattle.semcode_decode.specs.Block.{Block}
-use Rattle.semcode_decode.specs.Layout.{layout}
+use Rattle.local_format.specs.Maps.{refusalOf}
+use Rattle.semcode_decode.specs.declared.decode.Parse.{Parse}
+use Rattle.semcode_decode.specs.Layout.{Lent, tables}
 use Rattle.semcode_decode.specs.Number.{decodeAnew, pathNumber, headIn}
-use Rattle.semcode_decode.specs.Maps.{layoutIs, parseOut}
-use Rattle.semcode_read.specs.After.{Lent}
-use Rattle.semcode_read.proofs.NumberLaws.{tables-cleared}
-use Rattle.semcode_read.proofs.AnswerLaws.{refused-anew, path-anew, missing-anew}
+use Rattle.semcode_decode.specs.Maps.{parseOut}
+use Rattle.semcode_read.proofs.AnswerLaws.{cleared, refused-anew, path-anew, missing-anew}
 use Rattle.semcode_read.proofs.path_number.Statement.{statement}
 use Rattle.semcode_read.proofs.path_number.Tie as tie
 
--- the call of the decoder, and the block that it speaks of
+-- the tables at the decoder's call, and after it
+abbrev brought : tie.After-parse-block → Lent
+brought p =
+    let a = p .before .before .before .before .before .before .args in
+    tables (a .strings .now) (a .paths .now)
+
+abbrev left : tie.After-parse-block → Lent
+left p = tables (p .parse-block .last .1 .1 .1 .1 .0) (p .parse-block .last .1 .1 .1 .1 .1 .0)
+
 abbrev parsed : tie.After-answer → tie.After-parse-block
-parsed k =
-    let stage = k .before .before .before .before .before .before in
-    stage
-
-abbrev block : tie.After-parse-block → Out Block
-block pt =
-    let start = pt .before .before .before .before .before .before in
-    let a = start .args in
-    decodeAnew (a .base-offset) (a .header-rev) (a .strings .now) (a .paths .now) (a .code .now)
-
-accepted : (k : tie.After-answer) → layout (block (parsed k)) ≡ ok (layoutIs (k .answer .given .0 .0))
-accepted k = told parseOut (parsed k .parse-block .ensures .0) (k .answer .given .1)
-
--- the number is in the table
-found : (i : tie.Then1)
-    → let pt = parsed (i .before .before .before) in
-    let a = pt .before .before .before .before .before .before .args in
-    let last = pt .parse-block .last in
-    (a .number < length (last .1 .1 .1 .1 .1 .0))
-    × (headAt (a .header-rev) (a .code .now) (getD (last .1 .1 .1 .1 .1 .0) (a .number) 0) ≡ headIn (pathNumber (a .number) (block pt)))
-    × Lent (pathNumber (a .number) (block pt)) (a .strings .now) (a .paths .now) (last .1 .1 .1 .1 .0) (last .1 .1 .1 .1 .1 .0)
-found i =
-    let k = i .before .before .before in
-    let a = parsed k .before .before .before .before .before .before .args in
-    let p = parsed k .parse-block in
-    path-anew (a .base-offset) (a .header-rev) (a .strings .now) (a .paths .now) (a .code .now) (p .last .1 .1 .1 .1 .0) (p .last .1 .1 .1 .1 .1 .0)
-    (p .ensures .1 .0)
-    (p .ensures .1 .1)
-    (accepted k)
-    (a .number)
-    (i .if1 .taken)
+parsed k = k .before .before .before .before .before .before
 
 returns : tie.Need-returns
 unfolding pathNumber
 returns c =
     let k = c .before in
-    let pt = k .before .before .before .before .before .before in
-    let a = pt .before .before .before .before .before .before .args in
-    let p = pt .parse-block in
-    let b =
-    refused-anew (a .base-offset) (a .header-rev) (a .strings .now) (a .paths .now) (a .code .now) (p .last .1 .1 .1 .1 .0) (p .last .1 .1 .1 .1 .1 .0)
-    (p .ensures .1 .0)
-    (p .ensures .1 .1)
-    (λ b. numbered (a .number) (b .ownership .table .entries))
-    (told parseOut (p .ensures .0) (k .enum-told .given .1))
-    in
-    (rw (b .0, c .parse-refusal .ensures, k .enum-told .given .1), b .1)
+    let p = k .before .before .before .before .before .before in
+    let a = p .before .before .before .before .before .before .args in
+    refused-anew (a .base-offset) (a .header-rev) (a .code .now) (brought p) (left p) (p .parse-block .ensures) headIn
+    (λ b. numbered (a .number) (b .ownership .table .entries)) (ap parseOut (k .enum-told .given .1))
+    (ap refused (c .parse-refusal .ensures ∙ ap (λ (x : Parse). refusalOf (parseOut x)) (k .enum-told .given .1)))
+
+-- the number is in the table
+within : (i : tie.Then1)
+    → let p = parsed (i .before .before .before) in
+    let a = p .before .before .before .before .before .before .args in
+    a .number < length (left p .paths)
+within i =
+    let k = i .before .before .before in
+    let p = parsed k in
+    let a = p .before .before .before .before .before .before .args in
+    path-anew (a .base-offset) (a .header-rev) (a .code .now) (brought p) (left p) (p .parse-block .ensures) (ap parseOut (k .answer .given .1))
+    (a .number) (i .if1 .taken) .0
 
 mul-read-path : tie.Need-mul-read-path
-mul-read-path c = record { fits = omega (arith, found c .0, parsed (c .before .before .before) .parse-block .kept .1 .1 .1 .1 .1 .0) }
-
-slice-read-read-path : tie.Need-slice-read-read-path
-slice-read-read-path c = found (c .before) .0
+mul-read-path c = record { fits = omega (arith, within c, parsed (c .before .before .before) .parse-block .kept .1 .1 .1 .1 .1 .0) }
 
 returns-2 : tie.Need-returns-2
 returns-2 c =
-    let f = found (c .before .before) in
-    (c .read-path .ensures ∙ f .1, f .2)
+    let i = c .before .before in
+    let k = i .before .before .before in
+    let p = parsed k in
+    let a = p .before .before .before .before .before .before .args in
+    path-anew (a .base-offset) (a .header-rev) (a .code .now) (brought p) (left p) (p .parse-block .ensures) (ap parseOut (k .answer .given .1))
+    (a .number) (i .if1 .taken) .1 _ (c .read-path .ensures)
 
 returns-3 : tie.Need-returns-3
 unfolding pathNumber
 returns-3 c =
-    let stage = c .before .before .before .before in
-    let n = stage in
+    let n = c .before .before .before .before in
     let i = n .before .before .before in
     let k = i .before .before .before in
-    let a = parsed k .before .before .before .before .before .before .args in
-    let p = parsed k .parse-block in
+    let p = parsed k in
+    let a = p .before .before .before .before .before .before .args in
     let e =
-    missing-anew (a .base-offset) (a .header-rev) (a .strings .now) (a .paths .now) (a .code .now) (λ b. b .ownership .table .entries) (λ l. l .paths)
-    (λ b. refl)
-    (accepted k)
-    (a .number)
-    (i .if1 .left)
-    in (
-      rw (e, n .not-there .ensures .0),
-      tables-cleared (pathNumber (a .number) (block (parsed k))) (a .strings .now) (a .paths .now) (n .not-there .last .0) (n .not-there .last .1 .0)
-          (p .last .1 .1 .1 .1 .0) (p .last .1 .1 .1 .1 .1 .0) e (p .kept .1 .1 .1 .1 .0) (p .kept .1 .1 .1 .1 .1 .0) (n .not-there .ensures .1 .0)
-          (n .not-there .ensures .1 .1),
-    )
+    missing-anew (a .base-offset) (a .header-rev) (a .code .now) (brought p) (left p) (p .parse-block .ensures) (ap parseOut (k .answer .given .1))
+    (a .number) (λ b. b .ownership .table .entries) (λ l. l .paths) (λ b. refl) (i .if1 .left)
+    in
+    cleared headIn (pathNumber (a .number) (decodeAnew (a .base-offset) (a .header-rev) (a .code .now) (brought p))) (brought p) (left p)
+    (n .not-there .ensures) e (p .parse-block .kept .1 .1 .1 .1 .0) (p .parse-block .kept .1 .1 .1 .1 .1 .0) (ap refused (n .not-there .ensures .answer))
 
 pub path-number-spec : {M : Type 1} → statement M
 path-number-spec =
     tie.close
-    (tie.spec
-    (λ c κs. search needs)
-    (λ c. search needs)
-    (λ c. search needs)
-    (λ c κs. search needs)
-    (λ c. search needs)
-    (λ c. search needs)
-    returns
-    mul-read-path
-    slice-read-read-path
-    (λ c κs. search needs)
-    (λ c. search needs)
-    (λ c. search needs)
-    returns-2
-    (λ c κs. search needs)
-    (λ c. search needs)
-    (λ c. search needs)
-    returns-3)
+    (tie.spec (λ c κs. search needs) (λ c. search needs) (λ c. search needs) (λ c κs. search needs) (λ c. search needs) (λ c. search needs) returns
+    mul-read-path (λ c. within (c .before)) (λ c κs. search needs) (λ c. search needs) (λ c. search needs) returns-2
+    (λ c κs. search needs) (λ c. search needs) (λ c. search needs) returns-3)

@@ -1,6 +1,5 @@
--- Meets its contract: the number, four more and the newline.
+-- Meets its contract: the number, then the rest.
 use borrow.Author.Needs.{needs}
-use mathlib.Core.List.{[], _∷_}
 use Rattle.evidence_output.proofs.LineLaws.{line-written}
 use Rattle.evidence_output.proofs.line.put_proof.Statement.{statement}
 use Rattle.evidence_output.proofs.line.put_proof.Tie as tie
@@ -8,11 +7,9 @@ use Rattle.evidence_output.proofs.line.put_proof.Tie as tie
 returns : tie.Need-returns
 returns c =
     let end = c .before .before in
-    let four = end .before .before .before .before in
-    let number = four .before .before .before .before in
-    let n = number .before .before .before .args in
-    line-written (n .proposition ∷ n .authority ∷ n .depth ∷ n .witnesses ∷ []) (number .put-decimal .ensures) (four .put-four .ensures) (end .put .ensures)
+    line-written _ (end .before .before .before .before .before .put-decimal .ensures) (end .end-line .ensures)
 
 pub put-proof-spec : {M : Type 1} → statement M
 put-proof-spec =
-    tie.close (tie.spec (λ c κs. search needs) (λ c κs. search needs) (λ c κs. search needs) (λ c. search needs) returns)
+    tie.close
+    (tie.spec (λ c κs. search needs) (λ c. search needs) (λ c κs. search needs) (λ c. search needs) returns)

@@ -29,8 +29,7 @@ returns c =
 loop-again : tie.Need-loop-again Inv-loop μ-loop
 loop-again c =
     let on = c .before .before .before .before .before .before in
-    let stage = on .before .before in
-    let l = stage in
+    let l = on .before .before in
     let a = l .before .before .before .before .before .args in (
       omega arith,
       omega arith,

@@ -21,8 +21,7 @@ loop-holds c = (omega arith, written-none _ _)
 
 loop-again : tie.Need-loop-again Inv-loop μ-loop
 loop-again c =
-    let stage = c .before .before .before .before .before .before in
-    let l = stage in
+    let l = c .before .before .before .before .before .before in
     let bytes = l .before .before .before .args .bytes .now in
     let i = l .loop .i in
     (omega arith, rw (add-one i, take-suc bytes i 0 (omega arith)) (written-append (l .loop .inv .1) (c .before .before .put .ensures)))

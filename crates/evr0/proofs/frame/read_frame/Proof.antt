@@ -20,18 +20,18 @@ use Rattle.evr0.proofs.frame.read_frame.Tie as tie
 tag : (c : tie.Else1) → tagAt evr0 (c .before .before .before .before .args .bytes .now) (c .before .before .before .before .args .cursor) ≡ true
 tag c = sym (c .before .tag-at .ensures) ∙ not-false _ (c .if1 .left)
 
+abbrev start : tie.After-field → tie.Start
+start c = let on = c .before .before .before .before .before .before in on .before
+
 size : (c : tie.After-field)
-    → fieldAt 4 (c .before .before .before .before .before .before .before .args .bytes .now)
-    (c .before .before .before .before .before .before .before .args .cursor + 4)
+    → fieldAt 4 (start c .args .bytes .now) (start c .args .cursor + 4)
     ≡ whole (record { value = c .field .given .0 .0; next = c .field .given .0 .1 .0 })
 size c = told u32Out (c .before .before .read-u32-le .ensures) (c .field .given .1)
 
 within : (c : tie.After-field)
-    → c .field .given .0 .1 .0 ≤ length (c .before .before .before .before .before .before .before .args .bytes .now)
+    → c .field .given .0 .1 .0 ≤ length (start c .args .bytes .now)
 within c =
-    let on = c .before .before .before .before .before .before in
-    let start = on .before in
-    let a = start .args in
+    let a = start c .args in
     let f = field-ok 0 4 (a .bytes .now) (a .cursor + 4) (ap (orCut 0 (a .cursor + 4)) (size c)) in
     omega arith
 

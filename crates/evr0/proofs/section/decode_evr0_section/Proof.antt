@@ -1,70 +1,38 @@
--- Meets its contract: the frame is refused, or its payload is decoded, by `DecodeLaws`; and demand 3, which holds of every file and cursor.
+-- Meets its contract: the frame is refused, or its payload is decoded, by `DecodeLaws`, which brings demand 3.
 use borrow.Author.Needs.{needs}
-use mathlib.Core.Path.{_≡_, sym, ap, _∙_}
-use lib.ListN.{length}
-use Rattle.local_format.specs.Out.{Out, ok, refused}
+use mathlib.Core.Path.{_≡_}
+use Rattle.local_format.specs.Out.{ok}
 use Rattle.local_format.proofs.OutLaws.{told}
-use Rattle.lent_table.specs.Lent.{lent}
-use Rattle.evr0_section.specs.Section.{Section, frameAt}
-use Rattle.evr0_section.proofs.Demand.{demand-3}
+use Rattle.evr0_section.specs.Section.{frameAt}
 use Rattle.evr0.specs.Maps.{frameOut}
-use Rattle.evr0.specs.Answer.{roomOf, answerOf, propositionStarts, proofStarts, proofDepths}
 use Rattle.evr0.proofs.FrameLaws.{frame-within}
 use Rattle.evr0.proofs.DecodeLaws.{no-frame, framed}
 use Rattle.evr0.proofs.section.decode_evr0_section.Statement.{statement}
 use Rattle.evr0.proofs.section.decode_evr0_section.Tie as tie
 
-frame-read : (c : tie.After-frame2)
-    → frameAt (c .before .before .before .before .before .before .before .args .bytes .now)
-    (c .before .before .before .before .before .before .before .args .cursor)
-    ≡ ok (record { start = c .frame2 .given .0 .0; len = c .frame2 .given .0 .1 .0 })
-frame-read c = told frameOut (c .before .before .read-frame .ensures) (c .frame2 .given .1)
+module _ (c : tie.After-frame2) where
+  abbrev start : tie.Start
+  start = let at = c .before .before in at .before .before .before .before .before
+
+  frame-read : frameAt (start .args .bytes .now) (start .args .cursor) ≡ ok (record { start = c .frame2 .given .0 .0; len = c .frame2 .given .0 .1 .0 })
+  frame-read = told frameOut (c .before .before .read-frame .ensures) (c .frame2 .given .1)
 
 decode-at-requires : tie.Need-decode-at-requires
-decode-at-requires c κs =
-    let stage = c .before .before .before .before in
-    frame-within _ _ _ (frame-read (stage))
+decode-at-requires c κs = frame-within _ _ _ (frame-read (c .before .before .before .before))
 
 returns : tie.Need-returns
 returns c =
-    let on = c .before .before .before .before .before .before in
-    let at-clear2 = on .before in
-    let at-clear = at-clear2 .before .before .before .before in
-    let at-frame = at-clear .before .before .before in
-    let at-read-frame = at-frame .before .before in
-    let start = at-read-frame .before .before .before .before .before in
-    let a = start .args in
-    let x = no-frame (roomOf (length (a .propositions .now)) (length (a .proofs .now)) (length (a .depths .now))) (a .bytes .now) (a .cursor) _
-    (told frameOut (at-read-frame .read-frame .ensures) (at-frame .frame .given .1)) in (
-      c .refused-section .ensures ∙ sym (ap (answerOf (a .cursor)) x),
-      (
-        at-clear .clear .ensures ∙ sym (ap (λ (y : Out Section). lent (length (a .propositions .now)) (propositionStarts y)) x),
-        (
-          at-clear2 .clear2 .ensures ∙ sym (ap (λ (y : Out Section). lent (length (a .proofs .now)) (proofStarts y)) x),
-          (c .before .before .before .clear3 .ensures ∙ sym (ap (λ (y : Out Section). lent (length (a .depths .now)) (proofDepths y)) x), demand-3 _ _ _),
-        ),
-      ),
-    )
+    let third = c .before .before .before in
+    let second = third .before .before .before .before in
+    let first = second .before .before .before .before in
+    let f = first .before .before .before in
+    no-frame _ _ _ _ _ (told frameOut (f .before .before .read-frame .ensures) (f .frame .given .1)) (c .refused-section .ensures)
+    (first .clear .ensures) (second .clear2 .ensures) (third .clear3 .ensures)
 
 returns-2 : tie.Need-returns-2
 returns-2 c =
-    let at-decode-at = c .before .before .before .before .before .before in
-    let stage = at-decode-at .before .before .before .before .before in
-    let on = stage .before .before .before .before .before .before in
-    let start = on .before in
-    let a = start .args in
-    let x = framed (roomOf (length (a .propositions .now)) (length (a .proofs .now)) (length (a .depths .now))) (a .bytes .now) (a .cursor) _
-    (frame-read (stage)) in
-    let k = at-decode-at .decode-at .ensures in (
-      k .0 ∙ sym (ap (answerOf (a .cursor)) x),
-      (
-        k .1 .0 ∙ sym (ap (λ (y : Out Section). lent (length (a .propositions .now)) (propositionStarts y)) x),
-        (
-          k .1 .1 .0 ∙ sym (ap (λ (y : Out Section). lent (length (a .proofs .now)) (proofStarts y)) x),
-          (k .1 .1 .1 ∙ sym (ap (λ (y : Out Section). lent (length (a .depths .now)) (proofDepths y)) x), demand-3 _ _ _),
-        ),
-      ),
-    )
+    let d = c .before .before .before .before .before .before in
+    framed _ _ _ _ _ (frame-read (d .before .before .before .before .before)) (d .decode-at .ensures)
 
 pub decode-evr0-section-spec : {M : Type 1} → statement M
 decode-evr0-section-spec =

@@ -1,103 +1,96 @@
 -- Meets its contract: the head is read, then the tables and depths, by `SectionLaws` and `AnswerLaws`.
 use borrow.Author.Needs.{needs}
 use mathlib.Core.Path.{_≡_, refl, sym, ap, _∙_}
-use lib.ListN.{length}
-use Rattle.local_format.specs.Out.{ok, refused}
-use Rattle.local_format.specs.Maps.{refusalOut}
+use Rattle.local_format.specs.Out.{ok}
 use Rattle.local_format.proofs.OutLaws.{told}
 use Rattle.derivation.specs.Rule.{fourRules}
-use Rattle.evr0_section.specs.Section.{sectionIn}
-use Rattle.evr0_head.specs.Maps.{headRecord, headIn, checkedOut}
-use Rattle.evr0_head.specs.Checks.{checkedHead}
-use Rattle.evr0.specs.Answer.{roomOf, Accepted, answerOf}
-use Rattle.evr0.proofs.RowLaws.{answered}
+use Rattle.evr0_fields.specs.Maps.{checkedOut}
+use Rattle.evr0_head.specs.Maps.{headRecord, headIn}
+use Rattle.evr0_section.specs.Head.{checkedHead}
+use Rattle.evr0.specs.Answer.{Lent, lentOf, roomOf, Accepted, answerOf}
+use Rattle.evr0.specs.Steps.{payloadIn, Passes}
+use Rattle.evr0_tables.proofs.RowLaws.{answered}
 use Rattle.evr0.proofs.SectionLaws.{no-head, accepted-head}
-use Rattle.evr0.proofs.AnswerLaws.{passed, not-passed, answered-with}
+use Rattle.evr0.proofs.AnswerLaws.{passed, not-passed, answered-with, refusal-ends}
 use Rattle.evr0.proofs.section.decode_payload.Statement.{statement}
 use Rattle.evr0.proofs.section.decode_payload.Tie as tie
 
-head-read : (c : tie.After-answer2)
-    → checkedHead (roomOf (length (c .before .before .before .before .before .before .before .args .propositions .now))
-    (length (c .before .before .before .before .before .before .before .args .proofs .now))
-    (length (c .before .before .before .before .before .before .before .args .depths .now)))
-    (c .before .before .before .before .before .before .before .args .payload .now)
-    ≡ ok (headRecord (c .before .before .read-checked-head .result .«source_set»)
-    (c .before .before .read-checked-head .result .«compiler_contract») (c .answer2 .given .0 .0))
-head-read c =
-    let on = c .before .before .before .before .before .before in
-    let start = on .before in
-    let a = start .args in
-    sym (answered (λ h. h .sourceSet) (λ h. h .compilerContract)
-    (checkedHead (roomOf (length (a .propositions .now)) (length (a .proofs .now)) (length (a .depths .now))) (a .payload .now))
-    (c .before .before .read-checked-head .ensures))
-    ∙ ap (headIn (c .before .before .read-checked-head .result .«source_set») (c .before .before .read-checked-head .result .«compiler_contract»))
-    (c .answer2 .given .1)
+-- ---- The stages
+module _ (c : tie.After-read-checked-head) where
+  abbrev start : tie.Start
+  start = c .before .before .before .before .before
 
-head-refused : (c : tie.After-answer)
-    → checkedHead (roomOf (length (c .before .before .before .before .before .before .before .args .propositions .now))
-    (length (c .before .before .before .before .before .before .before .args .proofs .now))
-    (length (c .before .before .before .before .before .before .before .args .depths .now)))
-    (c .before .before .before .before .before .before .before .args .payload .now) ≡ refused (refusalOut (c .answer .given .0 .0))
-head-refused c =
-    let on = c .before .before .before .before .before .before in
-    let start = on .before in
-    let a = start .args in
-    sym (answered (λ h. h .sourceSet) (λ h. h .compilerContract)
-    (checkedHead (roomOf (length (a .propositions .now)) (length (a .proofs .now)) (length (a .depths .now))) (a .payload .now))
-    (c .before .before .read-checked-head .ensures))
-    ∙ ap (headIn (c .before .before .read-checked-head .result .«source_set») (c .before .before .read-checked-head .result .«compiler_contract»))
-    (c .answer .given .1)
+  abbrev brought : Lent
+  brought = lentOf (start .args .propositions .now) (start .args .proofs .now) (start .args .depths .now)
 
+  head-is : headIn (c .read-checked-head .result .«source_set») (c .read-checked-head .result .«compiler_contract») (c .read-checked-head .result .answer)
+      ≡ checkedHead (roomOf brought) (start .args .payload .now)
+  head-is =
+      answered (λ h. h .sourceSet) (λ h. h .compilerContract) (checkedHead (roomOf brought) (start .args .payload .now)) (c .read-checked-head .ensures)
+
+module _ (c : tie.After-answer2) where
+  abbrev head-at : tie.After-read-checked-head
+  head-at = c .before .before
+
+  head-read : checkedHead (roomOf (brought head-at)) (start head-at .args .payload .now)
+      ≡ ok (headRecord (head-at .read-checked-head .result .«source_set») (head-at .read-checked-head .result .«compiler_contract») (c .answer2 .given .0 .0))
+  head-read = sym (head-is head-at) ∙ ap (headIn _ _) (c .answer2 .given .1)
+
+module _ (c : tie.After-check-tables) where
+  abbrev read-at : tie.After-answer2
+  read-at = c .before .before .before .before .before .before
+
+  abbrev given-at : tie.Start
+  given-at = start (head-at read-at)
+
+  passes : Passes (payloadIn (brought (head-at read-at)) (given-at .args .payload .now) (given-at .args .end)) (brought (head-at read-at))
+      (lentOf (c .check-tables .last .1 .1 .1 .0) (c .check-tables .last .1 .1 .1 .1 .0) (c .check-tables .last .1 .1 .1 .1 .1 .0))
+      (checkedOut (c .check-tables .result))
+  passes = c .check-tables .ensures (given-at .args .end)
+
+-- ---- The answers
 check-tables-requires : tie.Need-check-tables-requires
 check-tables-requires c κs =
-    let stage = c .before .before .before .before .before in
-    record { head = _; read = head-read (stage); same = refl; next = refl }
+    record { head = _; read = head-read (c .before .before .before .before .before); same = refl; next = refl }
 
 returns : tie.Need-returns
 returns c =
-    let on = c .before .before .before .before .before .before in
-    let start = on .before .before .before in
-    let a = start .args in
-    let x : sectionIn fourRules (roomOf (length (a .propositions .now)) (length (a .proofs .now)) (length (a .depths .now))) (a .payload .now)
-    (a .end) ≡ refused (refusalOut (c .before .before .answer .given .0 .0)) = no-head fourRules _ _ _ _ (head-refused (c .before .before)) in
-    (c .refused-section .ensures ∙ sym (ap (answerOf (a .cursor)) x), (rw x, (rw x, rw x)))
+    let third = c .before .before .before in
+    let second = third .before .before .before .before in
+    let one = second .before .before .before .before in
+    let r = one .before .before .before in
+    let at = r .before .before in
+    refusal-ends (no-head fourRules _ _ _ _ (sym (head-is at) ∙ ap (headIn _ _) (r .answer .given .1)))
+    (record { propositions = one .clear .ensures; proofs = second .clear2 .ensures; depths = third .clear3 .ensures }) _ (c .refused-section .ensures)
 
 returns-2 : tie.Need-returns-2
 returns-2 c =
     let on = c .before .before .before .before .before .before in
-    let at-check-tables = on .before .before .before .before in
-    let on2 = at-check-tables .before .before .before .before .before .before in
-    let on3 = on2 .before .before .before .before .before .before in
-    let start = on3 .before in
-    let a = start .args in
-    let k = at-check-tables .check-tables .ensures in
-    let x : sectionIn fourRules (roomOf (length (a .propositions .now)) (length (a .proofs .now)) (length (a .depths .now))) (a .payload .now)
-    (a .end) ≡ refused (refusalOut (c .before .before .checked .given .0 .0)) = not-passed _ _
-    (told checkedOut (k .0 (a .end)) (c .before .before .checked .given .1)) in
-    (c .refused-section2 .ensures ∙ sym (ap (answerOf (a .cursor)) x), (k .1 .0 (a .end), (k .1 .1 .0 (a .end), k .1 .1 .1 (a .end))))
+    let at = on .before .before .before .before in
+    let x = payloadIn (brought (head-at (read-at at))) (given-at at .args .payload .now) (given-at at .args .end) in
+    let e = not-passed x _ (told checkedOut (passes at .answer) (c .before .before .checked .given .1)) in
+    record { answer = c .refused-section2 .ensures ∙ sym (ap (answerOf (given-at at .args .cursor)) e); tables = passes at .tables }
 
 returns-3 : tie.Need-returns-3
 returns-3 c =
     let on = c .before .before .before .before .before .before in
-    let at-check-tables = on .before .before .before .before .before in
-    let stage = at-check-tables .before .before .before .before .before .before in
-    let at-read-checked-head = stage .before .before in
-    let start = at-read-checked-head .before .before .before .before .before in
-    let a2 = start .args in
-    let k = at-check-tables .check-tables .ensures in
-    let h = head-read (stage) in
-    let s = passed (sectionIn fourRules (roomOf (length (a2 .propositions .now)) (length (a2 .proofs .now)) (length (a2 .depths .now)))
-    (a2 .payload .now) (a2 .end)) (told checkedOut (k .0 (a2 .end)) (c .before .before .before .enum-told .given .1)) in
-    let a = accepted-head fourRules _ _ (a2 .end) _ h (s .0) (s .1) in (
-      ap (λ (x : Accepted). record {
-        sourceSet = at-read-checked-head .read-checked-head .result .«source_set»;
-        compilerContract = at-read-checked-head .read-checked-head .result .«compiler_contract»;
-        cursor = a2 .end;
-        outcome = ok x;
+    let at = on .before .before .before .before .before in
+    let a = given-at at .args in
+    let k = passes at in
+    let x = payloadIn (brought (head-at (read-at at))) (a .payload .now) (a .end) in
+    let s = passed x (told checkedOut (k .answer) (c .before .before .before .enum-told .given .1)) in
+    let h = accepted-head fourRules _ _ (a .end) _ (head-read (read-at at)) (s .0) (s .1) in
+    let head = head-at (read-at at) .read-checked-head .result in
+    record {
+      answer = ap (λ (y : Accepted). record {
+        sourceSet = head .«source_set»;
+        compilerContract = head .«compiler_contract»;
+        cursor = a .end;
+        outcome = ok y;
       })
-          (c .accept .ensures) ∙ answered-with _ (s .0) _ (a2 .cursor) (a2 .end) (s .1) (a .0) (a .1),
-      (k .1 .0 (a2 .end), (k .1 .1 .0 (a2 .end), k .1 .1 .1 (a2 .end))),
-    )
+          (c .accept .ensures) ∙ answered-with x (s .0) _ (a .cursor) (a .end) (s .1) (h .0) (h .1);
+      tables = k .tables;
+    }
 
 pub decode-payload-spec : {M : Type 1} → statement M
 decode-payload-spec =
@@ -106,12 +99,18 @@ decode-payload-spec =
     (λ c κs. search needs)
     (λ c. search needs)
     (λ c κs. search needs)
+    (λ c κs. search needs)
+    (λ c κs. search needs)
+    (λ c κs. search needs)
     (λ c. search needs)
     check-tables-requires
     (λ c. search needs)
     (λ c κs. search needs)
     (λ c. search needs)
     (λ c κs. search needs)
+    (λ c. search needs)
+    (λ c. search needs)
+    (λ c. search needs)
     returns
     (λ c. search needs)
     (λ c. search needs)

@@ -1,126 +1,71 @@
--- Each return is the definition with what its fields were found to be.
+-- Each field is a step of the definition, and each return what is left of it there.
+use mathlib.Core.Path.{refl, sym, _∙_}
 use borrow.Author.Needs.{needs}
-use Rattle.evr0_section.specs.Head.{countsAt}
+use Rattle.local_format.specs.Out.{Out}
+use Rattle.local_format.specs.Maps.{u32Out}
+use Rattle.local_format.specs.declared.field.U32.{U32}
+use Rattle.evr0_section.specs.Head.{Counted, countsAt}
+use Rattle.evr0_fields.proofs.Steps.{Step, told, reads-field, then-field}
 use Rattle.evr0_head.proofs.counts.read_counts.Statement.{statement}
 use Rattle.evr0_head.proofs.counts.read_counts.Tie as tie
 
+abbrev propositions : tie.After-read-u32-le → Step U32 (Out Counted)
+unfolding countsAt
+propositions c =
+    let a = c .before .before .args in
+    let r = c .read-u32-le in
+    reads-field (countsAt (a .payload .now) (a .at)) u32Out (r .result) _ _ (r .ensures) refl
+
+abbrev proofs : tie.After-read-u32-le2 → Step U32 (Out Counted)
+unfolding countsAt
+proofs c =
+    let k = c .before .before in
+    let r = c .read-u32-le2 in
+    then-field (propositions (k .before .before)) (k .first .given .1) u32Out (r .result) _ _ (r .ensures) refl
+
+abbrev witnesses : tie.After-read-u32-le3 → Step U32 (Out Counted)
+unfolding countsAt
+witnesses c =
+    let k = c .before .before in
+    let r = c .read-u32-le3 in
+    then-field (proofs (k .before .before)) (k .second .given .1) u32Out (r .result) _ _ (r .ensures) refl
+
+abbrev parents : tie.After-read-u32-le4 → Step U32 (Out Counted)
+unfolding countsAt
+parents c =
+    let k = c .before .before in
+    let r = c .read-u32-le4 in
+    then-field (witnesses (k .before .before)) (k .third .given .1) u32Out (r .result) _ _ (r .ensures) refl
+
 returns : tie.Need-returns
 unfolding countsAt
-returns c =
-    let p3 = c .before .before .before in
-    rw (
-      c .cut .ensures,
-      ← p3 .read-u32-le .ensures,
-      c .before .enum-told .given .1,
-    )
+returns c = c .cut .ensures ∙ sym (told (propositions (c .before .before .before)) (c .before .enum-told .given .1))
 
 returns-2 : tie.Need-returns-2
 unfolding countsAt
-returns-2 c =
-    let p3 = c .before .before .before in
-    let p5 = p3 .before .before in
-    let p7 = p5 .before .before in
-    rw (
-      c .cut2 .ensures,
-      ← p7 .read-u32-le .ensures,
-      p5 .first .given .1,
-      ← p3 .read-u32-le2 .ensures,
-      c .before .enum-told2 .given .1,
-    )
+returns-2 c = c .cut2 .ensures ∙ sym (told (proofs (c .before .before .before)) (c .before .enum-told2 .given .1))
 
 returns-3 : tie.Need-returns-3
 unfolding countsAt
-returns-3 c =
-    let p3 = c .before .before .before in
-    let p5 = p3 .before .before in
-    let p7 = p5 .before .before in
-    let p9 = p7 .before .before in
-    let p11 = p9 .before .before in
-    rw (
-      c .cut3 .ensures,
-      ← p11 .read-u32-le .ensures,
-      p9 .first .given .1,
-      ← p7 .read-u32-le2 .ensures,
-      p5 .second .given .1,
-      ← p3 .read-u32-le3 .ensures,
-      c .before .enum-told3 .given .1,
-    )
+returns-3 c = c .cut3 .ensures ∙ sym (told (witnesses (c .before .before .before)) (c .before .enum-told3 .given .1))
 
 returns-4 : tie.Need-returns-4
 unfolding countsAt
-returns-4 c =
-    let p3 = c .before .before .before in
-    let p5 = p3 .before .before in
-    let p7 = p5 .before .before in
-    let p9 = p7 .before .before in
-    let p11 = p9 .before .before in
-    let p13 = p11 .before .before in
-    let p15 = p13 .before .before in
-    rw (
-      c .cut4 .ensures,
-      ← p15 .read-u32-le .ensures,
-      p13 .first .given .1,
-      ← p11 .read-u32-le2 .ensures,
-      p9 .second .given .1,
-      ← p7 .read-u32-le3 .ensures,
-      p5 .third .given .1,
-      ← p3 .read-u32-le4 .ensures,
-      c .before .enum-told4 .given .1,
-    )
+returns-4 c = c .cut4 .ensures ∙ sym (told (parents (c .before .before .before)) (c .before .enum-told4 .given .1))
 
 returns-5 : tie.Need-returns-5
 unfolding countsAt
 returns-5 c =
-    let p3 = c .before .before .before in
-    let p5 = p3 .before .before in
-    let p7 = p5 .before .before in
-    let p9 = p7 .before .before in
-    let p11 = p9 .before .before in
-    let p13 = p11 .before .before in
-    let p15 = p13 .before .before in
-    let p17 = p15 .before .before in
-    let p19 = p17 .before .before in
-    rw (
-      c .wide4 .ensures,
-      c .before .wide3 .ensures,
-      c .before .before .wide2 .ensures,
-      p3 .wide .ensures,
-      ← p19 .read-u32-le .ensures,
-      p17 .first .given .1,
-      ← p15 .read-u32-le2 .ensures,
-      p13 .second .given .1,
-      ← p11 .read-u32-le3 .ensures,
-      p9 .third .given .1,
-      ← p7 .read-u32-le4 .ensures,
-      p5 .fourth .given .1,
-    )
+    let w = c .before .before .before in
+    let k = w .before .before in
+    rw (c .wide4 .ensures, c .before .wide3 .ensures, c .before .before .wide2 .ensures, w .wide .ensures)
+    (sym (told (parents (k .before .before)) (k .fourth .given .1)))
 
 pub read-counts-spec : {M : Type 1} → statement M
 read-counts-spec =
     tie.close
-    (tie.spec
-    (λ c κs. search needs)
-    (λ c. search needs)
-    (λ c. search needs)
-    (λ c κs. search needs)
-    returns
-    (λ c κs. search needs)
-    (λ c. search needs)
-    (λ c. search needs)
-    (λ c κs. search needs)
-    returns-2
-    (λ c κs. search needs)
-    (λ c. search needs)
-    (λ c. search needs)
-    (λ c κs. search needs)
-    returns-3
-    (λ c κs. search needs)
-    (λ c. search needs)
-    (λ c. search needs)
-    (λ c κs. search needs)
-    returns-4
-    (λ c κs. search needs)
-    (λ c κs. search needs)
-    (λ c κs. search needs)
-    (λ c κs. search needs)
-    returns-5)
+    (tie.spec (λ c κs. search needs) (λ c. search needs) (λ c. search needs) (λ c κs. search needs) returns
+    (λ c κs. search needs) (λ c. search needs) (λ c. search needs) (λ c κs. search needs) returns-2 (λ c κs. search needs)
+    (λ c. search needs) (λ c. search needs) (λ c κs. search needs) returns-3 (λ c κs. search needs) (λ c. search needs)
+    (λ c. search needs) (λ c κs. search needs) returns-4 (λ c κs. search needs) (λ c κs. search needs)
+    (λ c κs. search needs) (λ c κs. search needs) returns-5)

@@ -2,7 +2,8 @@
 use mathlib.Core.Path.{sym, ap, _∙_}
 use borrow.Author.Needs.{needs}
 use Rattle.evr0_head.proofs.HeadLaws.{limited}
-use Rattle.evr0_head.specs.Maps.{countsOut, checkedOut}
+use Rattle.evr0_fields.specs.Maps.{checkedOut}
+use Rattle.evr0_head.specs.Maps.{countsOut}
 use Rattle.evr0_section.specs.Head.{checkCounts}
 use Rattle.evr0_head.proofs.head.check_counts.Statement.{statement}
 use Rattle.evr0_head.proofs.head.check_counts.Tie as tie
@@ -21,10 +22,5 @@ returns c = λ source contract. rw (← c .before .before .before .within-limits
 pub check-counts-spec : {M : Type 1} → statement M
 check-counts-spec =
     tie.close
-    (tie.spec
-    (λ c κs. search needs)
-    (λ c. search needs)
-    (λ c. search needs)
-    check-sizes-requires
-    returns
+    (tie.spec (λ c κs. search needs) (λ c. search needs) (λ c. search needs) check-sizes-requires returns
     (λ c. search needs))

@@ -1,125 +1,77 @@
--- Counts within their limits pass 12; the other tests are the definition's, in its order.
+-- Counts within their limits pass 12; each of the other tests is a step of the definition.
+use Prim.Native.Nat.{ℕ, _+_, _-_}
+use mathlib.Core.Path.{refl, ap, sym, _∙_}
+use mathlib.Core.Bool.{Bool}
+use mathlib.Core.List.{List}
+use lib.Dec.{leb}
+use lib.ListN.{length}
 use borrow.Author.Tests.{lt-leb, le-leb}
 use borrow.Author.Needs.{needs}
-use Rattle.evr0_head.proofs.HeadLaws.{within}
-use Rattle.evr0_head.specs.Maps.{countsOut}
+use Rattle.local_format.specs.Out.{Out}
 use Rattle.evr0_section.specs.Head.{checkCounts}
+use Rattle.evr0_fields.proofs.Steps.{Step, told, tests, then-tests, goes-on}
+use Rattle.evr0_head.specs.Maps.{countsOut, roomOut, headRecord}
+use Rattle.evr0_head.proofs.HeadLaws.{within}
 use Rattle.evr0_head.proofs.head.check_sizes.Statement.{statement}
 use Rattle.evr0_head.proofs.head.check_sizes.Tie as tie
 
+module _ (source contract : List ℕ) where
+  abbrev least : tie.After-table-sizes → Step Bool (Out (Unit {0}))
+  unfolding checkCounts
+  least c =
+      let s = c .before .before .before in
+      let h = s .args .head in
+      let p = s .args .payload .now in
+      let r = c .table-sizes in
+      tests (checkCounts (roomOut (s .args .room)) p (headRecord source contract h)) (leb (r .result) (length p - h .next)) _ _ _
+      (ap (λ n. leb n (length p - h .next)) (r .ensures .0))
+      (goes-on _ (within (countsOut (h .counts)) (h .«counts_at») (s .pre .0)))
+
+  abbrev held : tie.After-table-sizes2 → Step Bool (Out (Unit {0}))
+  unfolding checkCounts
+  held c =
+      let t = c .before .before in
+      let n = length (t .before .before .before .args .payload .now) in
+      let r = c .table-sizes2 in
+      then-tests (least t) (le-leb _ _ (c .before .if1 .left)) (leb (n + r .result) 16777216) _ _ _ (ap (λ k. leb (n + k) 16777216) (r .ensures .0)) refl
+
+  abbrev work : tie.After-table-sizes3 → Step Bool (Out (Unit {0}))
+  unfolding checkCounts
+  work c =
+      let t = c .before .before in
+      let n = length (t .before .before .before .before .before .args .payload .now) in
+      let r = c .table-sizes3 in
+      then-tests (held t) (le-leb _ _ (c .before .if2 .left)) (leb (n + r .result) 8388608) _ _ _ (ap (λ k. leb (n + k) 8388608) (r .ensures .0)) refl
+
 returns : tie.Need-returns
 unfolding checkCounts
-returns c =
-    λ source contract.
-    let t = c .before .before in
-    let s = t .before .before .before in
-    let a = s .args in
-    rw (
-      c .refused .ensures,
-      within (countsOut (a .head .counts)) (a .head .«counts_at») (s .pre .0),
-      ← t .table-sizes .ensures .0,
-      lt-leb _ _
-          (c .before .if1 .taken),
-    )
+returns c = λ source contract. c .refused .ensures ∙ sym (told (least source contract (c .before .before)) (lt-leb _ _ (c .before .if1 .taken)))
 
 returns-2 : tie.Need-returns-2
 unfolding checkCounts
-returns-2 c =
-    λ source contract.
-    let u = c .before .before in
-    let t = u .before .before in
-    let s = t .before .before .before in
-    let a = s .args in
-    rw (
-      c .refused2 .ensures,
-      within (countsOut (a .head .counts)) (a .head .«counts_at») (s .pre .0),
-      ← t .table-sizes .ensures .0,
-      le-leb _ _ (u .before .if1 .left),
-      ← u .table-sizes2 .ensures .0,
-      lt-leb _ _ (c .before .if2 .taken),
-    )
+returns-2 c = λ source contract. c .refused2 .ensures ∙ sym (told (held source contract (c .before .before)) (lt-leb _ _ (c .before .if2 .taken)))
 
 returns-3 : tie.Need-returns-3
 unfolding checkCounts
-returns-3 c =
-    λ source contract.
-    let v = c .before .before in
-    let u = v .before .before in
-    let t = u .before .before in
-    let s = t .before .before .before in
-    let a = s .args in
-    rw (
-      c .refused3 .ensures,
-      within (countsOut (a .head .counts)) (a .head .«counts_at») (s .pre .0),
-      ← t .table-sizes .ensures .0,
-      le-leb _ _ (u .before .if1 .left),
-      ← u .table-sizes2 .ensures .0,
-      le-leb _ _ (v .before .if2 .left),
-      ← v .table-sizes3 .ensures .0,
-      lt-leb _ _ (c .before .if3 .taken),
-    )
+returns-3 c = λ source contract. c .refused3 .ensures ∙ sym (told (work source contract (c .before .before)) (lt-leb _ _ (c .before .if3 .taken)))
 
 returns-4 : tie.Need-returns-4
 unfolding checkCounts
 returns-4 c =
+    let r = c .before in
     λ source contract.
-    let v = c .before .before .before in
-    let u = v .before .before in
-    let t = u .before .before in
-    let s = t .before .before .before in
-    let a = s .args in
-    rw (
-      within (countsOut (a .head .counts)) (a .head .«counts_at») (s .pre .0),
-      ← t .table-sizes .ensures .0,
-      le-leb _ _ (u .before .if1 .left),
-      ← u .table-sizes2 .ensures .0,
-      le-leb _ _ (v .before .if2 .left),
-      ← v .table-sizes3 .ensures .0,
-      le-leb _ _ (c .before .before .if3 .left),
-      ← c .before .has-room .ensures,
-      c .if4 .taken,
-    )
+    rw (told (work source contract (r .before .before)) (le-leb _ _ (r .before .if3 .left)), ← r .has-room .ensures, c .if4 .taken)
 
 returns-5 : tie.Need-returns-5
 unfolding checkCounts
 returns-5 c =
-    let stage = c .before .before .before .before in
+    let r = c .before .before in
     λ source contract.
-    let v = stage in
-    let u = v .before .before in
-    let t = u .before .before in
-    let s = t .before .before .before in
-    let a = s .args in
-    rw (
-      c .refused4 .ensures,
-      within (countsOut (a .head .counts)) (a .head .«counts_at») (s .pre .0),
-      ← t .table-sizes .ensures .0,
-      le-leb _ _ (u .before .if1 .left),
-      ← u .table-sizes2 .ensures .0,
-      le-leb _ _ (v .before .if2 .left),
-      ← v .table-sizes3 .ensures .0,
-      le-leb _ _ (c .before .before .before .if3 .left),
-      ← c .before .before .has-room .ensures,
-      c .before .if4 .left,
-    )
+    rw (c .refused4 .ensures, told (work source contract (r .before .before)) (le-leb _ _ (r .before .if3 .left)), ← r .has-room .ensures, c .before .if4 .left)
 
 pub check-sizes-spec : {M : Type 1} → statement M
 check-sizes-spec =
     tie.close
-    (tie.spec
-    (λ c. search needs)
-    (λ c κs. search needs)
-    (λ c κs. search needs)
-    returns
-    (λ c κs. search needs)
-    (λ c. search needs)
-    (λ c κs. search needs)
-    returns-2
-    (λ c κs. search needs)
-    (λ c. search needs)
-    (λ c κs. search needs)
-    returns-3
-    (λ c κs. search needs)
-    (λ c κs. search needs)
-    returns-4
-    returns-5)
+    (tie.spec (λ c. search needs) (λ c κs. search needs) (λ c κs. search needs) returns (λ c κs. search needs) (λ c. search needs)
+    (λ c κs. search needs) returns-2 (λ c κs. search needs) (λ c. search needs) (λ c κs. search needs) returns-3 (λ c κs. search needs)
+    (λ c κs. search needs) returns-4 returns-5)

@@ -50,14 +50,5 @@ returns-3 c =
 pub read-checked-head-spec : {M : Type 1} → statement M
 read-checked-head-spec =
     tie.close
-    (tie.spec
-    (λ c κs. search needs)
-    (λ c. search needs)
-    (λ c. search needs)
-    returns
-    check-counts-requires
-    (λ c. search needs)
-    (λ c κs. search needs)
-    (λ c. search needs)
-    returns-2
-    returns-3)
+    (tie.spec (λ c κs. search needs) (λ c. search needs) (λ c. search needs) returns check-counts-requires
+    (λ c. search needs) (λ c κs. search needs) (λ c. search needs) returns-2 returns-3)

@@ -1,42 +1,30 @@
--- Meets its contract: the record with the number, and the lent tables after that answer.
+-- The record at the place that was found is the one with the number; a refusal is handed on.
 use borrow.Author.Needs.{needs}
-use mathlib.Core.Path.{refl, ap, _∙_}
-use Rattle.local_format.specs.Number.{numbered}
-use Rattle.evr0_read.specs.Ask.{propositionNumber}
-use Rattle.evr0_read.specs.Asked.{decodeAnew, isRefused}
-use Rattle.evr0_read.specs.Entry.{shown, shownProposition}
-use Rattle.evr0_read.proofs.AskLaws.{lent-settled}
+use mathlib.Core.Path.{ap}
+use Rattle.evr0_read.specs.Maps.{foundOut}
+use Rattle.evr0_read.proofs.TableLaws.{proposition-read}
+use Rattle.evr0_read.proofs.AskLaws.{handed, read-there}
 use Rattle.evr0_read.proofs.ask.proposition_number.Statement.{statement}
 use Rattle.evr0_read.proofs.ask.proposition_number.Tie as tie
 
+abbrev found : tie.After-slice-known6 → tie.After-find
+found c = c .before .before .before .before .before .before
+
 returns : tie.Need-returns
-unfolding propositionNumber
 returns c =
-    let stage = c .before .before .before .before .before .before in
-    let w = stage in
-    let no = w .before .before .before .before in
-    let of = no .before in
-    let dec = of .before .before .before .before .before .before .before .before in
-    let d = dec .decode-evr0-section in
-    let a = dec .before .before .before .before .before .before .before .before .args in
-    let x = decodeAnew (a .bytes .now) (a .cursor) (a .propositions .now) (a .proofs .now) (a .depths .now) in
-    let value = of .proposition-of .ensures x _ (record { room = _; is = refl; answered = d .ensures .0 }) (d .ensures .1 .0) in (
-      value,
-      lent-settled (shown shownProposition) (λ y. numbered (a .number .0) (y .tables .propositions .entries)) x _ _ _
-          (no .no-proposition .ensures ∙ ap isRefused value)
-          (d .ensures .1 .0) (d .ensures .1 .1 .0) (d .ensures .1 .1 .1 .0) (d .kept .1 .1 .0) (d .kept .1 .1 .1 .0) (d .kept .1 .1 .1 .1 .0)
-          (w .settle .ensures .0) (w .settle .ensures .1 .0) (w .settle .ensures .1 .1),
-    )
+    let p = c .before in
+    let f = p .before .before in
+    read-there _ _ (found (f .before .before) .find .ensures) _ _ _ (λ r. r)
+    (proposition-read _ _ _) (ap foundOut (f .found .given .1)) (p .payload-of .ensures) (c .proposition-at .ensures)
+
+returns-2 : tie.Need-returns-2
+returns-2 c =
+    let f = c .before in
+    handed (found (f .before .before) .find .ensures) _ (λ r. r) (ap foundOut (f .found2 .given .1))
 
 pub proposition-number-spec : {M : Type 1} → statement M
 proposition-number-spec =
     tie.close
-    (tie.spec
-    (λ c κs. search needs)
-    (λ c κs. search needs)
-    (λ c κs. search needs)
-    (λ c κs. search needs)
-    (λ c. search needs)
-    (λ c. search needs)
-    (λ c. search needs)
-    returns)
+    (tie.spec (λ c κs. search needs) (λ c. search needs) (λ c κs. search needs) (λ c κs. search needs) (λ c. search needs)
+    (λ c. search needs) (λ c. search needs) (λ c. search needs) returns (λ c. search needs) (λ c. search needs) (λ c. search needs)
+    returns-2)

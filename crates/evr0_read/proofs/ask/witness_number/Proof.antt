@@ -1,46 +1,31 @@
--- Meets its contract: the record with the number, and the lent tables after that answer.
+-- The record at the place that was found is the one with the number; a refusal is handed on.
 use borrow.Author.Needs.{needs}
-use mathlib.Core.Path.{refl, ap, _∙_}
-use Rattle.local_format.specs.Number.{numbered}
-use Rattle.evr0_section.specs.Rows.{Entry}
-use Rattle.evr0_section.specs.Witness.{WitnessRecord}
-use Rattle.evr0_head.specs.Maps.{Beside}
-use Rattle.evr0_read.proofs.EntryLaws.{beside-is}
-use Rattle.evr0_read.specs.Ask.{witnessNumber}
-use Rattle.evr0_read.specs.Asked.{decodeAnew, valueIn, isRefused}
-use Rattle.evr0_read.proofs.AskLaws.{lent-settled}
+use mathlib.Core.Path.{ap, _∙_}
+use Rattle.evr0_read.proofs.AskLaws.{handed, read-there}
+use Rattle.evr0_read.specs.Maps.{foundOut, witnessBeside}
+use Rattle.evr0_read.proofs.TableLaws.{witness-read}
 use Rattle.evr0_read.proofs.ask.witness_number.Statement.{statement}
 use Rattle.evr0_read.proofs.ask.witness_number.Tie as tie
 
+abbrev found : tie.After-slice-known6 → tie.After-find
+found c = c .before .before .before .before .before .before
+
 returns : tie.Need-returns
-unfolding witnessNumber
 returns c =
-    let stage = c .before .before .before .before .before .before in
-    let w = stage in
-    let no = w .before .before .before .before in
-    let of = no .before in
-    let dec = of .before .before .before .before .before .before .before in
-    let d = dec .decode-evr0-section in
-    let a = dec .before .before .before .before .before .before .before .before .args in
-    let x = decodeAnew (a .bytes .now) (a .cursor) (a .propositions .now) (a .proofs .now) (a .depths .now) in
-    let value = of .witness-of .ensures x (record { room = _; is = refl; answered = d .ensures .0 }) in (
-      value,
-      lent-settled (λ e. e) (λ y. numbered (a .number .0) (y .tables .witnesses .entries)) x _ _ _
-          (no .is-no-witness .ensures ∙ ap (λ (b : Beside (Entry WitnessRecord)). isRefused (b .answer)) value
-          ∙ ap isRefused (beside-is (valueIn (λ e. e) (witnessNumber (a .number .0) x))))
-          (d .ensures .1 .0) (d .ensures .1 .1 .0) (d .ensures .1 .1 .1 .0) (d .kept .1 .1 .0) (d .kept .1 .1 .1 .0) (d .kept .1 .1 .1 .1 .0)
-          (w .settle .ensures .0) (w .settle .ensures .1 .0) (w .settle .ensures .1 .1),
-    )
+    let p = c .before in
+    let f = p .before .before in
+    read-there _ _ (found (f .before .before) .find .ensures) _ _ _ witnessBeside
+    (witness-read _ _ _) (ap foundOut (f .found .given .1)) (p .payload-of .ensures) (c .witness-at .ensures)
+
+returns-2 : tie.Need-returns-2
+returns-2 c =
+    let f = c .before .before in
+    let h = handed (found (f .before .before) .find .ensures) _ witnessBeside (ap foundOut (f .found2 .given .1)) in
+    record { answer = c .no-witness .ensures ∙ h .answer; tables = h .tables }
 
 pub witness-number-spec : {M : Type 1} → statement M
 witness-number-spec =
     tie.close
-    (tie.spec
-    (λ c κs. search needs)
-    (λ c κs. search needs)
-    (λ c κs. search needs)
-    (λ c κs. search needs)
-    (λ c. search needs)
-    (λ c. search needs)
-    (λ c. search needs)
-    returns)
+    (tie.spec (λ c κs. search needs) (λ c. search needs) (λ c κs. search needs) (λ c κs. search needs) (λ c. search needs)
+    (λ c κs. search needs) (λ c. search needs) (λ c. search needs) (λ c. search needs) returns (λ c. search needs) (λ c. search needs)
+    (λ c. search needs) returns-2)

@@ -7,7 +7,7 @@ use lib.ListN.{drop}
 use Rattle.local_format.proofs.OutLaws.{told}
 use Rattle.evr0_section.specs.Rows.{Sized}
 use Rattle.evr0_section.specs.Witness.{WitnessRecord, witnessOf}
-use Rattle.evr0_head.specs.Maps.{Beside}
+use Rattle.evr0_fields.specs.Maps.{Beside}
 use Rattle.evr0_records.specs.Maps.{witnessIn, witnessOut}
 use Rattle.evr0_records.specs.Maps as records
 use Rattle.evr0_read.specs.Entry.{placedWitness}

@@ -79,17 +79,5 @@ returns-5 c =
 pub compare-bytes-spec : {M : Type 1} → statement M
 compare-bytes-spec =
     tie.close
-    (tie.spec
-    Inv-loop
-    μ-loop
-    loop-holds
-    returns
-    (λ c. search needs)
-    (λ c. search needs)
-    returns-2
-    returns-3
-    (λ c. search needs)
-    (λ c. search needs)
-    loop-again
-    returns-4
-    returns-5)
+    (tie.spec Inv-loop μ-loop loop-holds returns (λ c. search needs) (λ c. search needs) returns-2 returns-3
+    (λ c. search needs) (λ c. search needs) loop-again returns-4 returns-5)

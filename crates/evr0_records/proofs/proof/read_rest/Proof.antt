@@ -1,234 +1,98 @@
--- Each return is the definition with what its fields were found to be.
-use mathlib.Core.Path.{sym, _∙_}
+-- Each field is a step of the definition, and each return what is left of it there.
+use mathlib.Core.Path.{refl, sym, _∙_}
 use borrow.Author.Needs.{needs}
-use Rattle.local_format.specs.Maps.{u8Out}
+use Rattle.local_format.specs.Out.{Out}
+use Rattle.local_format.specs.Maps.{u8Out, u32Out}
+use Rattle.local_format.specs.declared.field.U8.{U8}
+use Rattle.local_format.specs.declared.field.U32.{U32}
 use Rattle.local_format.proofs.FieldLaws.{field-told, field-ok, le-1}
+use Rattle.evr0_section.specs.Rows.{Sized}
+use Rattle.evr0_section.specs.Proof.{ProofRecord}
+use Rattle.evr0_fields.specs.Maps.{placeOut, spanOut}
+use Rattle.evr0_fields.specs.declared.place.Place.{Place}
+use Rattle.evr0_fields.proofs.Steps.{Step, told, reads-field, then, then-field, handed}
+use Rattle.evr0_records.specs.Checks.{restOf}
 use Rattle.evr0_records.proofs.proof.read_rest.Statement.{statement}
 use Rattle.evr0_records.proofs.proof.read_rest.Tie as tie
 
-returns : tie.Need-returns
-returns c =
-    let p3 = c .before .before .before in
-    rw (
-      c .cut .ensures,
-      ← p3 .read-u32-le .ensures,
-      c .before .enum-told .given .1,
-    )
+abbrev authority : tie.After-read-u32-le → Step U32 (Out (Sized ProofRecord))
+authority c =
+    let a = c .before .before .args in
+    let r = c .read-u32-le in
+    reads-field (restOf (a .tail .now) (a .proof-id .0) (a .proposition-index .0) (spanOut (a .rule-id))) u32Out (r .result) _ _ (r .ensures) refl
 
-returns-2 : tie.Need-returns-2
-returns-2 c =
-    let p3 = c .before .before .before in
-    let p5 = p3 .before .before in
-    let p7 = p5 .before .before in
-    rw (
-      c .cut2 .ensures,
-      ← p7 .read-u32-le .ensures,
-      p5 .authority .given .1,
-      ← p3 .read-u32-le2 .ensures,
-      c .before .enum-told2 .given .1,
-    )
+abbrev first-witness : tie.After-read-u32-le2 → Step U32 (Out (Sized ProofRecord))
+first-witness c =
+    let k = c .before .before in
+    let r = c .read-u32-le2 in
+    then-field (authority (k .before .before)) (k .authority .given .1) u32Out (r .result) _ _ (r .ensures) refl
 
-returns-3 : tie.Need-returns-3
-returns-3 c =
-    let p3 = c .before .before .before in
-    let p5 = p3 .before .before in
-    let p7 = p5 .before .before in
-    let p9 = p7 .before .before in
-    let p11 = p9 .before .before in
-    rw (
-      c .cut3 .ensures,
-      ← p11 .read-u32-le .ensures,
-      p9 .authority .given .1,
-      ← p7 .read-u32-le2 .ensures,
-      p5 .first-witness .given .1,
-      ← p3 .read-u32-le3 .ensures,
-      c .before .enum-told3 .given .1,
-    )
+abbrev witness-count : tie.After-read-u32-le3 → Step U32 (Out (Sized ProofRecord))
+witness-count c =
+    let k = c .before .before in
+    let r = c .read-u32-le3 in
+    then-field (first-witness (k .before .before)) (k .first-witness .given .1) u32Out (r .result) _ _ (r .ensures) refl
 
-returns-4 : tie.Need-returns-4
-returns-4 c =
-    let p3 = c .before .before .before in
-    let p5 = p3 .before .before in
-    let p7 = p5 .before .before in
-    let p9 = p7 .before .before in
-    let p11 = p9 .before .before in
-    let p13 = p11 .before .before in
-    let p15 = p13 .before .before in
-    rw (
-      c .cut4 .ensures,
-      ← p15 .read-u32-le .ensures,
-      p13 .authority .given .1,
-      ← p11 .read-u32-le2 .ensures,
-      p9 .first-witness .given .1,
-      ← p7 .read-u32-le3 .ensures,
-      p5 .witnesses .given .1,
-      ← p3 .read-u32-le4 .ensures,
-      c .before .enum-told4 .given .1,
-    )
+abbrev first-parent : tie.After-read-u32-le4 → Step U32 (Out (Sized ProofRecord))
+first-parent c =
+    let k = c .before .before in
+    let r = c .read-u32-le4 in
+    then-field (witness-count (k .before .before)) (k .witnesses .given .1) u32Out (r .result) _ _ (r .ensures) refl
 
-returns-5 : tie.Need-returns-5
-returns-5 c =
-    let p3 = c .before .before .before in
-    let p5 = p3 .before .before in
-    let p7 = p5 .before .before in
-    let p9 = p7 .before .before in
-    let p11 = p9 .before .before in
-    let p13 = p11 .before .before in
-    let p15 = p13 .before .before in
-    let p17 = p15 .before .before in
-    let p19 = p17 .before .before in
-    rw (
-      c .cut5 .ensures,
-      ← p19 .read-u32-le .ensures,
-      p17 .authority .given .1,
-      ← p15 .read-u32-le2 .ensures,
-      p13 .first-witness .given .1,
-      ← p11 .read-u32-le3 .ensures,
-      p9 .witnesses .given .1,
-      ← p7 .read-u32-le4 .ensures,
-      p5 .first-parent .given .1,
-      ← p3 .read-u32-le5 .ensures,
-      c .before .enum-told5 .given .1,
-    )
+abbrev parent-count : tie.After-read-u32-le5 → Step U32 (Out (Sized ProofRecord))
+parent-count c =
+    let k = c .before .before in
+    let r = c .read-u32-le5 in
+    then-field (first-parent (k .before .before)) (k .first-parent .given .1) u32Out (r .result) _ _ (r .ensures) refl
 
-returns-6 : tie.Need-returns-6
-returns-6 c =
-    let p3 = c .before .before .before in
-    let p5 = p3 .before .before in
-    let p7 = p5 .before .before in
-    let p9 = p7 .before .before in
-    let p11 = p9 .before .before in
-    let p13 = p11 .before .before in
-    let p15 = p13 .before .before in
-    let p17 = p15 .before .before in
-    let p19 = p17 .before .before in
-    let p21 = p19 .before .before in
-    let p23 = p21 .before .before in
-    rw (
-      c .cut6 .ensures,
-      ← p23 .read-u32-le .ensures,
-      p21 .authority .given .1,
-      ← p19 .read-u32-le2 .ensures,
-      p17 .first-witness .given .1,
-      ← p15 .read-u32-le3 .ensures,
-      p13 .witnesses .given .1,
-      ← p11 .read-u32-le4 .ensures,
-      p9 .first-parent .given .1,
-      ← p7 .read-u32-le5 .ensures,
-      p5 .parents .given .1,
-      ← p3 .read-u8 .ensures,
-      c .before .enum-told6 .given .1,
-    )
+abbrev operation : tie.After-read-u8 → Step U8 (Out (Sized ProofRecord))
+operation c =
+    let k = c .before .before in
+    let r = c .read-u8 in
+    then-field (parent-count (k .before .before)) (k .parents .given .1) u8Out (r .result) _ _ (r .ensures) refl
+
+abbrev zeros : tie.After-zeros-after → Step Place (Out (Sized ProofRecord))
+zeros c =
+    let k = c .before .before in
+    let r = c .zeros-after in
+    then (operation (k .before .before)) (k .operation .given .1) placeOut (r .result) _ (r .ensures) refl
 
 zeros-after-requires : tie.Need-zeros-after-requires
 zeros-after-requires c κs =
-    let o = c .before in
-    let t = o .before .before in
-    let x = field-ok 5 1 _ _ (field-told u8Out 5 _ (t .read-u8 .ensures) (o .operation .given .1)) in
+    let k = c .before in
+    let x = field-ok 5 1 _ _ (field-told u8Out 5 _ (k .before .before .read-u8 .ensures) (k .operation .given .1)) in
     (x .2 ∙ sym (le-1 _ _), x .0, x .1)
 
+returns : tie.Need-returns
+returns c = c .cut .ensures ∙ sym (told (authority (c .before .before .before)) (c .before .enum-told .given .1))
+
+returns-2 : tie.Need-returns-2
+returns-2 c = c .cut2 .ensures ∙ sym (told (first-witness (c .before .before .before)) (c .before .enum-told2 .given .1))
+
+returns-3 : tie.Need-returns-3
+returns-3 c = c .cut3 .ensures ∙ sym (told (witness-count (c .before .before .before)) (c .before .enum-told3 .given .1))
+
+returns-4 : tie.Need-returns-4
+returns-4 c = c .cut4 .ensures ∙ sym (told (first-parent (c .before .before .before)) (c .before .enum-told4 .given .1))
+
+returns-5 : tie.Need-returns-5
+returns-5 c = c .cut5 .ensures ∙ sym (told (parent-count (c .before .before .before)) (c .before .enum-told5 .given .1))
+
+returns-6 : tie.Need-returns-6
+returns-6 c = c .cut6 .ensures ∙ sym (told (operation (c .before .before .before)) (c .before .enum-told6 .given .1))
+
 returns-7 : tie.Need-returns-7
-returns-7 c =
-    let p3 = c .before .before .before in
-    let p5 = p3 .before .before in
-    let p7 = p5 .before .before in
-    let p9 = p7 .before .before in
-    let p11 = p9 .before .before in
-    let p13 = p11 .before .before in
-    let p15 = p13 .before .before in
-    let p17 = p15 .before .before in
-    let p19 = p17 .before .before in
-    let p21 = p19 .before .before in
-    let p23 = p21 .before .before in
-    let p25 = p23 .before .before in
-    let p27 = p25 .before .before in
-    rw (
-      c .place-refusal .ensures,
-      ← p27 .read-u32-le .ensures,
-      p25 .authority .given .1,
-      ← p23 .read-u32-le2 .ensures,
-      p21 .first-witness .given .1,
-      ← p19 .read-u32-le3 .ensures,
-      p17 .witnesses .given .1,
-      ← p15 .read-u32-le4 .ensures,
-      p13 .first-parent .given .1,
-      ← p11 .read-u32-le5 .ensures,
-      p9 .parents .given .1,
-      ← p7 .read-u8 .ensures,
-      p5 .operation .given .1,
-      ← p3 .zeros-after .ensures,
-      c .before .enum-told7 .given .1,
-    )
+returns-7 c = handed (zeros (c .before .before .before)) (c .before .enum-told7 .given .1) placeOut (c .place-refusal .ensures) refl
 
 returns-8 : tie.Need-returns-8
-returns-8 c =
-    let p3 = c .before .before .before in
-    let p5 = p3 .before .before in
-    let p7 = p5 .before .before in
-    let p9 = p7 .before .before in
-    let p11 = p9 .before .before in
-    let p13 = p11 .before .before in
-    let p15 = p13 .before .before in
-    let p17 = p15 .before .before in
-    let p19 = p17 .before .before in
-    let p21 = p19 .before .before in
-    let p23 = p21 .before .before in
-    let p25 = p23 .before .before in
-    let p27 = p25 .before .before in
-    rw (
-      ← p27 .read-u32-le .ensures,
-      p25 .authority .given .1,
-      ← p23 .read-u32-le2 .ensures,
-      p21 .first-witness .given .1,
-      ← p19 .read-u32-le3 .ensures,
-      p17 .witnesses .given .1,
-      ← p15 .read-u32-le4 .ensures,
-      p13 .first-parent .given .1,
-      ← p11 .read-u32-le5 .ensures,
-      p9 .parents .given .1,
-      ← p7 .read-u8 .ensures,
-      p5 .operation .given .1,
-      ← p3 .zeros-after .ensures,
-      c .before .zeros .given .1,
-    )
+returns-8 c = let k = c .before in sym (told (zeros (k .before .before)) (k .zeros .given .1))
 
 pub read-rest-spec : {M : Type 1} → statement M
 read-rest-spec =
     tie.close
-    (tie.spec
-    (λ c κs. search needs)
-    (λ c. search needs)
-    (λ c. search needs)
-    (λ c κs. search needs)
-    returns
-    (λ c κs. search needs)
-    (λ c. search needs)
-    (λ c. search needs)
-    (λ c κs. search needs)
-    returns-2
-    (λ c κs. search needs)
-    (λ c. search needs)
-    (λ c. search needs)
-    (λ c κs. search needs)
-    returns-3
-    (λ c κs. search needs)
-    (λ c. search needs)
-    (λ c. search needs)
-    (λ c κs. search needs)
-    returns-4
-    (λ c κs. search needs)
-    (λ c. search needs)
-    (λ c. search needs)
-    (λ c κs. search needs)
-    returns-5
-    (λ c κs. search needs)
-    (λ c. search needs)
-    (λ c. search needs)
-    (λ c κs. search needs)
-    returns-6
-    zeros-after-requires
-    (λ c. search needs)
-    (λ c. search needs)
-    (λ c κs. search needs)
-    returns-7
-    returns-8)
+    (tie.spec (λ c κs. search needs) (λ c. search needs) (λ c. search needs) (λ c κs. search needs) returns
+    (λ c κs. search needs) (λ c. search needs) (λ c. search needs) (λ c κs. search needs) returns-2 (λ c κs. search needs)
+    (λ c. search needs) (λ c. search needs) (λ c κs. search needs) returns-3 (λ c κs. search needs) (λ c. search needs)
+    (λ c. search needs) (λ c κs. search needs) returns-4 (λ c κs. search needs) (λ c. search needs) (λ c. search needs)
+    (λ c κs. search needs) returns-5 (λ c κs. search needs) (λ c. search needs) (λ c. search needs) (λ c κs. search needs)
+    returns-6 zeros-after-requires (λ c. search needs) (λ c. search needs) (λ c κs. search needs) returns-7 returns-8)

@@ -106,17 +106,5 @@ returns-5 c =
 pub rule-named-spec : {M : Type 1} → statement M
 rule-named-spec =
     tie.close
-    (tie.spec
-    (λ c. search needs)
-    (λ c κs. search needs)
-    returns
-    (λ c. search needs)
-    (λ c κs. search needs)
-    returns-2
-    (λ c. search needs)
-    (λ c κs. search needs)
-    returns-3
-    (λ c. search needs)
-    (λ c κs. search needs)
-    returns-4
-    returns-5)
+    (tie.spec (λ c. search needs) (λ c κs. search needs) returns (λ c. search needs) (λ c κs. search needs) returns-2
+    (λ c. search needs) (λ c κs. search needs) returns-3 (λ c. search needs) (λ c κs. search needs) returns-4 returns-5)

@@ -8,17 +8,9 @@ use Rattle.falgnust.proofs.authorised.falgnust_authorised.Tie as tie
 returns : tie.Need-returns
 returns c =
     let on = c .before .before .before .before .before .before in
-    let at-authorised = on .before in
-    let read = at-authorised .authorised .ensures in
-    (c .flat-authorised .ensures ∙ ap flatAuthorised (read .0), read .1)
+    let read = on .before .authorised .ensures in
+    record { answer = c .flat-authorised .ensures ∙ ap flatAuthorised (read .answer); tables = read .tables }
 
 pub falgnust-authorised-spec : {M : Type 1} → statement M
 falgnust-authorised-spec =
-    tie.close
-    (tie.spec
-    (λ c κs. search needs)
-    (λ c κs. search needs)
-    (λ c. search needs)
-    (λ c. search needs)
-    (λ c. search needs)
-    returns)
+    tie.close (tie.spec (λ c κs. search needs) (λ c κs. search needs) (λ c. search needs) (λ c. search needs) (λ c. search needs) returns)

@@ -8,17 +8,9 @@ use Rattle.falgnust.proofs.proof.falgnust_proof_number.Tie as tie
 returns : tie.Need-returns
 returns c =
     let on = c .before .before .before .before .before .before in
-    let at-proof-number = on .before in
-    let read = at-proof-number .proof-number .ensures in
-    (c .flat-proof .ensures ∙ ap flatProof (read .0), read .1)
+    let read = on .before .proof-number .ensures in
+    record { answer = c .flat-proof .ensures ∙ ap flatProof (read .answer); tables = read .tables }
 
 pub falgnust-proof-number-spec : {M : Type 1} → statement M
 falgnust-proof-number-spec =
-    tie.close
-    (tie.spec
-    (λ c κs. search needs)
-    (λ c κs. search needs)
-    (λ c. search needs)
-    (λ c. search needs)
-    (λ c. search needs)
-    returns)
+    tie.close (tie.spec (λ c κs. search needs) (λ c κs. search needs) (λ c. search needs) (λ c. search needs) (λ c. search needs) returns)

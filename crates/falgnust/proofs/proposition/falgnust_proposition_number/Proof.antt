@@ -8,17 +8,9 @@ use Rattle.falgnust.proofs.proposition.falgnust_proposition_number.Tie 
 returns : tie.Need-returns
 returns c =
     let on = c .before .before .before .before .before .before in
-    let at-proposition-number = on .before in
-    let read = at-proposition-number .proposition-number .ensures in
-    (c .flat-proposition .ensures ∙ ap flatProposition (read .0), read .1)
+    let read = on .before .proposition-number .ensures in
+    record { answer = c .flat-proposition .ensures ∙ ap flatProposition (read .answer); tables = read .tables }
 
 pub falgnust-proposition-number-spec : {M : Type 1} → statement M
 falgnust-proposition-number-spec =
-    tie.close
-    (tie.spec
-    (λ c κs. search needs)
-    (λ c κs. search needs)
-    (λ c. search needs)
-    (λ c. search needs)
-    (λ c. search needs)
-    returns)
+    tie.close (tie.spec (λ c κs. search needs) (λ c κs. search needs) (λ c. search needs) (λ c. search needs) (λ c. search needs) returns)

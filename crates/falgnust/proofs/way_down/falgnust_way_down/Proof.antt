@@ -8,17 +8,9 @@ use Rattle.falgnust.proofs.way_down.falgnust_way_down.Tie as tie
 returns : tie.Need-returns
 returns c =
     let on = c .before .before .before .before .before .before in
-    let at-way-down = on .before in
-    let read = at-way-down .way-down .ensures in
-    (c .flat-way-down .ensures ∙ ap flatWay (read .0), read .1)
+    let read = on .before .way-down .ensures in
+    record { answer = c .flat-way-down .ensures ∙ ap flatWay (read .answer); tables = read .tables }
 
 pub falgnust-way-down-spec : {M : Type 1} → statement M
 falgnust-way-down-spec =
-    tie.close
-    (tie.spec
-    (λ c κs. search needs)
-    (λ c κs. search needs)
-    (λ c. search needs)
-    (λ c. search needs)
-    (λ c. search needs)
-    returns)
+    tie.close (tie.spec (λ c κs. search needs) (λ c κs. search needs) (λ c. search needs) (λ c. search needs) (λ c. search needs) returns)

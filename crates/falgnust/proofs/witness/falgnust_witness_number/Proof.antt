@@ -8,17 +8,9 @@ use Rattle.falgnust.proofs.witness.falgnust_witness_number.Tie as tie
 returns : tie.Need-returns
 returns c =
     let on = c .before .before .before .before .before .before in
-    let at-witness-number = on .before in
-    let read = at-witness-number .witness-number .ensures in
-    (c .flat-witness .ensures ∙ ap flatWitness (read .0), read .1)
+    let read = on .before .witness-number .ensures in
+    record { answer = c .flat-witness .ensures ∙ ap flatWitness (read .answer); tables = read .tables }
 
 pub falgnust-witness-number-spec : {M : Type 1} → statement M
 falgnust-witness-number-spec =
-    tie.close
-    (tie.spec
-    (λ c κs. search needs)
-    (λ c κs. search needs)
-    (λ c. search needs)
-    (λ c. search needs)
-    (λ c. search needs)
-    returns)
+    tie.close (tie.spec (λ c κs. search needs) (λ c κs. search needs) (λ c. search needs) (λ c. search needs) (λ c. search needs) returns)

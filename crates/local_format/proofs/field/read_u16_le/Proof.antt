@@ -1,3 +1,4 @@
+-- A field of two bytes, by the laws over the width.
 use borrow.Author.Needs.{needs}
 use mathlib.Core.Path.{_∙_}
 use native.Mathlib.Omega.{arith}

@@ -1,3 +1,4 @@
+-- A field of one byte, by the laws over the width.
 use borrow.Author.Needs.{needs}
 use native.Mathlib.Omega.{arith}
 use Rattle.local_format.proofs.FieldLaws.{is-cut, is-whole, le-1}

@@ -1,3 +1,4 @@
+-- All that is left from `at` on, or nothing.
 use borrow.Author.Needs.{needs}
 use native.Mathlib.Omega.{arith}
 use mathlib.Core.Path.{sym}

@@ -1,3 +1,4 @@
+-- The offset alone changes.
 use borrow.Author.Needs.{needs}
 use mathlib.Core.Path.{ap}
 use Rattle.local_format.specs.Out.{atOffset}

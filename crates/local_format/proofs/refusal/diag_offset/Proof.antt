@@ -1,3 +1,4 @@
+-- The sum, or the largest number where it would pass it.
 use borrow.Author.Needs.{needs}
 use native.Mathlib.Omega.{arith}
 use Rattle.local_format.specs.Out.{held}

@@ -1,3 +1,4 @@
+-- Each number of the `match` is among the limits, and no other is.
 use mathlib.Core.Path.{_≡_, refl, ap, sym, _∙_}
 use mathlib.Core.Logic.{⊎-elim, inl, inr}
 use mathlib.Core.Bool.{true, false}

@@ -1,3 +1,4 @@
+-- The kind is that of the number.
 use borrow.Author.Needs.{needs}
 use Rattle.local_format.proofs.refusal.refuse.Statement.{statement}
 use Rattle.local_format.proofs.refusal.refuse.Tie as tie

@@ -1,3 +1,4 @@
+-- The tag is cut, or compared with as many bytes.
 use mathlib.Core.Path.{ap, _∙_}
 use Prim.Native.Nat.{ℕ}
 use native.Mathlib.Omega.{arith}

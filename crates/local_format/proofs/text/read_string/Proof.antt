@@ -1,50 +1,41 @@
-use mathlib.Core.Path.{_≡_, ap, _∙_}
+-- `read_string` refuses a cut or long length; else the answer goes by what the bytes are (`string-is`).
+use mathlib.Core.Path.{_∙_}
 use borrow.Author.Needs.{needs}
 use native.Mathlib.Omega.{arith}
-use Rattle.local_format.specs.Field.{whole, fieldAt}
-use Rattle.local_format.specs.Text.{stringAt}
-use Rattle.local_format.specs.Maps.{utf8Out}
-use Rattle.local_format.proofs.TextLaws.{stringFrom, string-no-length, string-long, string-is}
+use Rattle.local_format.proofs.TextLaws.{string-no-length, string-long, string-is}
 use Rattle.local_format.proofs.text.read_string.Statement.{statement}
 use Rattle.local_format.proofs.text.read_string.Tie as tie
-
--- the length that was read
-size : (c : tie.After-known-told)
-    → whole (record { value = c .before .size .given .0 .0; next = c .before .size .given .0 .1 .0 })
-    ≡ fieldAt 2 (c .before .before .before .before .before .args .bytes .now) (c .before .before .before .before .before .args .at)
-size c = rw (c .before .size .given .1) at (c .before .before .before .read-u16-le .ensures)
-
--- the string, from what its bytes are
-body : (c : tie.After-read-utf8)
-    → stringFrom (c .before .before .before .size .given .0 .1 .0) (c .before .before .before .size .given .0 .0) (utf8Out (c .read-utf8 .result))
-    ≡ stringAt (c .before .before .before .before .before .before .before .args .bytes .now)
-    (c .before .before .before .before .before .before .before .args .at)
-body c =
-    let on = c .before .before .before .before .before .before in
-    let start = on .before in
-    let a = start .args in
-    let g = c .before .before .before .size .given .0 in
-    ap (stringFrom _ _) (c .read-utf8 .ensures) ∙ string-is (a .bytes .now) (a .at) (g .0) (g .1 .0) (size (c .before .before)) (omega arith)
 
 returns : tie.Need-returns
 returns c = c .refused .ensures ∙ string-no-length _ _ (rw (c .before .enum-told .given .1) at (c .before .before .before .read-u16-le .ensures))
 
 returns-2 : tie.Need-returns-2
 returns-2 c =
-    let on = c .before .before .before .before .before .before in
-    let start = on .before in
-    let a = start .args in
-    let g = c .before .before .before .size .given .0 in
-    c .refused2 .ensures ∙ string-long (a .bytes .now) (a .at) (g .0) (g .1 .0) (size (c .before .before)) (omega arith)
+    let size = c .before .before .before in
+    c .refused2 .ensures ∙ string-long _ _ _ _ (rw (size .size .given .1) at (size .before .before .read-u16-le .ensures)) (omega arith)
 
 returns-3 : tie.Need-returns-3
-returns-3 c = rw (c .before .body .given .1) at (body (c .before .before .before))
+returns-3 c =
+    let utf8 = c .before .before .before in
+    let size = utf8 .before .before .before in
+    string-is _ _ _ _ (rw (size .size .given .1) at (size .before .before .read-u16-le .ensures)) (omega arith) _
+    (rw (c .before .body .given .1) at (utf8 .read-utf8 .ensures))
 
 returns-4 : tie.Need-returns-4
-returns-4 c = c .refused3 .ensures ∙ rw (c .before .enum-told2 .given .1) at (body (c .before .before .before))
+returns-4 c =
+    let utf8 = c .before .before .before in
+    let size = utf8 .before .before .before in
+    c .refused3 .ensures
+    ∙ string-is _ _ _ _ (rw (size .size .given .1) at (size .before .before .read-u16-le .ensures)) (omega arith) _
+    (rw (c .before .enum-told2 .given .1) at (utf8 .read-utf8 .ensures))
 
 returns-5 : tie.Need-returns-5
-returns-5 c = c .refused4 .ensures ∙ rw (c .before .enum-told3 .given .1) at (body (c .before .before .before))
+returns-5 c =
+    let utf8 = c .before .before .before in
+    let size = utf8 .before .before .before in
+    c .refused4 .ensures
+    ∙ string-is _ _ _ _ (rw (size .size .given .1) at (size .before .before .read-u16-le .ensures)) (omega arith) _
+    (rw (c .before .enum-told3 .given .1) at (utf8 .read-utf8 .ensures))
 
 pub read-string-spec : {M : Type 1} → statement M
 read-string-spec =

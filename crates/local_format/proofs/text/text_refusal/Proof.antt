@@ -1,3 +1,4 @@
+-- Each variant holds what the map says.
 use borrow.Author.Needs.{needs}
 use Rattle.local_format.proofs.text.text_refusal.Statement.{statement}
 use Rattle.local_format.proofs.text.text_refusal.Tie as tie

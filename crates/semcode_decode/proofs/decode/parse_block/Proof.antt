@@ -10,7 +10,7 @@ use Rattle.local_format.proofs.OutLaws.{told}
 use Rattle.lent_table.specs.Lent.{lent}
 use Rattle.semcode_decode.specs.declared.decode.Parse.{Parse}
 use Rattle.semcode_decode.specs.Block.{Block, blockOf}
-use Rattle.semcode_decode.specs.Layout.{stringStarts, pathStarts, roomsOf}
+use Rattle.semcode_decode.specs.Layout.{stringStarts, pathStarts, tables, roomsOf}
 use Rattle.semcode_decode.specs.Maps.{parseOut}
 use Rattle.semcode_decode.proofs.BlockLaws.{layout-refused}
 use Rattle.lent_table.proofs.Laws.{front-lent}
@@ -26,7 +26,7 @@ abbrev block : tie.After-parse-tables → Out Block
 block pt =
     let start = pt .before .before .before .before .before .before in
     let a = start .args in
-    blockOf (a .header-rev) (roomsOf (a .strings .now) (a .symbols) (a .paths .now)) (a .code .now)
+    blockOf (a .header-rev) (roomsOf (tables (a .strings .now) (a .paths .now)) (a .symbols)) (a .code .now)
 
 returns : tie.Need-returns
 returns c =
@@ -36,15 +36,13 @@ returns c =
     let k = c1 .before .before in
     let pt = k .before .before .before .before .before .before in
     let a = pt .before .before .before .before .before .before .args in
-    let b = layout-refused (block pt) (told parseOut (pt .parse-tables .ensures .0) (k .enum-told .given .1)) in
+    let b = layout-refused (block pt) (told parseOut (pt .parse-tables .ensures .answer) (k .enum-told .given .1)) in
     let q = p .parse-refusal .ensures ∙ ap (λ (x : Parse). refusalOf (parseOut x)) (k .enum-told .given .1) in
-    rw b (
-      ap refused (c .based .ensures) ∙ ap (λ (r : Refusal). refused (atOffset r (held (a .base-offset) (r .offset)))) q,
-      (
-        c1 .clear .ensures ∙ ap (λ (n : ℕ). lent n []) (pt .parse-tables .kept .1 .1 .1 .0),
-        c2 .clear2 .ensures ∙ ap (λ (n : ℕ). lent n []) (pt .parse-tables .kept .1 .1 .1 .1 .0),
-      ),
-    )
+    rw b (record {
+      answer = ap refused (c .based .ensures) ∙ ap (λ (r : Refusal). refused (atOffset r (held (a .base-offset) (r .offset)))) q;
+      strings = c1 .clear .ensures ∙ ap (λ (n : ℕ). lent n []) (pt .parse-tables .kept .1 .1 .1 .0);
+      paths = c2 .clear2 .ensures ∙ ap (λ (n : ℕ). lent n []) (pt .parse-tables .kept .1 .1 .1 .1 .0);
+    })
 
 returns-2 : tie.Need-returns-2
 returns-2 c =
@@ -53,34 +51,20 @@ returns-2 c =
     let k = f1 .before .before .before in
     let pt = k .before .before .before .before .before .before in
     let a = pt .before .before .before .before .before .before .args in
-    let w = accepted (a .base-offset) (block pt) (sym (ap parseOut (k .answer .given .1)) ∙ pt .parse-tables .ensures .0) in
+    let w = accepted (a .base-offset) (block pt) (sym (ap parseOut (k .answer .given .1)) ∙ pt .parse-tables .ensures .answer) in
     let strings = front-lent (k .answer .given .0 .0 .«string_count») (length (a .strings .now)) (pt .parse-tables .last .1 .1 .1 .0)
-    (stringStarts (block pt)) (pt .parse-tables .kept .1 .1 .1 .0) (w .3) (pt .parse-tables .ensures .1 .0) in
+    (stringStarts (block pt)) (pt .parse-tables .kept .1 .1 .1 .0) (w .3) (pt .parse-tables .ensures .strings) in
     let paths = front-lent (k .answer .given .0 .0 .«path_count») (length (a .paths .now)) (pt .parse-tables .last .1 .1 .1 .1 .0)
-    (pathStarts (block pt)) (pt .parse-tables .kept .1 .1 .1 .1 .0) (w .4) (pt .parse-tables .ensures .1 .1) in (
-      w .0,
-      (
-        f1 .clear-from .ensures ∙ strings ∙ ap (lent (length (a .strings .now))) (w .1),
-        f2 .clear-from2 .ensures ∙ paths ∙ ap (lent (length (a .paths .now))) (w .2),
-      ),
-    )
+    (pathStarts (block pt)) (pt .parse-tables .kept .1 .1 .1 .1 .0) (w .4) (pt .parse-tables .ensures .paths) in
+    record {
+      answer = w .0;
+      strings = f1 .clear-from .ensures ∙ strings ∙ ap (lent (length (a .strings .now))) (w .1);
+      paths = f2 .clear-from2 .ensures ∙ paths ∙ ap (lent (length (a .paths .now))) (w .2);
+    }
 
 pub parse-block-spec : {M : Type 1} → statement M
 parse-block-spec =
     tie.close
-    (tie.spec
-    (λ c κs. search needs)
-    (λ c. search needs)
-    (λ c. search needs)
-    (λ c κs. search needs)
-    (λ c κs. search needs)
-    (λ c κs. search needs)
-    (λ c κs. search needs)
-    (λ c. search needs)
-    (λ c. search needs)
-    returns
-    (λ c κs. search needs)
-    (λ c κs. search needs)
-    (λ c. search needs)
-    (λ c. search needs)
-    returns-2)
+    (tie.spec (λ c κs. search needs) (λ c. search needs) (λ c. search needs) (λ c κs. search needs) (λ c κs. search needs) (λ c κs. search needs)
+    (λ c κs. search needs) (λ c. search needs) (λ c. search needs) returns (λ c κs. search needs) (λ c κs. search needs) (λ c. search needs)
+    (λ c. search needs) returns-2)

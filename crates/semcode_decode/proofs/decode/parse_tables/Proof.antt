@@ -2,7 +2,7 @@
 use mathlib.Core.Path.{refl, sym}
 use Rattle.local_format.proofs.OutLaws.{told}
 use Rattle.semcode_decode.specs.Block.{Rooms}
-use Rattle.semcode_decode.specs.Layout.{roomsOf}
+use Rattle.semcode_decode.specs.Layout.{tables, roomsOf}
 use Rattle.semcode_decode.specs.Maps.{tableOut, sectionOut}
 use Rattle.semcode_decode.proofs.BlockLaws.{strings-refused, debug-refused, ownership-refused, all-read}
 use borrow.Author.Needs.{needs}
@@ -13,7 +13,7 @@ abbrev rooms : tie.After-string-table → Rooms
 rooms st =
     let start = st .before .before .before .before .before in
     let a = start .args in
-    roomsOf (a .strings .now) (a .symbols) (a .paths .now)
+    roomsOf (tables (a .strings .now) (a .paths .now)) (a .symbols)
 
 returns : tie.Need-returns
 returns c =
@@ -21,7 +21,7 @@ returns c =
     let st = k .before .before .before .before in
     let a = st .before .before .before .before .before .args in
     let e = strings-refused (a .header-rev) (rooms st) (a .code .now) (told tableOut (st .string-table .ensures .0) (k .enum-told .given .1)) in
-    rw (e, c .table-refusal .ensures, k .enum-told .given .1) (refl, (refl, refl))
+    rw (e, c .table-refusal .ensures, k .enum-told .given .1) (record { answer = refl; strings = refl; paths = refl })
 
 returns-2 : tie.Need-returns-2
 returns-2 c =
@@ -34,7 +34,7 @@ returns-2 c =
     debug-refused (a .header-rev) (rooms st) (a .code .now) (told tableOut (st .string-table .ensures .0) (f .first .given .1))
     (told sectionOut (ds .debug-section .ensures) (k .enum-told2 .given .1))
     in
-    rw (e, c .section-refusal .ensures, k .enum-told2 .given .1) (refl, (refl, refl))
+    rw (e, c .section-refusal .ensures, k .enum-told2 .given .1) (record { answer = refl; strings = refl; paths = refl })
 
 returns-3 : tie.Need-returns-3
 returns-3 c =
@@ -50,7 +50,7 @@ returns-3 c =
     (told sectionOut (ds .debug-section .ensures) (g .second .given .1))
     (told sectionOut (os .ownership-section .ensures .0) (k .enum-told3 .given .1))
     in
-    rw (e, c .section-refusal2 .ensures, k .enum-told3 .given .1) (refl, (refl, refl))
+    rw (e, c .section-refusal2 .ensures, k .enum-told3 .given .1) (record { answer = refl; strings = refl; paths = refl })
 
 returns-4 : tie.Need-returns-4
 returns-4 c =
@@ -66,31 +66,15 @@ returns-4 c =
     (told sectionOut (ds .debug-section .ensures) (g .second .given .1))
     (told sectionOut (os .ownership-section .ensures .0) (k .third .given .1))
     in
-    (sym (e .0), (rw (e .1) (st .string-table .ensures .1), rw (e .2) (os .ownership-section .ensures .1)))
+    record {
+      answer = sym (e .0);
+      strings = rw (e .1) (st .string-table .ensures .1);
+      paths = rw (e .2) (os .ownership-section .ensures .1);
+    }
 
 pub parse-tables-spec : {M : Type 1} → statement M
 parse-tables-spec =
     tie.close
-    (tie.spec
-    (λ c κs. search needs)
-    (λ c. search needs)
-    (λ c. search needs)
-    (λ c κs. search needs)
-    (λ c. search needs)
-    returns
-    (λ c κs. search needs)
-    (λ c. search needs)
-    (λ c. search needs)
-    (λ c κs. search needs)
-    (λ c. search needs)
-    returns-2
-    (λ c κs. search needs)
-    (λ c. search needs)
-    (λ c. search needs)
-    (λ c κs. search needs)
-    (λ c. search needs)
-    (λ c. search needs)
-    returns-3
-    (λ c. search needs)
-    (λ c. search needs)
-    returns-4)
+    (tie.spec (λ c κs. search needs) (λ c. search needs) (λ c. search needs) (λ c κs. search needs) (λ c. search needs) returns (λ c κs. search needs)
+    (λ c. search needs) (λ c. search needs) (λ c κs. search needs) (λ c. search needs) returns-2 (λ c κs. search needs) (λ c. search needs)
+    (λ c. search needs) (λ c κs. search needs) (λ c. search needs) (λ c. search needs) returns-3 (λ c. search needs) (λ c. search needs) returns-4)

@@ -67,16 +67,5 @@ returns-3 c =
 pub ownership-section-spec : {M : Type 1} → statement M
 ownership-section-spec =
     tie.close
-    (tie.spec
-    (λ c. search needs)
-    (λ c κs. search needs)
-    add-ownership-table
-    (λ c κs. search needs)
-    (λ c. search needs)
-    (λ c. search needs)
-    (λ c κs. search needs)
-    (λ c. search needs)
-    returns
-    (λ c. search needs)
-    returns-2
-    returns-3)
+    (tie.spec (λ c. search needs) (λ c κs. search needs) add-ownership-table (λ c κs. search needs) (λ c. search needs) (λ c. search needs)
+    (λ c κs. search needs) (λ c. search needs) returns (λ c. search needs) returns-2 returns-3)

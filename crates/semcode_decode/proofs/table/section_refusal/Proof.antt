@@ -3,16 +3,7 @@ use borrow.Author.Needs.{needs}
 use Rattle.semcode_decode.proofs.table.section_refusal.Statement.{statement}
 use Rattle.semcode_decode.proofs.table.section_refusal.Tie as tie
 
-returns : tie.Need-returns
-returns c =
-    let p1 = c .before in
-    rw (p1 .answer .given .1)
-
-returns-2 : tie.Need-returns-2
-returns-2 c =
-    let p1 = c .before in
-    rw (c .refuse .ensures, p1 .enum-told .given .1)
-
 pub section-refusal-spec : {M : Type 1} → statement M
 section-refusal-spec =
-    tie.close (tie.spec (λ c. search needs) (λ c. search needs) (λ c κs. search needs) returns returns-2)
+    tie.close (tie.spec (λ c. search needs) (λ c. search needs) (λ c κs. search needs)
+    (λ c. rw (c .before .answer .given .1)) (λ c. rw (c .refuse .ensures, c .before .enum-told .given .1)))

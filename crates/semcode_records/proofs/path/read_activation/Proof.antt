@@ -72,20 +72,6 @@ returns-5 c =
 pub read-activation-spec : {M : Type 1} → statement M
 read-activation-spec =
     tie.close
-    (tie.spec
-    (λ c κs. search needs)
-    (λ c. search needs)
-    (λ c. search needs)
-    (λ c κs. search needs)
-    returns
-    (λ c κs. search needs)
-    returns-2
-    (λ c κs. search needs)
-    returns-3
-    (λ c κs. search needs)
-    (λ c. search needs)
-    (λ c. search needs)
-    (λ c κs. search needs)
-    returns-4
-    (λ c κs. search needs)
-    returns-5)
+    (tie.spec (λ c κs. search needs) (λ c. search needs) (λ c. search needs) (λ c κs. search needs) returns (λ c κs. search needs) returns-2
+    (λ c κs. search needs) returns-3 (λ c κs. search needs) (λ c. search needs) (λ c. search needs) (λ c κs. search needs) returns-4
+    (λ c κs. search needs) returns-5)

@@ -1,0 +1,34 @@
+-- What the decoder's functions leave on the way to its answer.
+use Prim.Native.Nat.{ℕ}
+use mathlib.Core.Path.{_≡_}
+use mathlib.Core.List.{List}
+use Rattle.local_format.specs.Out.{Out, ok, _>>=_}
+use Rattle.derivation.specs.Rule.{fourRules}
+use Rattle.evr0_section.specs.Head.{Counts, Head, Room, checkedHead}
+use Rattle.evr0_section.specs.Section.{Section, sectionIn}
+use Rattle.evr0.specs.Answer.{Lent, roomOf, Answer, answerOf, Filled}
+
+-- the section of a payload after which the cursor stands at `end`
+abbrev pub payloadIn : Lent → List ℕ → ℕ → Out Section
+payloadIn tables payload end = sectionIn fourRules (roomOf tables) payload end
+
+-- a payload has a checked head with these counts, after which stands this place
+pub record HeadThere (room : Room) (p : List ℕ) (counts : Counts) (at : ℕ) : Type 0 where
+  pub head : Head
+  pub read : checkedHead room p ≡ ok head
+  pub same : head .counts ≡ counts
+  pub next : head .next ≡ at
+
+-- whether a section is accepted, or its refusal
+abbrev pub passedIn : Out Section → Out (Unit {0})
+passedIn x = do
+  s ← x
+  ok tt
+
+pub record Passes (x : Out Section) (before after : Lent) (given : Out (Unit {0})) : Type 0 where
+  pub answer : given ≡ passedIn x
+  pub tables : Filled x before after
+
+pub record Ends (x : Out Section) (cursor : ℕ) (before after : Lent) (given : Answer) : Type 0 where
+  pub answer : given ≡ answerOf cursor x
+  pub tables : Filled x before after

@@ -1,0 +1,5 @@
+// What the records of an evidence section share: numbers, texts, reserved bytes, digests, and the answer of a check.
+pub mod check;
+pub mod number;
+pub mod place;
+pub mod span;

@@ -1,0 +1,4 @@
+pub mod RuleLaws
+pub mod ViewLaws
+pub mod ViewOf
+pub mod DeriveLaws

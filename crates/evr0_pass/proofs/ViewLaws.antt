@@ -1,0 +1,56 @@
+-- The entries of a payload's tables by their places.
+use Prim.Native.Nat.{ℕ, zero, suc, _+_, _*_, _<_}
+use mathlib.Core.Path.{_≡_, refl, ap, _∙_}
+use mathlib.Core.List.{List, [], _∷_, map}
+use native.Mathlib.Omega.{arith}
+use mathlib.Core.Bool.{_&&_}
+use lib.Dec.{eqb}
+use lib.ListN.{length, getD, length-map}
+use Rattle.local_format.specs.Field.{le}
+use Rattle.derivation.specs.Rule.{Rule}
+use Rattle.derivation.specs.Pass.{agrees}
+use Rattle.derivation.specs.Section.{Proof, proofAt, witnessAt, parentAt, proofTotal}
+use Rattle.evr0_pass.specs.View.{Layout, places, proofView, witnessView, view}
+
+pub getD-map-in : {A B : Type 0} (f : A → B) (l : List A) (i : ℕ) (d : A) (e : B) → i < length l → getD (map f l) i e ≡ f (getD l i d)
+getD-map-in f [] i d e h = absurd (omega arith)
+getD-map-in f (a ∷ l) zero d e h = refl
+getD-map-in f (a ∷ l) (suc i) d e h = getD-map-in f l i d e (omega arith)
+
+pub length-places : (size n at : ℕ) → length (places size n at) ≡ n
+unfolding places
+length-places size zero at = refl
+length-places size (suc n) at = ap suc (length-places size n (at + size))
+
+pub getD-places : (size n at i : ℕ) → i < n → getD (places size n at) i 0 ≡ at + size * i
+unfolding places
+getD-places size zero at i h = absurd (omega arith)
+getD-places size (suc n) at zero h = omega arith
+getD-places size (suc n) at (suc i) h = getD-places size n (at + size) i (omega arith) ∙ rest
+  where
+    rest : at + size + size * i ≡ at + size * suc i
+    rest = omega arith
+
+module _ (rules : List Rule) (p starts : List ℕ) (l : Layout) where
+  pub proof-total : proofTotal (view rules p starts l) ≡ length starts
+  unfolding proofTotal view
+  proof-total = length-map starts (proofView rules p)
+
+  pub proof-at : (i : ℕ) → i < length starts → proofAt (view rules p starts l) i ≡ proofView rules p (getD starts i 0)
+  unfolding proofAt view
+  proof-at i h = getD-map-in (proofView rules p) starts i 0 _ h
+
+  pub witness-at : (w : ℕ) → w < l .counts .witnesses → witnessAt (view rules p starts l) w ≡ witnessView p (l .witnessesAt + 84 * w)
+  unfolding witnessAt view
+  witness-at w h = getD-map-in (witnessView p) (places 84 (l .counts .witnesses) (l .witnessesAt)) w 0 _ (rw length-places h)
+      ∙ ap (witnessView p) (getD-places 84 _ _ w h)
+
+  pub parent-at : (c : ℕ) → c < l .counts .parents → parentAt (view rules p starts l) c ≡ le 4 p (l .parentsAt + 4 * c)
+  unfolding parentAt view
+  parent-at c h = getD-map-in (le 4 p) (places 4 (l .counts .parents) (l .parentsAt)) c 0 _ (rw length-places h) ∙ ap (le 4 p) (getD-places 4 _ _ c h)
+
+  pub agrees-at : (q : Proof) (j : ℕ) → j < length starts
+      → agrees (view rules p starts l) q j
+      ≡ (eqb (proofView rules p (getD starts j 0) .proposition) (q .proposition) && eqb (proofView rules p (getD starts j 0) .authority) (q .authority))
+  unfolding agrees
+  agrees-at q j h = rw (proof-at j h)

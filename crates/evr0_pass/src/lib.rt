@@ -1,0 +1,2 @@
+// The last pass over the tables of a payload.
+pub mod pass;

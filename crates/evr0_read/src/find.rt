@@ -1,0 +1,135 @@
+// The place of a record by its number, in the payload of a section that is decoded anew first.
+ghost use mathlib.Core.Path.{_≡_};
+ghost use Rattle.evr0_head.specs.Maps.{countsOut};
+ghost use Rattle.evr0.specs.Answer.{lentOf};
+ghost use Rattle.evr0_read.specs.Ask.{placeBy};
+ghost use Rattle.evr0_read.specs.Maps.{foundOut, Finds, among, sought, settled};
+use crate::cell::parent_place;
+use crate::cell::witness_place;
+use crate::table::payload_of;
+use crate::table::start_at;
+use evr0::section::Outcome;
+use evr0::section::decode_evr0_section;
+use evr0_fields::number::ProofNumber;
+use evr0_fields::number::PropositionIndex;
+use evr0_fields::number::WitnessNumber;
+use evr0_fields::number::wide;
+use evr0_head::counts::Counts;
+use lent_table::clear;
+use local_format::refusal::Refusal;
+
+// A record of one of the four tables, by its number there.
+pub enum Wanted {
+    Proposition(PropositionIndex),
+    Proof(ProofNumber),
+    Witness(WitnessNumber),
+    Parent(u32),
+}
+
+// The cursor after the section, its counts, and where the record starts in the payload.
+pub enum Found {
+    At {
+        end: usize,
+        counts: Counts,
+        start: usize,
+    },
+    Refused(Refusal),
+}
+
+// A place, if the number is one of `count`.
+fn among(number: usize, count: usize, end: usize, counts: Counts, start: usize) -> Found
+    ensures { λ r. ⌜ foundOut r ≡ among number count (placeBy end (countsOut counts) start) ⌝ }
+{
+    if number < count {
+        return Found::At { end, counts, start };
+    }
+    Found::Refused(local_format::refusal::refuse(62, 0))
+}
+
+// The place in a payload of `len` bytes, by the starts of propositions and proofs.
+fn seek(
+    wanted: Wanted,
+    len: usize,
+    end: usize,
+    counts: Counts,
+    propositions: &[u64],
+    proofs: &[u64],
+) -> Found
+    ensures { λ r. ⌜ foundOut r ≡ sought wanted len (placeBy end (countsOut counts)) (countsOut counts) (now (propositions .entry)) (now (proofs .entry)) ⌝ }
+{
+    match wanted {
+        Wanted::Proposition(n) => among(
+            n.place(),
+            counts.propositions,
+            end,
+            counts,
+            start_at(propositions, n.place()),
+        ),
+        Wanted::Proof(n) => among(
+            n.place(),
+            counts.proofs,
+            end,
+            counts,
+            start_at(proofs, n.place()),
+        ),
+        Wanted::Witness(n) => among(
+            n.place(),
+            counts.witnesses,
+            end,
+            counts,
+            witness_place(len, counts, n),
+        ),
+        Wanted::Parent(n) => among(
+            wide(n),
+            counts.parents,
+            end,
+            counts,
+            parent_place(len, counts, n),
+        ),
+    }
+}
+
+// Zeros in the lent tables where there is no such record.
+fn settle(found: Found, propositions: &mut [u64], proofs: &mut [u64], depths: &mut [u64])
+    ensures { λ r. ⌜ lentOf (now (propositions .exit)) (now (proofs .exit)) (now (depths .exit))
+        ≡ settled (foundOut found) (lentOf (now (propositions .entry)) (now (proofs .entry)) (now (depths .entry))) ⌝ }
+{
+    match found {
+        Found::Refused(_) => {
+            clear(propositions);
+            clear(proofs);
+            clear(depths);
+        }
+        Found::At {
+            end: _,
+            counts: _,
+            start: _,
+        } => {}
+    }
+}
+
+pub fn find(
+    bytes: &[u8],
+    cursor: usize,
+    wanted: Wanted,
+    propositions: &mut [u64],
+    proofs: &mut [u64],
+    depths: &mut [u64],
+) -> Found
+    ensures { λ r. ⌜ Finds wanted (now (bytes .entry)) cursor (lentOf (now (propositions .entry)) (now (proofs .entry)) (now (depths .entry)))
+        (lentOf (now (propositions .exit)) (now (proofs .exit)) (now (depths .exit))) (foundOut r) ⌝ }
+{
+    let decoded = decode_evr0_section(bytes, cursor, propositions, proofs, depths);
+    let end = decoded.cursor;
+    let outcome = decoded.outcome;
+    match outcome {
+        Outcome::Refused(refusal) => Found::Refused(refusal),
+        Outcome::Accepted(accepted) => {
+            let counts = accepted.counts;
+            let len = payload_of(bytes, cursor, end).len();
+            let found = seek(wanted, len, end, counts, propositions, proofs);
+            settle(found, propositions, proofs, depths);
+            found
+        }
+    }
+}

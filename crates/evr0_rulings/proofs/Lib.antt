@@ -1,0 +1,5 @@
+pub mod HeldLaws
+pub mod DownLaws
+pub mod AuthorisedLaws
+pub mod AnswerLaws
+pub mod Stated

@@ -1,0 +1,4 @@
+pub mod RowLaws
+pub mod TableLaws
+pub mod ParentLaws
+pub mod PayloadLaws

@@ -1,0 +1,52 @@
+-- What is unowned after a proof that passed its checks, by its own record, since 17 and 18 passed; and a witness by its size.
+use Prim.Native.Nat.{ℕ, suc, _+_}
+use mathlib.Core.Path.{_≡_, sym, ap, _∙_}
+use mathlib.Core.List.{List}
+use native.Mathlib.Numerals.{add-one}
+use Rattle.local_format.specs.Refusal.{Refusal}
+use Rattle.local_format.specs.Out.{Out, ok, refused}
+use Rattle.local_format.proofs.OutLaws.{bind-ok, ok-same, never}
+use Rattle.derivation.specs.Rule.{Rule}
+use Rattle.evr0_section.specs.Head.{Counts}
+use Rattle.evr0_section.specs.Rows.{Row}
+use Rattle.evr0_section.specs.Witness.{witnessRow}
+use Rattle.evr0_section.specs.Proof.{ProofRecord, Unowned, checkProof}
+use Rattle.evr0_section.proofs.RowChecks.{proof-checked, witness-known}
+use Rattle.evr0_fields.specs.Maps.{Beside, beside}
+use Rattle.evr0_tables.specs.Maps.{afterRecord, Kept, keptIn, sizeIn}
+
+pub after-checked : (rules : List Rule) (counts : Counts) (u : Unowned) (name : List ℕ) (r : ProofRecord) (rule : Rule) (size : ℕ)
+    → checkProof rules counts u name r ≡ ok rule
+    → _≡_ {A = Out (Kept Unowned)}
+    (ok (record { size = size; state = afterRecord r }))
+    (ok (record { size = size; state = record { proof = suc (u .proof); witness = u .witness + r .witnessCount; parent = u .parent + r .parentCount } }))
+after-checked rules counts u name r rule size e =
+    let g = proof-checked rules counts u name r rule 0 e in
+    rw (add-one, g .number, g .firstWitness, g .firstParent)
+
+-- ---- A record by what is kept of it
+module _ {A S : Type 0} where
+  pub kept-read : (x : Out (Row A S)) (k : Kept S) → keptIn x ≡ ok k → (r : Row A S) × (x ≡ ok r) × (r .size ≡ k .size) × (r .state ≡ k .state)
+  kept-read x k e =
+      let a = bind-ok x _ e in
+      (a .0, a .1, ap (λ (y : Kept S). y .size) (ok-same (a .2)), ap (λ (y : Kept S). y .state) (ok-same (a .2)))
+
+  pub kept-refused : (x : Out (Row A S)) (q : Refusal) → keptIn x ≡ refused q → x ≡ refused q
+  kept-refused (ok r) q e = absurd (never (sym e))
+  kept-refused (refused p) q e = cc
+
+  pub size-kept : (x : Out (Row A S)) {q : Refusal} → sizeIn x ≡ refused q → keptIn x ≡ refused q
+  size-kept (ok r) e = absurd (never (sym e))
+  size-kept (refused p) e = cc
+
+pub witness-kept : (width : ℕ) (counts : Counts) (w : ℕ) (s : List ℕ) {n : ℕ} → sizeIn (witnessRow width counts w s) ≡ ok n
+    → keptIn (witnessRow width counts w s) ≡ ok (record { size = n; state = w + 1 })
+witness-kept width counts w s e =
+    let a = bind-ok (witnessRow width counts w s) _ e in
+    let k : a .0 .state ≡ w + 1 = witness-known width counts w s (a .0) (a .1) .state 0 ∙ sym (add-one w) in
+    rw (a .1, k, ok-same (a .2))
+
+-- ---- An answer with its digests beside it
+pub answered : {A : Type 0} (first second : A → List ℕ) {b : Beside A} (d : Out A) → b ≡ beside first second d → b .answer ≡ d
+answered {A} first second (ok a) e = ap (λ (x : Beside A). x .answer) e
+answered {A} first second (refused r) e = ap (λ (x : Beside A). x .answer) e

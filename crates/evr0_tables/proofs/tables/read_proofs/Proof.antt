@@ -1,0 +1,93 @@
+-- Meets its contract, as read_propositions does, with what is unowned as the state.
+use borrow.Author.Needs.{needs}
+use Prim.Native.Nat.{_+_, _-_}
+use mathlib.Core.Path.{_≡_, refl, sym, ap, _∙_}
+use mathlib.Core.List.{[], _∷_, _++_}
+use native.Mathlib.Omega.{arith}
+use lib.ListN.{length, take, length-set}
+use Rattle.local_format.specs.Out.{refused}
+use Rattle.local_format.specs.Maps.{refusalOut}
+use Rattle.local_format.proofs.OutLaws.{told}
+use Rattle.derivation.specs.Rule.{fourRules}
+use Rattle.evr0_section.specs.Proof.{noneOwned, proofRow}
+use Rattle.evr0_section.proofs.Inside.{proofRowIn}
+use Rattle.evr0_head.specs.Maps.{countsOut}
+use Rattle.evr0_records.specs.Maps.{unownedOut}
+use Rattle.evr0_tables.specs.Maps.{proofRowOut, ownedIn}
+use Rattle.evr0_tables.proofs.TableLaws.{Stands, Stopped, starting, advance, stop, stored, read-owned, read-front, refused-front}
+use Rattle.evr0_tables.proofs.tables.read_proofs.Statement.{statement}
+use Rattle.evr0_tables.proofs.tables.read_proofs.Tie as tie
+
+abbrev Inv-loop : tie.InvT-loop
+Inv-loop payload counts at starts₀ count unowned₀ place₀ i₀ starts unowned place i =
+    Stands (proofRow fourRules (countsOut counts)) payload (counts .proofs) at noneOwned i place (unownedOut unowned) (take i starts)
+    × (length starts ≡ length starts₀)
+
+abbrev μ-loop : tie.MeasureT-loop
+μ-loop payload counts at starts₀ count unowned₀ place₀ i₀ starts unowned place i = counts .proofs - i
+
+abbrev start : tie.At-loop Inv-loop μ-loop → tie.Start Inv-loop μ-loop
+start l = l .before .before .before
+
+module _ (c : tie.After-row Inv-loop μ-loop) where
+  abbrev l : tie.At-loop Inv-loop μ-loop
+  l = c .before .before .before .before
+
+  on : Stands (proofRow fourRules (countsOut (start l .args .counts))) (start l .args .payload .now) (start l .args .counts .proofs) (start l .args .at)
+      noneOwned (l .loop .i + 1) (l .loop .place + c .row .given .0 .0) (unownedOut (c .row .given .0 .1 .0))
+      (take (l .loop .i) (l .loop .starts) ++ (l .loop .place ∷ []))
+  on = advance (l .loop .inv .0) (proofRowIn _ _ _ _) (omega arith) (told proofRowOut (c .before .before .next-proof .ensures) (c .row .given .1))
+
+module _ (c : tie.After-row2 Inv-loop μ-loop) where
+  abbrev l2 : tie.At-loop Inv-loop μ-loop
+  l2 = c .before .before .before .before
+
+  stopped : Stopped (proofRow fourRules (countsOut (start l2 .args .counts))) (start l2 .args .payload .now) (start l2 .args .counts .proofs)
+      (start l2 .args .at) noneOwned (l2 .loop .place) (refusalOut (c .row2 .given .0 .0))
+  stopped = stop (l2 .loop .inv .0) (proofRowIn _ _ _ _) (omega arith) (told proofRowOut (c .before .before .next-proof .ensures) (c .row2 .given .1))
+
+loop-holds : tie.Need-loop-holds Inv-loop μ-loop
+loop-holds c = (starting (proofRow fourRules _) _ _ _ noneOwned (c .before .before .pre .1), refl)
+
+add-place : tie.Need-add-place Inv-loop μ-loop
+add-place c = omega (arith, on (c .before) .within)
+
+loop-again : tie.Need-loop-again Inv-loop μ-loop
+loop-again c =
+    let k = c .before in
+    (stored _ _ _ (on k) (omega (arith, l k .loop .inv .1)), simp length-set (l k .loop .inv .1))
+
+moved-requires : tie.Need-moved-requires Inv-loop μ-loop
+moved-requires c κs = omega (arith, stopped (c .before) .within)
+
+returns : tie.Need-returns Inv-loop μ-loop
+returns c =
+    let e = stopped (c .before .before) .is in
+    (ap refused (c .moved .ensures) ∙ sym (ap ownedIn e), refused-front _ e)
+
+returns-2 : tie.Need-returns-2 Inv-loop μ-loop
+returns-2 c =
+    let i = c .before .loop .inv in
+    (read-owned (i .0) (omega arith), read-front (i .0) (omega arith) _ refl (omega (arith, i .1)))
+
+pub read-proofs-spec : {M : Type 1} → statement M
+read-proofs-spec =
+    tie.close
+    (tie.spec
+    Inv-loop
+    μ-loop
+    loop-holds
+    (λ c κs. search needs)
+    (λ c. search needs)
+    (λ c. search needs)
+    (λ c. search needs)
+    add-place
+    (λ c. search needs)
+    (λ c. search needs)
+    loop-again
+    (λ c. search needs)
+    moved-requires
+    (λ c. search needs)
+    returns
+    (λ c. search needs)
+    returns-2)

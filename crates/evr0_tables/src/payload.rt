@@ -1,0 +1,129 @@
+// The tables of a payload, after its head.
+ghost use mathlib.Core.Path.{_≡_};
+ghost use Prim.Native.Nat.{_≤_};
+ghost use lib.ListN.{length};
+ghost use mathlib.Core.Bool.{_&&_};
+ghost use lib.Dec.{eqb};
+ghost use Rattle.derivation.specs.Rule.{fourRules};
+ghost use Rattle.evr0_section.specs.Section.{restAfter, tablesAfter};
+ghost use Rattle.evr0_head.specs.Maps.{countsOut};
+ghost use Rattle.evr0_tables.specs.Maps.{tableOut};
+ghost use Rattle.evr0_tables.specs.PayloadMaps.{parentsIn, placesOut, Begins, Reads};
+use crate::tables::ProofTable;
+use crate::tables::Table;
+use evr0_head::counts::Counts;
+use evr0_records::proof::Unowned;
+use local_format::refusal::Refusal;
+
+// The places of the witnesses and of the parents.
+pub enum Places {
+    Read {
+        witnesses_at: usize,
+        parents_at: usize,
+    },
+    Refused(Refusal),
+}
+
+// Whether every witness and every parent cell is owned.
+fn all_owned(unowned: Unowned, counts: Counts) -> bool
+    ensures { λ r. ⌜ r ≡ (eqb (unowned .witness) (counts .witnesses) && eqb (unowned .parent) (counts .parents)) ⌝ }
+{
+    if unowned.witness != counts.witnesses {
+        return false;
+    }
+    unowned.parent == counts.parents
+}
+
+// The witnesses and the parents, from `at` to the payload's end: where the parents start.
+fn read_rest(payload: &[u8], counts: Counts, at: usize) -> Table
+    requires { ⌜ (counts .parents ≤ 262144) × (at ≤ length (now payload)) ⌝ }
+    ensures { λ r. ⌜ tableOut r ≡ parentsIn (restAfter (countsOut counts) (now (payload .entry)) at) ⌝ }
+{
+    let witnesses = crate::tables::read_witnesses(payload, counts, at);
+    let Table::Read { next: parents_at } = witnesses else {
+        return witnesses;
+    };
+    let parents = crate::tables::read_parents(payload, counts.parents, parents_at);
+    let Table::Read { next: end } = parents else {
+        return parents;
+    };
+    if end != payload.len() {
+        return Table::Refused(local_format::refusal::refuse(24, end));
+    }
+    Table::Read { next: parents_at }
+}
+
+// The four tables from `at` on, with the starts of the propositions and of the proofs at the front of the lent tables.
+fn read_four(
+    payload: &[u8],
+    counts: Counts,
+    at: usize,
+    propositions: &mut [u64],
+    proofs: &mut [u64],
+) -> Places
+    requires { ⌜ (counts .propositions ≤ length (now propositions)) × (counts .proofs ≤ length (now proofs)) ⌝ }
+    requires { ⌜ (counts .parents ≤ 262144) × (at ≤ length (now payload)) ⌝ }
+    ensures { λ r. ⌜ Begins (tablesAfter fourRules (countsOut counts) (now (payload .entry)) at)
+        (now (propositions .exit)) (now (proofs .exit)) (placesOut r) ⌝ }
+{
+    let first = crate::tables::read_propositions(payload, counts.propositions, at, propositions);
+    match first {
+        Table::Refused(refusal) => Places::Refused(refusal),
+        Table::Read { next: proofs_at } => {
+            let second = crate::tables::read_proofs(payload, counts, proofs_at, proofs);
+            match second {
+                ProofTable::Refused(refusal) => Places::Refused(refusal),
+                ProofTable::Read {
+                    unowned,
+                    next: witnesses_at,
+                } => {
+                    if !all_owned(unowned, counts) {
+                        return Places::Refused(local_format::refusal::refuse(22, witnesses_at));
+                    }
+                    let rest = read_rest(payload, counts, witnesses_at);
+                    match rest {
+                        Table::Refused(refusal) => Places::Refused(refusal),
+                        Table::Read { next: parents_at } => Places::Read {
+                            witnesses_at,
+                            parents_at,
+                        },
+                    }
+                }
+            }
+        }
+    }
+}
+
+// The same, with zeros past the starts; a refusal leaves zeros in both lent tables.
+pub fn read_tables(
+    payload: &[u8],
+    counts: Counts,
+    at: usize,
+    propositions: &mut [u64],
+    proofs: &mut [u64],
+) -> Places
+    requires { ⌜ (counts .propositions ≤ length (now propositions)) × (counts .proofs ≤ length (now proofs)) ⌝ }
+    requires { ⌜ (counts .parents ≤ 262144) × (at ≤ length (now payload)) ⌝ }
+    ensures { λ r. ⌜ Reads (tablesAfter fourRules (countsOut counts) (now (payload .entry)) at)
+        (now (propositions .entry)) (now (proofs .entry)) (now (propositions .exit)) (now (proofs .exit)) (placesOut r) ⌝ }
+{
+    let places = read_four(payload, counts, at, propositions, proofs);
+    match places {
+        Places::Refused(refusal) => {
+            lent_table::clear(propositions);
+            lent_table::clear(proofs);
+            Places::Refused(refusal)
+        }
+        Places::Read {
+            witnesses_at,
+            parents_at,
+        } => {
+            lent_table::clear_from(propositions, counts.propositions);
+            lent_table::clear_from(proofs, counts.proofs);
+            Places::Read {
+                witnesses_at,
+                parents_at,
+            }
+        }
+    }
+}

@@ -1,3 +1,0 @@
-pub mod HeldLaws
-pub mod ReplayLaws
-pub mod ToldLaws

@@ -1,0 +1,5 @@
+pub mod Utf8
+pub mod Encoding
+pub mod Scan
+pub mod Maps
+mod Vectors

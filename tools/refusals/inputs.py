@@ -1,0 +1,104 @@
+"""The inputs of docs/REFUSALS.md, as the tables there have them.
+
+An input is a row's cell `WORDS` with what is asked after it (rev N, room A B C, string N, ..); docs/REFUSALS.md says how words are read.
+"""
+import dataclasses
+import os
+import re
+
+TOP = os.path.dirname(os.path.dirname(os.path.dirname(os.path.abspath(__file__))))
+DOCUMENT = os.path.join(TOP, "docs", "REFUSALS.md")
+KINDS = ("Invalid", "Limit", "Strings", "Debug", "Ownership", "Added")
+LONGEST = {"section": (65536, 65536, 65536), "block": (256, 8192, 65535)}  # lent tables that are never too short
+
+
+@dataclasses.dataclass
+class Case:
+    line: int  # of the document
+    form: str  # "section" (at cursor 0) or "block" (at base 0)
+    data: bytes
+    revision: int  # of a block
+    rooms: tuple  # lengths of the lent tables: propositions, proofs, depths; or strings, symbols, paths
+    asked: tuple  # (what, number) of a record by number, or None
+    number: int
+    kind: str
+    offset: int
+
+
+def number(n):
+    return n.to_bytes(4, "little")
+
+
+def turns(text, names):
+    """[N: WORDS] stands for the words with 1, .., N for i and 0, .., N - 1 for j."""
+    count, words = re.fullmatch(r"\[(\d+): (.*)\]", text).groups()
+    return b"".join(read(words, {**names, "i": number(i), "j": number(i - 1)}) for i in range(1, int(count) + 1))
+
+
+def read(text, names):
+    parts = re.findall(r"\[[^\]]*\]|\S+", text)
+    out = b""
+    for place, part in enumerate(parts):
+        if part == "#":
+            rest = read(" ".join(parts[place + 1 :]), names)
+            return out + number(len(rest)) + rest
+        if part.startswith("["):
+            out += turns(part, names)
+            continue
+        word, _, times = part.partition("*")
+        if word in names:
+            piece = names[word]
+        elif word.startswith("="):
+            piece = number(int(word[1:]))
+        else:
+            piece = bytes.fromhex(word)
+        out += piece * int(times or 1)
+    return out
+
+
+def cells(line):
+    return [cell.strip() for cell in line.strip().strip("|").split("|")]
+
+
+def asked_of(text):
+    revision, rooms, asked = 20, None, None
+    for what, numbers in re.findall(r"([a-z]+)((?: \d+)+)", text):
+        numbers = [int(n) for n in numbers.split()]
+        if what == "rev":
+            (revision,) = numbers
+        elif what == "room":
+            rooms = tuple(numbers)
+        else:
+            asked = (what, *numbers)
+    return revision, rooms, asked
+
+
+def cases():
+    found, kinds, names, header = [], {}, {}, []
+    with open(DOCUMENT, encoding="utf-8") as document:
+        lines = list(enumerate(document, 1))
+    for at, line in lines:
+        if not line.startswith("|"):
+            header = []
+            continue
+        row = cells(line)
+        if not header:
+            header = row
+            continue
+        if set(line.strip()) <= set("|-"):
+            continue
+        row = dict(zip(header, row, strict=True))
+        if "Word" in row:
+            for word, text in re.findall(r"`(\S+)` = `([^`]*)`", row["Word"]):
+                names[word] = read(text, names)
+        if "Kind" in row:
+            kinds[int(row["Number"])] = row["Kind"]
+        if not row.get("Input", "none").startswith("`"):
+            continue
+        text, rest = re.fullmatch(r"`([^`]*)`(.*)", row["Input"]).groups()
+        revision, rooms, asked = asked_of(rest)
+        refused, offset = (int(n) for n in row["Answer"].split(" at "))
+        form = "section" if refused <= 29 or text.startswith("EVR0") else "block"
+        data = b"" if text == "-" else read(text, names)
+        found.append(Case(at, form, data, revision, rooms or LONGEST[form], asked, refused, kinds[refused], offset))
+    return found
