@@ -27,7 +27,7 @@ extern "C" {
 
 /* The version of this header: ten thousand times the first number, a hundred times the second, and the third. The first rises where a
  * struct, an argument or an answer changes, and the second where something is added. */
-#define FALGNUST_VERSION 10000
+#define FALGNUST_VERSION 20000
 
 /* Layouts: the size of each struct below is that of the struct in crates/falgnust/src. */
 #define FALGNUST_SIZE(type, size) FALGNUST_ASSERT(sizeof(type) == (size), #type " has another layout")
@@ -136,13 +136,15 @@ typedef struct FalgnustSection {
     uint16_t epoch;
     size_t policy_at; /* places in the payload of the policy's and the issuer's length: falgnust_read_text reads each */
     size_t issuer_at;
+    size_t policy_chars; /* how many characters each has */
+    size_t issuer_chars;
     size_t propositions; /* the four counts */
     size_t proofs;
     size_t witnesses;
     size_t parents;
     size_t cursor; /* after the section; after a refusal, the cursor that was brought */
 } FalgnustSection;
-FALGNUST_SIZE(FalgnustSection, 152);
+FALGNUST_SIZE(FalgnustSection, 168);
 
 /* Decodes the section at a cursor. */
 FalgnustSection falgnust_decode_evr0_section(

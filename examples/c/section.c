@@ -40,18 +40,18 @@ static void close_source(Source *s) {
     free(s->depths);
 }
 
-static void print_namespace(const char *name, const uint8_t *payload, size_t len, size_t at) {
+static void print_namespace(const char *name, const uint8_t *payload, size_t len, size_t at, size_t chars) {
     FalgnustText text = falgnust_read_text(payload, len, at);
     printf("%s ", name);
     print_text(payload + text.start, text.len);
-    printf("\n");
+    printf(", characters %zu\n", chars);
 }
 
 static void print_proposition(const uint8_t *payload, size_t len, size_t number, size_t at) {
     FalgnustProposition p = falgnust_read_proposition(payload, len, at);
     printf("proposition %zu: ", number);
     print_text(payload + p.kind.start, p.kind.len);
-    printf(", owner %" PRIu32 ", scope %" PRIu32 ", type %" PRIu32 "\n", p.ast_owner_id, p.semantic_scope_id, p.type_obligation_id);
+    printf(", characters %zu, owner %" PRIu32 ", scope %" PRIu32 ", type %" PRIu32 "\n", p.kind.chars, p.ast_owner_id, p.semantic_scope_id, p.type_obligation_id);
 }
 
 static void print_witness(const uint8_t *payload, size_t len, size_t at) {
@@ -86,8 +86,8 @@ static int list(Source *s) {
         return refused(section.refusal);
     const uint8_t *payload = s->input.bytes + 8;
     size_t len = section.cursor - 8;
-    print_namespace("policy", payload, len, section.policy_at);
-    print_namespace("issuer", payload, len, section.issuer_at);
+    print_namespace("policy", payload, len, section.policy_at, section.policy_chars);
+    print_namespace("issuer", payload, len, section.issuer_at, section.issuer_chars);
     for (size_t i = 0; i < section.propositions; i++)
         print_proposition(payload, len, i, s->propositions[i]);
     for (size_t i = 0; i < section.proofs; i++)

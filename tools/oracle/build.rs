@@ -29,12 +29,12 @@ fn main() {
         if module == "semcode_decode" {
             text = stopped_before_signature(&text);
         }
-        text = with_fault(module, text);
         let reach = PathBuf::from(format!("reach/{module}.rs"));
         if reach.exists() {
             println!("cargo::rerun-if-changed={}", reach.display());
             text.push_str(&read(&reach));
         }
+        text = with_fault(module, text);
         let copy = out.join(module).with_extension("rs");
         fs::write(&copy, text).expect("a writable OUT_DIR");
         root.push_str(&format!(

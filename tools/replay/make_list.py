@@ -135,7 +135,8 @@ def section(data, cursor, rooms, answer):
         told = refused(answer) + struct.pack("<Q", cursor) + bytes(64)
     else:
         f = dict(item.split("=", 1) for item in answer.split(" ")[1:])
-        told = numbers(0, int(f["epoch"]), int(f["policy"]), int(f["issuer"]), *listed(f["counts"]))
+        places = [int(f[name]) for name in ("epoch", "policy", "issuer", "policy_chars", "issuer_chars")]
+        told = numbers(0, *places, *listed(f["counts"]))
         told += struct.pack("<Q", int(f["cursor"])) + bytes.fromhex(f["source_set"]) + bytes.fromhex(f["compiler_contract"])
         told += numbers(*listed(f["propositions"]), *listed(f["proofs"]), *listed(f["depths"]))
     return asked(SECTION, 0, cursor, rooms, data) + told

@@ -49,8 +49,9 @@ static void refusal(FalgnustRefusal refused) {
 static void section(const uint8_t *input, size_t len, size_t cursor, size_t a, size_t b, size_t c) {
     FalgnustSection s = falgnust_decode_evr0_section(input, len, cursor, first, a, second, b, third, c);
     if (s.accepted) {
-        const uint64_t told[] = {0, s.epoch, s.policy_at, s.issuer_at, s.propositions, s.proofs, s.witnesses, s.parents};
-        for (size_t i = 0; i < 8; i++)
+        const uint64_t told[] = {0, s.epoch, s.policy_at, s.issuer_at, s.policy_chars, s.issuer_chars,
+                                 s.propositions, s.proofs, s.witnesses, s.parents};
+        for (size_t i = 0; i < sizeof told / sizeof *told; i++)
             number(told[i], 4);
     } else {
         refusal(s.refusal);

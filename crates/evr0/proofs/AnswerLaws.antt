@@ -21,7 +21,15 @@ pub answered-with : (x : Out Section) (s : Section) (h : Head) (cursor end : ℕ
       sourceSet = h .sourceSet;
       compilerContract = h .compilerContract;
       cursor = end;
-      outcome = ok (record { epoch = h .epoch; policyAt = h .policyAt; issuerAt = h .issuerAt; counts = h .counts });
+      outcome =
+          ok (record {
+            epoch = h .epoch;
+            policyAt = h .policyAt;
+            issuerAt = h .issuerAt;
+            policyChars = h .policy .chars;
+            issuerChars = h .issuer .chars;
+            counts = h .counts;
+          });
     } ≡ answerOf cursor x
 answered-with x s h cursor end e k l = rw (e, ← k, ← l)
 

@@ -29,11 +29,14 @@ roomOf t =
 
 -- ---- The answer
 
--- what is given of an accepted section: the epoch, the places in the payload of both namespaces' lengths, and the counts
+-- what is given of an accepted section: the epoch, the places in the payload of both namespaces' lengths, how many characters each has,
+-- and the counts
 pub record Accepted : Type 0 where
   pub epoch : ℕ
   pub policyAt : ℕ
   pub issuerAt : ℕ
+  pub policyChars : ℕ
+  pub issuerChars : ℕ
   pub counts : Counts
 
 -- the digests and the cursor stand beside it
@@ -55,6 +58,8 @@ answerOf cursor (ok s) =
             epoch = s .tables .head .epoch;
             policyAt = s .tables .head .policyAt;
             issuerAt = s .tables .head .issuerAt;
+            policyChars = s .tables .head .policy .chars;
+            issuerChars = s .tables .head .issuer .chars;
             counts = s .tables .head .counts;
           });
     }

@@ -10,11 +10,27 @@ use Rattle.evr0.specs.declared.section.Outcome.the-variants as found
 use Rattle.evr0.specs.declared.section.DecodedEvr0.{DecodedEvr0}
 
 abbrev pub acceptedOut : given.Accepted → of.Accepted
-acceptedOut a = record { epoch = a .epoch; policyAt = a .«policy_namespace»; issuerAt = a .«issuer_namespace»; counts = countsOut (a .counts) }
+acceptedOut a =
+    record {
+      epoch = a .epoch;
+      policyAt = a .«policy_namespace»;
+      issuerAt = a .«issuer_namespace»;
+      policyChars = a .«policy_chars»;
+      issuerChars = a .«issuer_chars»;
+      counts = countsOut (a .counts);
+    }
 
 -- what is given of a section with this head
 abbrev pub headOutcome : head.Head → of.Accepted
-headOutcome h = record { epoch = h .epoch; policyAt = h .«policy_at»; issuerAt = h .«issuer_at»; counts = countsOut (h .counts) }
+headOutcome h =
+    record {
+      epoch = h .epoch;
+      policyAt = h .«policy_at»;
+      issuerAt = h .«issuer_at»;
+      policyChars = h .«policy_namespace» .chars;
+      issuerChars = h .«issuer_namespace» .chars;
+      counts = countsOut (h .counts);
+    }
 
 abbrev pub outcomeOut : outcome.Outcome → Out of.Accepted
 outcomeOut (found.Accepted a) = ok (acceptedOut a)

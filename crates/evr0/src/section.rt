@@ -20,11 +20,14 @@ use evr0_pass::pass::Layout;
 use evr0_tables::payload::Places;
 use local_format::refusal::Refusal;
 
-// What is given of an accepted section: the epoch, the places in the payload of both namespaces' lengths, and the counts.
+// What is given of an accepted section: the epoch, the places in the payload of both namespaces' lengths, how many characters each has,
+// and the counts.
 pub struct Accepted {
     pub epoch: u16,
     pub policy_namespace: usize,
     pub issuer_namespace: usize,
+    pub policy_chars: usize,
+    pub issuer_chars: usize,
     pub counts: Counts,
 }
 
@@ -56,10 +59,14 @@ fn accept(head: Head) -> Accepted
     ensures { λ r. ⌜ acceptedOut r ≡ headOutcome head ⌝ }
 {
     let counts = head.counts;
+    let policy = head.policy_namespace;
+    let issuer = head.issuer_namespace;
     Accepted {
         epoch: head.epoch,
         policy_namespace: head.policy_at,
         issuer_namespace: head.issuer_at,
+        policy_chars: policy.chars,
+        issuer_chars: issuer.chars,
         counts,
     }
 }

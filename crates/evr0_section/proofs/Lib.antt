@@ -9,3 +9,4 @@ pub mod RecordLaws
 pub mod Progress
 pub mod Inside
 pub mod SectionWithin
+pub mod Counted

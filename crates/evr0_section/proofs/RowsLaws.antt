@@ -1,7 +1,8 @@
 -- Laws of a table: a turn of its reading, and the trace of a table that was read, over which the facts about tables go by induction.
 use Prim.Native.Nat.{ℕ, zero, suc, _+_}
 use mathlib.Core.Path.{_≡_, refl, ap, _∙_}
-use mathlib.Core.List.{List, [], _∷_, _++_, append-assoc}
+use mathlib.Core.Logic.{_⊎_, inl, inr}
+use mathlib.Core.List.{List, [], _∷_, _++_, append-assoc, List·Memᴰ, List·Memᴰ·cases-cons, List·Memᴰ·not-nil}
 use lib.ListN.{length, drop}
 use Rattle.local_format.specs.Refusal.{Refusal}
 use Rattle.local_format.specs.Out.{Out, ok, refused, _>>=_, moved, atOffset}
@@ -68,3 +69,13 @@ module _ {A S : Type 0} (row : S → List ℕ → Out (Row A S)) (p : List ℕ) 
   pub trace-length : {n at end : ℕ} {state last : S} {es : List (Entry A)} → Trace n state at es last end → length es ≡ n
   trace-length none = refl
   trace-length (more r e w) = ap suc (trace-length w)
+
+  -- what holds of each row that is read holds of each entry of a table
+  pub each-entry : (P : Entry A → Type 0) → ((state : S) (at : ℕ) (r : Row A S) → row state (drop at p) ≡ ok r → P (entry at r))
+      → {n at end : ℕ} {state last : S} {es : List (Entry A)} → Trace n state at es last end → (e : Entry A) → List·Memᴰ e es → P e
+  each-entry P one none e m = absurd (List·Memᴰ·not-nil m)
+  each-entry P one (more {at = at} {state = state} {es = es} r h w) e m = go (λ k. each-entry P one w e k) (List·Memᴰ·cases-cons m)
+    where
+      go : (List·Memᴰ e es → P e) → (e ≡ entry at r) ⊎ List·Memᴰ e es → P e
+      go rest (inl q) = rw q (one state at r h)
+      go rest (inr k) = rest k

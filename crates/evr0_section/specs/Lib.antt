@@ -5,3 +5,4 @@ pub mod Proof
 pub mod Witness
 pub mod Section
 pub mod Demand
+pub mod Characters

@@ -10,8 +10,8 @@ use evr0::section::DecodedEvr0;
 use evr0::section::Outcome;
 use evr0::section::decode_evr0_section;
 
-// The digests, the epoch, the places in the payload of both namespaces' lengths, and the counts; or a refusal, with zeros beside it. The
-// cursor is the one that was brought where the section is refused.
+// The digests, the epoch, the places in the payload of both namespaces' lengths, how many characters each has, and the counts; or a
+// refusal, with zeros beside it. The cursor is the one that was brought where the section is refused.
 #[repr(C)]
 pub struct Section {
     pub accepted: bool,
@@ -21,6 +21,8 @@ pub struct Section {
     pub epoch: u16,
     pub policy_at: usize,
     pub issuer_at: usize,
+    pub policy_chars: usize,
+    pub issuer_chars: usize,
     pub propositions: usize,
     pub proofs: usize,
     pub witnesses: usize,
@@ -44,6 +46,8 @@ fn flat_section(decoded: DecodedEvr0) -> Section
             epoch: given.epoch,
             policy_at: given.policy_namespace,
             issuer_at: given.issuer_namespace,
+            policy_chars: given.policy_chars,
+            issuer_chars: given.issuer_chars,
             propositions: given.counts.propositions,
             proofs: given.counts.proofs,
             witnesses: given.counts.witnesses,
@@ -58,6 +62,8 @@ fn flat_section(decoded: DecodedEvr0) -> Section
             epoch: 0,
             policy_at: 0,
             issuer_at: 0,
+            policy_chars: 0,
+            issuer_chars: 0,
             propositions: 0,
             proofs: 0,
             witnesses: 0,

@@ -4,3 +4,4 @@ pub mod FieldLaws
 pub mod TagLaws
 pub mod TextLaws
 pub mod NumberLaws
+pub mod CharacterLaws

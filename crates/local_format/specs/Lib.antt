@@ -6,3 +6,4 @@ pub mod Tag
 pub mod Maps
 pub mod Number
 mod Vectors
+pub mod Characters

@@ -3,3 +3,4 @@ pub mod SectionLaws
 pub mod BlockLaws
 pub mod LentLaws
 pub mod ReadLaws
+pub mod Counted

@@ -21,6 +21,8 @@ fn accepted(list: &[u8], held: Held, given: Accepted) -> Held {
             given.epoch as usize,
             given.policy_namespace,
             given.issuer_namespace,
+            given.policy_chars,
+            given.issuer_chars,
             counts.propositions,
             counts.proofs,
             counts.witnesses,

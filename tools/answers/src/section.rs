@@ -15,6 +15,9 @@ pub struct Head {
     /// The places of both namespaces' lengths.
     pub policy: usize,
     pub issuer: usize,
+    /// How many characters each has.
+    pub policy_chars: usize,
+    pub issuer_chars: usize,
     /// Propositions, proofs, witnesses, parents.
     pub counts: [usize; 4],
 }

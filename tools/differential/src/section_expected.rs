@@ -2,7 +2,7 @@
 
 use answers::Answer;
 use falgnust::raw;
-use oracle::evr0::{DecodedEvr0, Proof, Proposition, Witness};
+use oracle::evr0::{DecodedEvr0, Proof, Proposition, Witness, characters};
 
 /// A record and its start in the payload.
 pub type Record<T> = (u64, T);
@@ -56,7 +56,7 @@ fn span(at: usize, text: &str) -> raw::Span {
     raw::Span {
         start: at + 2,
         len: text.len(),
-        chars: text.chars().count(),
+        chars: characters(text),
         next: at + 2 + text.len(),
     }
 }

@@ -78,6 +78,13 @@ impl Asked<'_> {
         });
         let name = "proposition by number";
         let raw = expected::raw_proposition(value.clone());
+        self.at_its_start(
+            tally,
+            "proposition at its start",
+            &value,
+            raw,
+            calls::read_proposition,
+        );
         self.same(tally, name, &value, raw, |lent| {
             calls::proposition_number(self.file, self.cursor, number, lent)
         });
@@ -93,6 +100,7 @@ impl Asked<'_> {
         });
         let name = "proof by number";
         let raw = expected::raw_proof(value.clone());
+        self.at_its_start(tally, "proof at its start", &value, raw, calls::read_proof);
         self.same(tally, name, &value, raw, |lent| {
             calls::proof_number(self.file, self.cursor, number, lent)
         });
@@ -187,6 +195,25 @@ impl Asked<'_> {
         limits.sort();
         limits.dedup();
         limits
+    }
+
+    /// The record that the table has a start for, read there.
+    fn at_its_start<T, R: PartialEq + Debug>(
+        &self,
+        tally: &mut Tally,
+        name: &'static str,
+        value: &Answer<Record<T>>,
+        expected: R,
+        read: impl FnOnce(&[u8], usize) -> R,
+    ) {
+        let (Ok((section, _)), Ok((start, _))) = (self.rust, value) else {
+            return;
+        };
+        let payload = &self.file[self.cursor + 8..section.cursor];
+        tally.input((0, name));
+        tally.same(&expected, &read(payload, *start as usize), || {
+            self.what(name)
+        });
     }
 
     /// A C function's answer, and the tables after it: starts and depths, or zeros where it refuses.

@@ -24,8 +24,8 @@ impl Text {
     }
 }
 
-/// The first and the last character of each encoded length, those beside the surrogates, and some that only look like control characters.
-const CHARACTERS: [char; 20] = [
+/// The first and the last character of each encoded length, those beside the surrogates, a combining mark, and some that only look like control characters.
+const CHARACTERS: [char; 21] = [
     ' ',
     '~',
     'k',
@@ -34,6 +34,7 @@ const CHARACTERS: [char; 20] = [
     '-',
     '\u{a0}',
     '\u{e9}',
+    '\u{301}',
     '\u{7ff}',
     '\u{800}',
     '\u{2028}',

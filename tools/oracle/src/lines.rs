@@ -26,7 +26,8 @@ pub fn span_line(s: Span) -> String {
 pub fn section_line(bytes: &[u8], cursor: usize) -> Answer<String> {
     let (s, _) = section(bytes, cursor)?;
     Ok(format!(
-        "cursor={} counts={} depths={} propositions={} proofs={} policy={} issuer={} epoch={} \
+        "cursor={} counts={} depths={} propositions={} proofs={} policy={} issuer={} policy_chars={} \
+         issuer_chars={} epoch={} \
          source_set={} compiler_contract={}",
         s.cursor,
         list(s.head.counts),
@@ -35,6 +36,8 @@ pub fn section_line(bytes: &[u8], cursor: usize) -> Answer<String> {
         list(&s.tables.proofs),
         s.head.policy,
         s.head.issuer,
+        s.head.policy_chars,
+        s.head.issuer_chars,
         s.head.epoch,
         hex(&s.head.source_set),
         hex(&s.head.compiler_contract),

@@ -1,6 +1,6 @@
 //! A section as the Rust decodes it, with the starts and depths that follow from its records.
 
-use crate::evr0::{DecodedEvr0, Proof, decode_evr0_section};
+use crate::evr0::{DecodedEvr0, Proof, characters, decode_evr0_section};
 use crate::messages::of_section;
 use answers::Answer;
 use answers::section::{Head, Section, Tables};
@@ -38,6 +38,8 @@ fn answer(d: &DecodedEvr0, cursor: usize) -> Section {
             epoch: d.epoch,
             policy,
             issuer,
+            policy_chars: characters(&d.policy_namespace),
+            issuer_chars: characters(&d.issuer_namespace),
             counts: [
                 d.propositions.len(),
                 d.proofs.len(),

@@ -1,7 +1,7 @@
 //! One text at a place, as the section decoder and the block function read it.
 
 use crate::block::block;
-use crate::evr0::text_at;
+use crate::evr0::{characters, text_at};
 use crate::messages::of_section;
 use answers::Answer;
 use answers::refusal::Refusal;
@@ -13,7 +13,7 @@ pub fn text(bytes: &[u8], at: usize) -> Answer<Span> {
     Ok(Span {
         start: at + 2,
         len: value.len(),
-        chars: value.chars().count(),
+        chars: characters(&value),
         next,
     })
 }
@@ -32,7 +32,7 @@ pub fn string(bytes: &[u8], at: usize) -> Answer<Span> {
         Ok(block) => Ok(Span {
             start: at + 2,
             len: block.strings[0].len(),
-            chars: block.strings[0].chars().count(),
+            chars: characters(&block.strings[0]),
             next: at + (block.layout.strings_end - 2),
         }),
         Err(refusal) => Err(Refusal {

@@ -29,6 +29,8 @@ pub fn decode_evr0_section(
         epoch: s.epoch,
         policy: s.policy_at,
         issuer: s.issuer_at,
+        policy_chars: s.policy_chars,
+        issuer_chars: s.issuer_chars,
         counts: [s.propositions, s.proofs, s.witnesses, s.parents],
     };
     (Ok(head), s.cursor)

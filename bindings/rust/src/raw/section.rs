@@ -20,6 +20,10 @@ pub struct Section {
     pub policy_at: usize,
     /// The place in the payload of the issuer's length.
     pub issuer_at: usize,
+    /// How many characters the policy's namespace has.
+    pub policy_chars: usize,
+    /// How many characters the issuer's namespace has.
+    pub issuer_chars: usize,
     /// How many propositions there are.
     pub propositions: usize,
     /// How many proofs there are.
