@@ -2,3 +2,4 @@ pub mod RuleLaws
 pub mod ViewLaws
 pub mod ViewOf
 pub mod DeriveLaws
+pub mod WitnessLaws

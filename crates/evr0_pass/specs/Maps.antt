@@ -3,10 +3,11 @@ use Prim.Native.Nat.{ℕ}
 use mathlib.Core.Path.{_≡_}
 use mathlib.Core.List.{List, []}
 use lib.ListN.{length}
-use Rattle.local_format.specs.Out.{Out, ok, refused, _>>=_}
+use lib.Dec.{eqb}
+use Rattle.local_format.specs.Out.{Out, ok, refused, check, _>>=_, _>>_}
 use Rattle.local_format.specs.Maps.{refusalOut}
 use Rattle.lent_table.specs.Lent.{lent}
-use Rattle.derivation.specs.Rule.{fourRules}
+use Rattle.derivation.specs.Rule.{Rule, fourRules, polarityFits}
 use Rattle.derivation.specs.Section as section
 use Rattle.evr0_head.specs.Maps.{countsOut}
 use Rattle.evr0_records.specs.Maps.{ruleOut}
@@ -62,3 +63,7 @@ depthsIn (refused r) = []
 pub record Derives (x : Out (List ℕ)) (before after : List ℕ) (given : Out (Unit {0})) : Type 0 where
   pub answer : given ≡ doneIn x
   pub depths : after ≡ lent (length before) (depthsIn x)
+
+-- what a witness of this proposition and polarity is answered, under a settled rule and for a proof's own proposition
+abbrev pub suited : Rule → ℕ → ℕ → ℕ → Out (Unit {0})
+suited rule own found polarity = check (eqb found own) 28 0 >> check (polarityFits rule polarity) 29 0

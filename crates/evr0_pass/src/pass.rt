@@ -10,7 +10,7 @@ ghost use Rattle.derivation.specs.Pass as of;
 ghost use Rattle.evr0_fields.specs.Maps.{checkedOut};
 ghost use Rattle.evr0_records.specs.Maps.{ruleOut};
 ghost use Rattle.evr0_pass.specs.View.{proofView, afterName, nameAt, Known, TablesThere, ProofDue};
-ghost use Rattle.evr0_pass.specs.Maps.{layoutOut, tablesIn, proofOut, depthOut, filled, Derives};
+ghost use Rattle.evr0_pass.specs.Maps.{layoutOut, tablesIn, proofOut, depthOut, filled, Derives, suited};
 use evr0_fields::check::Checked;
 use evr0_fields::number::ProofNumber;
 use evr0_fields::number::PropositionIndex;
@@ -154,6 +154,20 @@ fn parents_from(
     Depth::Found(deepest)
 }
 
+// One witness of a proof: its proposition is the proof's, else 28; its polarity is the settled rule's, else 29.
+fn suits(rule: Rule, own: PropositionIndex, found: PropositionIndex, polarity: u8) -> Checked
+    ensures { λ r. ⌜ checkedOut r ≡ suited (ruleOut rule) (own .0) (found .0) polarity ⌝ }
+{
+    if found.0 != own.0 {
+        return evr0_fields::check::refused(28, 0);
+    }
+    let fits = evr0_records::rule::polarity_fits(rule, polarity);
+    if !fits {
+        return evr0_fields::check::refused(29, 0);
+    }
+    Checked::Passed
+}
+
 // The witnesses of `proof`.
 fn witnesses_from(payload: &[u8], tables: Layout, proof: Proof) -> Checked
     requires { ⌜ tables .«witnesses_at» + 84 * tables .counts .witnesses ≤ length (now payload) ⌝ }
@@ -166,17 +180,18 @@ fn witnesses_from(payload: &[u8], tables: Layout, proof: Proof) -> Checked
     let end = witness + evr0_fields::number::wide(proof.witness_count);
     while witness < end {
         let at = tables.witnesses_at + 84 * witness;
-        let own = proof.proposition_index.0;
-        let found = u32_at(payload, at + 4);
-        if found != own {
-            return evr0_fields::check::refused(28, 0);
-        }
         let rule = proof.rule;
-        let fits = evr0_records::rule::polarity_fits(rule, payload[at + 8]);
-        if !fits {
-            return evr0_fields::check::refused(29, 0);
+        let own = proof.proposition_index;
+        let found = PropositionIndex(u32_at(payload, at + 4));
+        let checked = suits(rule, own, found, payload[at + 8]);
+        match checked {
+            Checked::Refused(refusal) => {
+                return Checked::Refused(refusal);
+            }
+            Checked::Passed => {
+                witness += 1;
+            }
         }
-        witness += 1;
     }
     Checked::Passed
 }

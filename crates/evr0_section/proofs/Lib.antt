@@ -10,3 +10,4 @@ pub mod Progress
 pub mod Inside
 pub mod SectionWithin
 pub mod Counted
+pub mod Settled
