@@ -3,3 +3,4 @@ pub mod SectionLaws
 pub mod AnswerLaws
 pub mod CheckLaws
 pub mod DecodeLaws
+pub mod Neighbours

@@ -6,3 +6,4 @@ pub mod TableLaws
 pub mod FindLaws
 pub mod AskLaws
 pub mod Listing
+pub mod Neighbours

@@ -11,3 +11,4 @@ pub mod Inside
 pub mod SectionWithin
 pub mod Counted
 pub mod Settled
+pub mod Neighbours

@@ -3,7 +3,7 @@
 use Prim.Native.Nat.{ℕ, _+_, _*_, _≤_, min}
 use mathlib.Core.Path.{_≡_, refl, ap, _∙_}
 use mathlib.Core.Logic.{_⊎_, inl, inr, ⊎-elim}
-use mathlib.Core.Bool.{true, _&&_}
+use mathlib.Core.Bool.{true, false, _&&_}
 use mathlib.Core.List.{List}
 use native.Mathlib.Omega.{arith}
 use lib.Dec.{leb}
@@ -137,6 +137,23 @@ module _ (rules : List Rule) (room : Room) where
 
     pub stage : (r : Refusal) → sectionAt rules room bytes cursor ≡ refused r → Stage rules room bytes cursor r
     stage r e = each-refused stages e
+
+    -- 14 and 15: after 3 and 13 no sum is above its limit
+    pub never-14-15 : (r : Refusal) → sectionAt rules room bytes cursor ≡ refused r → (r .number ≡ 14 → ⊥) × (r .number ≡ 15 → ⊥)
+    unfolding early
+    never-14-15 r e = of-stage (stage r e)
+      where
+        of-number : {n : ℕ} → Numbered room (min 4194304 (length bytes)) n → (n ≡ 14 → ⊥) × (n ≡ 15 → ⊥)
+        of-number (usual t) = (
+          (λ e. let z : false ≡ true = rw e at t in absurd (let q : _≡_ {A = ℕ} 0 1 = cc in omega arith)),
+          (λ e. let z : false ≡ true = rw e at t in absurd (let q : _≡_ {A = ℕ} 0 1 = cc in omega arith)),
+        )
+        of-number (long h) = absurd (omega arith)
+        of-number (short c l h) = ((λ e. omega arith), (λ e. omega arith))
+
+        of-stage : Stage rules room bytes cursor r → (r .number ≡ 14 → ⊥) × (r .number ≡ 15 → ⊥)
+        of-stage (inTables t w) = of-number (tables-number bytes cursor t)
+        of-stage (inLastPass t h a b) = ((λ e. omega arith), (λ e. omega arith))
 
 pub four-within : (room : Room) (p : List ℕ) (cursor : ℕ) {r : Refusal} → sectionIn fourRules room p cursor ≡ refused r → r .offset ≤ length p
 four-within room = section-within fourRules room

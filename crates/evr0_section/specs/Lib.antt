@@ -6,3 +6,4 @@ pub mod Witness
 pub mod Section
 pub mod Demand
 pub mod Characters
+pub mod Neighbours

@@ -6,3 +6,4 @@ pub mod Small
 pub mod Front
 pub mod Each
 pub mod Chains
+pub mod Needed

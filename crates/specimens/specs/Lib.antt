@@ -5,3 +5,4 @@ pub mod Specimens
 pub mod Runs
 pub mod Written
 pub mod Examples
+pub mod Needed

@@ -6,6 +6,7 @@ pub mod block_compare;
 pub mod block_numbers;
 pub mod blocks;
 pub mod fields;
+pub mod neighbours;
 pub mod section_binding;
 pub mod section_compare;
 pub mod section_expected;

@@ -12,7 +12,7 @@ use inputs::section_conditions::{condition, counts};
 use port::section::decode_evr0_section;
 
 /// Room for propositions, proofs and depths.
-type Rooms = [usize; 3];
+pub type Rooms = [usize; 3];
 
 pub fn compare(tally: &mut Tally, case: &SectionCase) {
     let rust = oracle::section::section(&case.file, case.cursor);
@@ -35,16 +35,16 @@ pub fn compare(tally: &mut Tally, case: &SectionCase) {
 }
 
 /// Room enough: a proposition takes 15 bytes at least and a proof 35, and larger counts are refused before 61 is asked.
-fn rooms(case: &SectionCase) -> Rooms {
+pub fn rooms(case: &SectionCase) -> Rooms {
     let length = case.file.len();
     let proofs = length / 35 + 1;
     [length / 15 + 1, proofs, proofs + length % 3]
 }
 
-type Called = (Answer<Head>, usize, [Vec<u64>; 3]);
+pub type Called = (Answer<Head>, usize, [Vec<u64>; 3]);
 
 /// The port's answer, the cursor and the tables after it.
-fn call(case: &SectionCase, rooms: Rooms) -> Called {
+pub fn call(case: &SectionCase, rooms: Rooms) -> Called {
     let mut tables = rooms.map(|room| vec![OLD; room]);
     let [propositions, proofs, depths] = &mut tables;
     let (answer, cursor) =
@@ -71,7 +71,7 @@ fn expected(case: &SectionCase, rust: &Answer<Section>, rooms: Rooms) -> Called 
     }
 }
 
-fn what(case: &SectionCase) -> String {
+pub fn what(case: &SectionCase) -> String {
     format!("cursor {}, {}", case.cursor, hex(&case.file))
 }
 

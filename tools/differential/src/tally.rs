@@ -21,6 +21,8 @@ pub struct Tally {
     outcomes: BTreeMap<Outcome, u64>,
     /// The conditions that can be reached.
     reachable: &'static [Outcome],
+    /// Whether the Rust is asked.
+    rust: bool,
     shown: Instant,
 }
 
@@ -39,7 +41,16 @@ impl Tally {
             differences: 0,
             outcomes: BTreeMap::new(),
             reachable,
+            rust: true,
             shown: Instant::now(),
+        }
+    }
+
+    /// A part that the port answers alone.
+    pub fn alone(part: &'static str) -> Self {
+        Tally {
+            rust: false,
+            ..Tally::new(part)
         }
     }
 
@@ -115,6 +126,9 @@ impl Tally {
 
     /// How many inputs the Rust answers too, and how many of those are accepted.
     pub fn with_rust_side(&self) -> (u64, u64) {
+        if !self.rust {
+            return (0, 0);
+        }
         let of = |wanted: fn(u8) -> bool| -> u64 {
             let found = self.outcomes.iter().filter(|((n, _), _)| wanted(*n));
             found.map(|(_, count)| count).sum()
