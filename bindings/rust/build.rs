@@ -7,7 +7,9 @@ fn main() {
     let library = folder.join("libfalgnust.a");
     println!("cargo::rerun-if-changed={}", library.display());
     if !library.exists() {
-        println!("cargo::error=`rt staticlib falgnust` has to write target/staticlib/libfalgnust.a");
+        println!(
+            "cargo::error=`rt staticlib falgnust` has to write target/staticlib/libfalgnust.a"
+        );
     }
     println!("cargo::rustc-link-search=native={}", folder.display());
     println!("cargo::rustc-link-lib=static=falgnust");

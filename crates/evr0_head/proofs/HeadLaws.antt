@@ -124,19 +124,6 @@ module _ (room : Room) (p : List ℕ) where
   unfolding checkedHead
   checked-as e = rw e
 
-  -- what comes after a head and its counts' checks comes after a checked head
-  pub checked-then : {A : Type 0} (f : Head → Out A) → (headOf p >>= λ h. checkCounts room p h >> f h) ≡ (checkedHead room p >>= f)
-  unfolding checkedHead
-  checked-then f = go (headOf p)
-    where
-      after : (x : Out (Unit {0})) (h : Head) → (x >> f h) ≡ ((x >> ok h) >>= f)
-      after (ok u) h = refl
-      after (refused r) h = refl
-
-      go : (x : Out Head) → (x >>= λ h. checkCounts room p h >> f h) ≡ ((x >>= λ h. checkCounts room p h >> ok h) >>= f)
-      go (ok h) = after (checkCounts room p h) h
-      go (refused r) = refl
-
 -- ---- What the code's answer says of a head
 pub besides : {A : Type 0} (first second : A → List ℕ) (d : Out A) → beside first second d .answer ≡ d
 besides first second (ok a) = refl

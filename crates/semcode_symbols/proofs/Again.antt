@@ -27,7 +27,7 @@ use denote.Lend.{Held, lends-slice, slice-back}
 use denote.Index.{row, whole-out, whole-in, opens-slice, closes-slice}
 
 module _ (R : RattleType) (κ κ′ : Lft) (q : Share) (γ : GName) (b o : ℕ) where
-  abbrev at-list : GName → List (R .Denot) → RefT (List (R .Denot))
+  abbrev pub at-list : GName → List (R .Denot) → RefT (List (R .Denot))
   at-list δ ys = record { ptr = (b, o); name = δ; now = ys }
 
   abbrev pub LentAgain : GName → List (R .Denot) → Fml
@@ -38,8 +38,16 @@ module _ (R : RattleType) (κ κ′ : Lft) (q : Share) (γ : GName) (b o : ℕ) 
     abbrev vals : List Val
     vals = sliceVal (b, o) (length ys) ∷ []
 
-    pub lends-again : ent 𝓤 (sep 𝓤 (sem 𝓤 H A (MutSlice ℓ κ R .own (at-list γ ys) vals)) (A .lft κ q))
-        (H .⇛ (ex 𝓤 (λ (γ₁ : GName). sep 𝓤 (sem 𝓤 H A (MutSlice ℓ′ κ′ R .own (at-list γ₁ ys) vals)) (sem 𝓤 H A (LentAgain γ₁ ys)))))
+    -- the two laws, where the machine value has the count m
+    abbrev pub Lends : ℕ → Type 1
+    Lends m = ent 𝓤 (sep 𝓤 (sem 𝓤 H A (MutSlice ℓ κ R .own (at-list γ ys) (sliceVal (b, o) m ∷ []))) (A .lft κ q))
+        (H .⇛ (ex 𝓤 (λ (γ₁ : GName). sep 𝓤 (sem 𝓤 H A (MutSlice ℓ′ κ′ R .own (at-list γ₁ ys) (sliceVal (b, o) m ∷ []))) (sem 𝓤 H A (LentAgain γ₁ ys)))))
+
+    abbrev pub Back : GName → List (R .Denot) → ℕ → Type 1
+    Back γ₁ zs m = ent 𝓤 (sep 𝓤 (A .dead κ′) (sep 𝓤 (sem 𝓤 H A (LentAgain γ₁ ys)) (sem 𝓤 H A (finally R γ₁ zs))))
+        (H .⇛ (sep 𝓤 (sem 𝓤 H A (MutSlice ℓ κ R .own (at-list γ zs) (sliceVal (b, o) m ∷ []))) (A .lft κ q)))
+
+    lends-again : Lends (length ys)
     lends-again =
         qed W (‵ (MutSlice ℓ κ R .own (at-list γ ys) vals) ∷ ‵ (flft κ q) ∷ []) ∵ updating ! $ fsplit ! $ pureL ! (at-slice R (at-list γ ys) vals)
         (λ p. fsplit ! $ opens-slice ! tt R ys b o $
@@ -50,9 +58,7 @@ module _ (R : RattleType) (κ κ′ : Lft) (q : Share) (γ : GName) (b o : ℕ) 
         at-once ! $ show ! (λ (γ′ : GName). sep 𝓤 (sem 𝓤 H A (MutSlice ℓ′ κ′ R .own (at-list γ′ ys) vals)) (sem 𝓤 H A (LentAgain γ′ ys))) γ₁ $ frame ! $
         move ! (2 ∷ 3 ∷ []) $ fjoin ! $ move ! (2 ∷ 0 ∷ []) $ fjoin ! $ move ! (1 ∷ 0 ∷ []) $ fjoin ! $ done !))
 
-    pub comes-back : (γ₁ : GName) (zs : List (R .Denot)) → Room R (length ys) → length zs ≡ length ys
-        → ent 𝓤 (sep 𝓤 (A .dead κ′) (sep 𝓤 (sem 𝓤 H A (LentAgain γ₁ ys)) (sem 𝓤 H A (finally R γ₁ zs))))
-        (H .⇛ (sep 𝓤 (sem 𝓤 H A (MutSlice ℓ κ R .own (at-list γ zs) vals)) (A .lft κ q)))
+    comes-back : (γ₁ : GName) (zs : List (R .Denot)) → Room R (length ys) → length zs ≡ length ys → Back γ₁ zs (length ys)
     comes-back γ₁ zs room e =
         qed W (‵ (fdead κ′) ∷ ‵ (LentAgain γ₁ ys) ∷ ‵ (finally R γ₁ zs) ∷ []) ∵ updating ! $ move ! (1 ∷ []) $ fsplit ! $ move ! (2 ∷ 0 ∷ 3 ∷ []) $
         use3 W (later (‵ (Arr (mem R) (length ys) .lies zs b o))) (slice-back 𝓤 H A W R κ′ γ₁ zs (length ys) b o) $ await ! tt $ fsplit ! $ drop ! $
@@ -61,18 +67,8 @@ module _ (R : RattleType) (κ κ′ : Lft) (q : Share) (γ : GName) (b o : ℕ) 
         fjoin ! $ pureI ! (at-slice R (at-list γ zs) vals) (tt, (tt, tt))
         (ap (λ (m : ℕ). sliceVal (b, o) m ∷ []) (sym e), subst (Room R) (sym e) room) $ fjoin ! $ done !
 
-    -- the same, where the machine value has the count n
-    pub lends-again-at : (n : ℕ) → length ys ≡ n → ent 𝓤 (sep 𝓤 (sem 𝓤 H A (MutSlice ℓ κ R .own (at-list γ ys) (sliceVal (b, o) n ∷ []))) (A .lft κ q))
-        (H .⇛ (ex 𝓤 (λ (γ₁ : GName). sep 𝓤 (sem 𝓤 H A (MutSlice ℓ′ κ′ R .own (at-list γ₁ ys) (sliceVal (b, o) n ∷ []))) (sem 𝓤 H A (LentAgain γ₁ ys)))))
-    lends-again-at n e =
-        subst (λ (m : ℕ). ent 𝓤 (sep 𝓤 (sem 𝓤 H A (MutSlice ℓ κ R .own (at-list γ ys) (sliceVal (b, o) m ∷ []))) (A .lft κ q))
-        (H .⇛ (ex 𝓤 (λ (γ₁ : GName). sep 𝓤 (sem 𝓤 H A (MutSlice ℓ′ κ′ R .own (at-list γ₁ ys) (sliceVal (b, o) m ∷ [])))
-        (sem 𝓤 H A (LentAgain γ₁ ys)))))) e lends-again
+    pub lends-again-at : (n : ℕ) → length ys ≡ n → Lends n
+    lends-again-at n e = subst Lends e lends-again
 
-    pub comes-back-at : (n : ℕ) → length ys ≡ n → (γ₁ : GName) (zs : List (R .Denot)) → Room R n → length zs ≡ length ys
-        → ent 𝓤 (sep 𝓤 (A .dead κ′) (sep 𝓤 (sem 𝓤 H A (LentAgain γ₁ ys)) (sem 𝓤 H A (finally R γ₁ zs))))
-        (H .⇛ (sep 𝓤 (sem 𝓤 H A (MutSlice ℓ κ R .own (at-list γ zs) (sliceVal (b, o) n ∷ []))) (A .lft κ q)))
-    comes-back-at n e γ₁ zs room l =
-        subst (λ (m : ℕ). ent 𝓤 (sep 𝓤 (A .dead κ′) (sep 𝓤 (sem 𝓤 H A (LentAgain γ₁ ys)) (sem 𝓤 H A (finally R γ₁ zs))))
-        (H .⇛ (sep 𝓤 (sem 𝓤 H A (MutSlice ℓ κ R .own (at-list γ zs) (sliceVal (b, o) m ∷ []))) (A .lft κ q)))) e
-        (comes-back γ₁ zs (subst (Room R) (sym e) room) l)
+    pub comes-back-at : (n : ℕ) → length ys ≡ n → (γ₁ : GName) (zs : List (R .Denot)) → Room R n → length zs ≡ length ys → Back γ₁ zs n
+    comes-back-at n e γ₁ zs room l = subst (Back γ₁ zs) e (comes-back γ₁ zs (subst (Room R) (sym e) room) l)

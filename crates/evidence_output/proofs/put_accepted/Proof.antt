@@ -17,12 +17,12 @@ pub put-accepted-spec : {M : Type 1} → statement M
 put-accepted-spec =
     tie.close
     (tie.spec
-    (λ c κs. search needs)
+    (search needs)
     (λ c. search needs)
     (λ c. search needs)
     (λ c. search needs)
     (λ c. sym (length-take-le _ _ (omega arith)))
     (λ c. sym (length-take-le _ _ (omega arith)))
-    (λ c κs. search needs)
+    (search needs)
     (λ c. search needs)
     returns)

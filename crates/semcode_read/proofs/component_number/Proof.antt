@@ -13,8 +13,8 @@ use Rattle.semcode_decode.specs.Number.{decodeAnew, componentNumber, blockIn, t
 use Rattle.semcode_read.specs.After.{componentAfter}
 use Rattle.semcode_read.proofs.AnswerLaws.{kept, cleared}
 use Rattle.semcode_read.proofs.ComponentLaws.{ChosenPath, chosen-path, no-path, component-missing, component-found}
-use Rattle.semcode_read.proofs.component_number.Statement.{statement}
-use Rattle.semcode_read.proofs.component_number.Tie as tie
+use Rattle.semcode_read.proofs.component_number as f
+use f.Tie as tie
 
 -- the call that reads the path, the tables before it, and the block that it speaks of
 abbrev call : tie.After-answer → tie.After-path-number
@@ -37,21 +37,17 @@ chosen k =
     chosen-path (p .before .before .before .before .before .before .args .number) (block p)
     (told pathOut (p .path-number .ensures .answer) (k .answer .given .1))
 
-returns : tie.Need-returns
-returns c =
-    let k = c .before in
+pub component-number-spec : {M : Type 1} → f.Statement.statement M
+component-number-spec =
+    tie.close (tie.spec (search needs) (search needs) (search needs) (search needs) (search needs) (search needs)
+    (λ c. let k = c .before in
     let p = k .before .before .before .before .before .before in
     let a = p .before .before .before .before .before .before .args in
     let b = no-path (a .number) (a .component) (block p) (told pathOut (p .path-number .ensures .answer) (k .enum-told .given .1)) in
     let q = c .path-refusal .ensures ∙ ap (λ (x : Path). refusalOf (pathOut x)) (k .enum-told .given .1) in
     kept takenIn (componentNumber (a .number) (a .component) (block p)) (brought p) (p .path-number .ensures) (ap blockIn (b .0) ∙ sym (ap blockIn (b .1)))
-    (ap refused q ∙ ap takenIn (sym (b .0)))
-
-returns-2 : tie.Need-returns-2
-returns-2 c =
-    let ek = c .before in
-    let i = ek .before in
-    let k = i .before .before .before in
+    (ap refused q ∙ ap takenIn (sym (b .0)))) (search needs) (search needs) (search needs) (search needs) (search needs) (search needs)
+    (λ c. let k = c .before .before .before .before .before in
     let p = call k in
     let a = p .before .before .before .before .before .before .args in
     let h = headIs (k .answer .given .0 .0) in
@@ -61,15 +57,12 @@ returns-2 c =
     component-found (a .number) (a .component) (block p) (ch .block) (ch .entry) h (ch .accepted) (ch .is) (ch .read-back) (a .header-rev)
     rooms (a .code .now)
     (based-ok (a .base-offset) (blockOf (a .header-rev) rooms (a .code .now)) (ch .accepted))
-    (i .if1 .taken)
+    (c .before .before .if1 .taken)
     in
     kept takenIn (componentNumber (a .number) (a .component) (block p)) (brought p) (p .path-number .ensures) (f .1)
     (c .component-after .ensures ∙ ap (λ (kind : ℕ). componentAfter (a .header-rev) kind (a .code .now) (a .component) (h .start))
-    (ek .event-kind .ensures) ∙ f .0)
-
-returns-3 : tie.Need-returns-3
-returns-3 c =
-    let n = c .before .before .before .before in
+    (c .before .event-kind .ensures) ∙ f .0)) (search needs) (search needs) (search needs)
+    (λ c. let n = c .before .before .before .before in
     let i = n .before .before .before in
     let k = i .before .before .before in
     let p = call k in
@@ -82,11 +75,4 @@ returns-3 c =
     in
     cleared takenIn (componentNumber (a .number) (a .component) (block p)) (brought p)
     (tables (p .path-number .last .1 .1 .1 .1 .0) (p .path-number .last .1 .1 .1 .1 .1 .0))
-    (n .not-there .ensures) e (p .path-number .kept .1 .1 .1 .1 .0) (p .path-number .kept .1 .1 .1 .1 .1 .0) (ap refused (n .not-there .ensures .answer))
-
-pub component-number-spec : {M : Type 1} → statement M
-component-number-spec =
-    tie.close
-    (tie.spec (λ c κs. search needs) (λ c. search needs) (λ c. search needs) (λ c κs. search needs) (λ c. search needs) (λ c. search needs) returns
-    (λ c. search needs) (λ c. search needs) (λ c κs. search needs) (λ c κs. search needs) (λ c. search needs) (λ c. search needs) returns-2
-    (λ c κs. search needs) (λ c. search needs) (λ c. search needs) returns-3)
+    (n .not-there .ensures) e (p .path-number .kept .1 .1 .1 .1 .0) (p .path-number .kept .1 .1 .1 .1 .1 .0) (ap refused (n .not-there .ensures .answer))))

@@ -12,8 +12,8 @@ use Rattle.semcode_decode.specs.Layout.{Lent, tables}
 use Rattle.semcode_decode.specs.Number.{decodeAnew, stringNumber, textIn}
 use Rattle.semcode_decode.specs.Maps.{parseOut}
 use Rattle.semcode_read.proofs.AnswerLaws.{cleared, refused-anew, string-anew, missing-anew}
-use Rattle.semcode_read.proofs.string_number.Statement.{statement}
-use Rattle.semcode_read.proofs.string_number.Tie as tie
+use Rattle.semcode_read.proofs.string_number as f
+use f.Tie as tie
 
 -- the tables at the decoder's call, and after it
 abbrev brought : tie.After-parse-block → Lent
@@ -27,16 +27,6 @@ left p = tables (p .parse-block .last .1 .1 .1 .1 .0) (p .parse-block .last .1 .
 abbrev parsed : tie.After-answer → tie.After-parse-block
 parsed k = k .before .before .before .before .before .before
 
-returns : tie.Need-returns
-unfolding stringNumber
-returns c =
-    let k = c .before in
-    let p = k .before .before .before .before .before .before in
-    let a = p .before .before .before .before .before .before .args in
-    refused-anew (a .base-offset) (a .header-rev) (a .code .now) (brought p) (left p) (p .parse-block .ensures) textIn
-    (λ b. numbered (a .number) (b .strings .entries)) (ap parseOut (k .enum-told .given .1))
-    (ap refused (c .parse-refusal .ensures ∙ ap (λ (x : Parse). refusalOf (parseOut x)) (k .enum-told .given .1)))
-
 -- the number is in the table
 within : (i : tie.Then1)
     → let p = parsed (i .before .before .before) in
@@ -49,22 +39,24 @@ within i =
     string-anew (a .base-offset) (a .header-rev) (a .code .now) (brought p) (left p) (p .parse-block .ensures) (ap parseOut (k .answer .given .1))
     (a .number) (i .if1 .taken) .0
 
-mul-read-string : tie.Need-mul-read-string
-mul-read-string c = record { fits = omega (arith, within c, parsed (c .before .before .before) .parse-block .kept .1 .1 .1 .1 .0) }
-
-returns-2 : tie.Need-returns-2
-returns-2 c =
-    let i = c .before .before in
-    let k = i .before .before .before in
+pub string-number-spec : {M : Type 1} → f.Statement.statement M
+unfolding stringNumber
+string-number-spec =
+    tie.close (tie.spec (search needs) (search needs) (search needs) (search needs) (search needs) (search needs)
+    (λ c. let k = c .before in
+    let p = k .before .before .before .before .before .before in
+    let a = p .before .before .before .before .before .before .args in
+    refused-anew (a .base-offset) (a .header-rev) (a .code .now) (brought p) (left p) (p .parse-block .ensures) textIn
+    (λ b. numbered (a .number) (b .strings .entries)) (ap parseOut (k .enum-told .given .1))
+    (ap refused (c .parse-refusal .ensures ∙ ap (λ (x : Parse). refusalOf (parseOut x)) (k .enum-told .given .1))))
+    (λ c. record { fits = omega (arith, within c, parsed (c .before .before .before) .parse-block .kept .1 .1 .1 .1 .0) })
+    (λ c. within (c .before)) (search needs) (search needs) (search needs)
+    (λ c. let k = c .before .before .before .before .before in
     let p = parsed k in
     let a = p .before .before .before .before .before .before .args in
     string-anew (a .base-offset) (a .header-rev) (a .code .now) (brought p) (left p) (p .parse-block .ensures) (ap parseOut (k .answer .given .1))
-    (a .number) (i .if1 .taken) .1 _ (c .read-string .ensures)
-
-returns-3 : tie.Need-returns-3
-unfolding stringNumber
-returns-3 c =
-    let n = c .before .before .before .before in
+    (a .number) (c .before .before .if1 .taken) .1 _ (c .read-string .ensures)) (search needs) (search needs) (search needs)
+    (λ c. let n = c .before .before .before .before in
     let i = n .before .before .before in
     let k = i .before .before .before in
     let p = parsed k in
@@ -74,11 +66,4 @@ returns-3 c =
     (a .number) (λ b. b .strings .entries) (λ l. l .strings) (λ b. refl) (i .if1 .left)
     in
     cleared textIn (stringNumber (a .number) (decodeAnew (a .base-offset) (a .header-rev) (a .code .now) (brought p))) (brought p) (left p)
-    (n .not-there .ensures) e (p .parse-block .kept .1 .1 .1 .1 .0) (p .parse-block .kept .1 .1 .1 .1 .1 .0) (ap refused (n .not-there .ensures .answer))
-
-pub string-number-spec : {M : Type 1} → statement M
-string-number-spec =
-    tie.close
-    (tie.spec (λ c κs. search needs) (λ c. search needs) (λ c. search needs) (λ c κs. search needs) (λ c. search needs) (λ c. search needs) returns
-    mul-read-string (λ c. within (c .before)) (λ c κs. search needs) (λ c. search needs) (λ c. search needs) returns-2
-    (λ c κs. search needs) (λ c. search needs) (λ c. search needs) returns-3)
+    (n .not-there .ensures) e (p .parse-block .kept .1 .1 .1 .1 .0) (p .parse-block .kept .1 .1 .1 .1 .1 .0) (ap refused (n .not-there .ensures .answer))))

@@ -31,29 +31,27 @@ use Rattle.semcode_symbols.proofs.Filled.{Filled, Nearer, nearer-wf, ne
 use Rattle.semcode_symbols.proofs.Wanted.{none, wanted, wanted-long, wanted-is, is-wanted}
 use Rattle.semcode_symbols.proofs.SymbolsLaws.{how-many}
 use Rattle.semcode_symbols.proofs.symbol_at as g
-use Rattle.semcode_symbols.proofs.symbol_at.Symbol as g-def
-use Rattle.semcode_symbols.proofs.symbol_at.Symbol.{name as #symbol-at}
-use Rattle.semcode_symbols.proofs.symbol_at.Met as g-thm
+use g.Symbol as g-def
+use g.Symbol.{name as #symbol-at}
+use g.Met as g-thm
 use Rattle.semcode_symbols.proofs.store_symbol as h
-use Rattle.semcode_symbols.proofs.store_symbol.Symbol as h-def
-use Rattle.semcode_symbols.proofs.store_symbol.Symbol.{name as #store-symbol}
-use Rattle.semcode_symbols.proofs.store_symbol.Met as h-thm
-use Rattle.semcode_symbols.proofs.fill_symbols.Key.{name as #fill-symbols}
+use h.Symbol as h-def
+use h.Symbol.{name as #store-symbol}
+use h.Met as h-thm
 use Rattle.semcode_symbols.proofs.fill_symbols as f
-use Rattle.semcode_symbols.proofs.fill_symbols.Statement as stated
-use Rattle.semcode_symbols.proofs.fill_symbols.Code as code
-use Rattle.semcode_symbols.proofs.fill_symbols.Code.Mir as body
-use Rattle.semcode_symbols.proofs.Walk.{_≡_, refl, ap, subst, sym, ℕ, _<_, _≤_, _-_, _*_, _^_, [], _∷_, List, length, URA, fullShare, named}
-use Rattle.semcode_symbols.proofs.Walk.{w16, w32, w64, Val, vunit, vint, SProp, ent, emp, Lft, Share, GName, Fml, fsep, feq, fat, froom, fdies}
-use Rattle.semcode_symbols.proofs.Walk.{flft, Memory, Routine, Heap, Env, Calls, Loops, WpFn, Tables, Atoms, Fun, fact, factI, givenOf, tables}
-use Rattle.semcode_symbols.proofs.Walk.{tablesOf, Lfts, AllOutlive, Given, Item, ‵, raw, some, later, _⊛_, ⋆, _$_, _∵_, !, qed, by, move, keep}
-use Rattle.semcode_symbols.proofs.Walk.{drop, use1, use2, use3, split, pick, rewrite, fsplit, feqL, feqI, updating, await, look, init, store}
-use Rattle.semcode_symbols.proofs.Walk.{forget, stop, hop, fld, from, load, addr, lit, of-opd, bin, and-then, no-more, assigns, land, returns}
-use Rattle.semcode_symbols.proofs.Walk.{enter, alloc1, alloc0, params1, pass1, pass0, whole, sub, look-in, agg, fmOf, RattleType, Is, Spells}
-use Rattle.semcode_symbols.proofs.Walk.{valss, shows, uint-vals, uint-tells, nothing-lawful, u8, unit, RefT, sliceVal, MutSlice, ShrSlice}
-use Rattle.semcode_symbols.proofs.Walk.{Room, finally, slice-vals, mut-slice-tells, shr-slice-tells, shr-slice-copy, plain, typesAt, only}
-use Rattle.semcode_symbols.proofs.Walk.{facts, heard, Meets, tripleOf, Triple, entered, cited, had, Met, number, called, leaves, freed}
-use Rattle.semcode_symbols.proofs.Walk.{by-walk}
+use f.Key.{name as #fill-symbols}
+use f.Statement as stated
+use f.Code as code
+use f.Code.Mir as body
+use Rattle.semcode_symbols.proofs.Walk as walks
+use walks.{_≡_, refl, ap, subst, sym, ℕ, _<_, _≤_, _-_, _*_, _^_, [], _∷_, List, length, URA, fullShare, named, w16, w32, w64, Val, vunit, vint, SProp, ent}
+use walks.{emp, Lft, Share, GName, Fml, fsep, feq, fat, froom, fdies, flft, Memory, Routine, Heap, Env, Calls, Loops, WpFn, Tables, Atoms, Fun, fact, factI}
+use walks.{givenOf, tables, tablesOf, Lfts, AllOutlive, Given, Item, ‵, raw, some, later, _⊛_, ⋆, _$_, _∵_, !, qed, by, move, keep, drop, use1, use2, use3}
+use walks.{split, pick, rewrite, fsplit, feqL, feqI, updating, await, look, init, store, forget, stop, hop, fld, from, load, addr, lit, of-opd, bin}
+use walks.{and-then, no-more, assigns, land, returns, enter, alloc1, alloc0, params1, pass1, pass0, whole, sub, look-in, agg, fmOf, RattleType, Is, Spells}
+use walks.{valss, shows, uint-vals, uint-tells, nothing-lawful, u8, unit, RefT, sliceVal, MutSlice, ShrSlice, Room, finally, slice-vals, mut-slice-tells}
+use walks.{shr-slice-tells, shr-slice-copy, plain, typesAt, only, facts, heard, Meets, tripleOf, Triple, entered, cited, had, Met, number, called, leaves}
+use walks.{freed, by-walk, local}
 
 abbrev spelt : (κs : Lfts 2) → Spells (typesAt (f.signature .params) κs)
 spelt κs = (slice-vals, (slice-vals, (uint-vals w64, (uint-vals w64, tt))))
@@ -191,10 +189,10 @@ module _ {M : Type 1} (𝓤 : URA M) (H : Heap 𝓤) (A : Atoms 𝓤) (W : Given
       stops t over =
           assigns ! (of-opd ! (load ! (from ! (fld ! refl (stop !))) (look-in ! 24 (sub ! 1 refl (whole !))))) (from ! (stop !))
           (init ! 12 refl (tt, record { fits = room .0 })) $
-          assigns ! (bin ! (load ! (from ! (stop !)) (look ! 16 refl)) (load ! (from ! (stop !)) (look ! 12 refl)) tt) (from ! (stop !))
+          assigns ! (bin ! (local ! 16 refl) (local ! 12 refl) tt) (from ! (stop !))
           (init ! 10 refl (tt, tt)) $
           rewrite ! 10 (λ (y : Bool). ‵ (fat fullShare tyBool l₈ 0 (vbool y))) (le-ltb (t .i) n over) refl $
-          leaves-loop ! (load ! (from ! (stop !)) (look ! 10 refl)) $ exec ! C Λ En body.t-3 (atRet En Post) $
+          leaves-loop ! (local ! 10 refl) $ exec ! C Λ En body.t-3 (atRet En Post) $
           assigns ! (of-opd ! (unit-lit !)) (from ! (stop !)) (init ! 26 refl (tt, tt)) $
           returns ! (look ! 26 refl) $ forget ! 10 refl $ forget ! 12 refl $ forget ! 16 refl $ forget ! 18 refl $ forget ! 20 refl $ forget ! 22 refl
           $ forget ! 24 refl $ forget ! 26 refl $
@@ -207,16 +205,16 @@ module _ {M : Type 1} (𝓤 : URA M) (H : Heap 𝓤) (A : Atoms 𝓤) (W : Given
       fills t less =
           assigns ! (of-opd ! (load ! (from ! (fld ! refl (stop !))) (look-in ! 24 (sub ! 1 refl (whole !))))) (from ! (stop !))
           (init ! 12 refl (tt, record { fits = room .0 })) $
-          assigns ! (bin ! (load ! (from ! (stop !)) (look ! 16 refl)) (load ! (from ! (stop !)) (look ! 12 refl)) tt) (from ! (stop !))
+          assigns ! (bin ! (local ! 16 refl) (local ! 12 refl) tt) (from ! (stop !))
           (init ! 10 refl (tt, tt)) $
           rewrite ! 10 (λ (y : Bool). ‵ (fat fullShare tyBool l₈ 0 (vbool y))) (lt-ltb (t .i) n less) refl $
-          stays ! (load ! (from ! (stop !)) (look ! 10 refl)) $
+          stays ! (local ! 10 refl) $
           -- `symbol_at`
           move ! (3 ∷ []) $ use1 W (‵ Own′ ⊛ ‵ Own′) (shr-slice-copy 𝓤 H A W (named 1) κ′ u8 .twice z (s′ ∷ [])) $ split ! $
           number ! w64 (t .i) (fits t) $ number ! w64 k k-fits $ number ! w64 at at-fits $ move ! (7 ∷ 3 ∷ 0 ∷ 1 ∷ 2 ∷ []) $
           called ! (fmOf 𝓤 H (W .laws) 𝓣) g.ended (g.clauses 𝓤 H A mem run) known-g (to-g (t .i)) (factI 𝓤 _ (emp 𝓤) inside)
-          (and-then ! (load ! (from ! (stop !)) (look ! 22 refl)) (and-then ! (load ! (from ! (stop !)) (look ! 20 refl))
-          (and-then ! (load ! (from ! (stop !)) (look ! 18 refl)) (and-then ! (load ! (from ! (stop !)) (look ! 16 refl)) (no-more !))))) (λ w r none′.
+          (and-then ! (local ! 22 refl) (and-then ! (local ! 20 refl)
+          (and-then ! (local ! 18 refl) (and-then ! (local ! 16 refl) (no-more !))))) (λ w r none′.
           heard ! _ (λ e. move ! (1 ∷ []) $ rewrite ! 0 (λ (y : DebugSymbol). ‵ (R .own y (w ∷ []))) (is-wanted n symbols (t .i) r e) refl $
           facts ! R (Is R) (shows 𝓤 H A R) (val (t .i)) (w ∷ []) (λ is.
           -- [the token of the bytes; the bytes; the list; its token; the locals]
@@ -224,7 +222,7 @@ module _ {M : Type 1} (𝓤 : URA M) (H : Heap 𝓤) (A : Atoms 𝓤) (W : Given
           rewrite ! 14 (λ (u : Val). ‵ (fat fullShare T′.mir l₆ 0 u)) (ap only (LL.tells T.the-type T′.the-laws (val (t .i)) _ is)) refl $
           -- the list is lent again
           assigns ! (addr ! (from ! (fld ! refl (hop ! (look-in ! 24 (sub ! 0 refl (whole !))) (stop !))))) (from ! (stop !)) (init ! 6 refl (tt, tt)) $
-          assigns ! (agg ! (and-then ! (load ! (from ! (stop !)) (look ! 6 refl))
+          assigns ! (agg ! (and-then ! (local ! 6 refl)
           (and-then ! (load ! (from ! (fld ! refl (stop !))) (look-in ! 24 (sub ! 1 refl (whole !)))) (no-more !)))) (from ! (stop !))
           (init ! 4 refl (tt, (tt, (record { fits = room .0 }, tt)))) $
           lft-new ! tt (λ ν. move ! (3 ∷ 4 ∷ []) $
@@ -236,7 +234,7 @@ module _ {M : Type 1} (𝓤 : URA M) (H : Heap 𝓤) (A : Atoms 𝓤) (W : Given
           number ! w64 (val (t .i) .pc) (fields is .0 .1) $ number ! w64 (t .i) (fits t) $ move ! (6 ∷ 4 ∷ 0 ∷ 1 ∷ 2 ∷ 3 ∷ []) $
           called ! (fmOf 𝓤 H (W .laws) 𝓣) h.ended (h.clauses 𝓤 H A mem run) known-h (to-h ν δ (t .l) (t .i))
           (factI 𝓤 _ (emp 𝓤) (subst (λ (m : ℕ). t .i < m) (sym (t .long)) less))
-          (and-then ! (load ! (from ! (stop !)) (look ! 4 refl)) (and-then ! (load ! (from ! (stop !)) (look ! 16 refl))
+          (and-then ! (local ! 4 refl) (and-then ! (local ! 16 refl)
           (and-then ! (load ! (from ! (fld ! refl (stop !))) (look-in ! 14 (sub ! 0 refl (whole !))))
           (and-then ! (load ! (from ! (fld ! refl (stop !))) (look-in ! 14 (sub ! 1 refl (whole !))))
           (and-then ! (load ! (from ! (fld ! refl (stop !))) (look-in ! 14 (sub ! 2 refl (whole !)))) (no-more !)))))) (λ u r′ zs.
@@ -248,7 +246,7 @@ module _ {M : Type 1} (𝓤 : URA M) (H : Heap 𝓤) (A : Atoms 𝓤) (W : Given
           (comes-back-at R κ (ν ∷ []) q γ b o 𝓤 H A W (named 0) (named 0) (t .l) n (t .long) δ (zs .0) room long) $ await ! tt $ split ! $
           rewrite ! 0 (λ (l : List DebugSymbol). ‵ (Own l)) e′ refl $
           -- [the list; its token; the token of the bytes; the bytes; the locals]
-          assigns-last ! (bin ! (load ! (from ! (stop !)) (look ! 16 refl)) (lit ! tt) (record { fits = next-fits })) (from ! (stop !))
+          assigns-last ! (bin ! (local ! 16 refl) (lit ! tt) (record { fits = next-fits })) (from ! (stop !))
           (store ! 16 refl (tt, record { fits = next-fits })) $
           forget ! 4 refl $ forget ! 6 refl $ forget ! 8 refl $ forget ! 10 refl $ forget ! 12 refl $ forget ! 14 refl $
           again ! Later At t (more goal none n goal-long t less) (nearer goal none n goal-long t less))))))))))

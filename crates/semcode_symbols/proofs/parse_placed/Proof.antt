@@ -2,19 +2,16 @@
 use borrow.Author.Needs.{needs}
 use Rattle.semcode_decode.specs.Layout.{tables, roomsOf}
 use Rattle.semcode_symbols.proofs.BlockSymbols.{as-told}
-use Rattle.semcode_symbols.proofs.parse_placed.Statement.{statement}
-use Rattle.semcode_symbols.proofs.parse_placed.Tie as tie
+use Rattle.semcode_symbols.proofs.parse_placed as f
+use f.Tie as tie
 
-returns : tie.Need-returns
-returns c =
-    let at = c .before in
+pub parse-placed-spec : {M : Type 1} → f.Statement.statement M
+parse-placed-spec =
+    tie.close (tie.spec (search needs) (search needs) (search needs) (search needs) (search needs)
+    (λ c. let at = c .before in
     let block = at .before .before .before .before .before in
     let a = block .before .before .before .before .before .before .args in
     let brought = tables (a .strings .now) (a .paths .now) in
     let told = as-told (a .header-rev) (roomsOf brought (a .symbols)) (a .code .now) (a .base-offset) (block .parse-block .ensures .answer) in
     rw (at .symbols-start .ensures, c .symbol-count .ensures)
-    (record { decoded = block .parse-block .ensures; inside = told .inside; room = told .room; are = told .are })
-
-pub parse-placed-spec : {M : Type 1} → statement M
-parse-placed-spec =
-    tie.close (tie.spec (λ c κs. search needs) (λ c κs. search needs) (λ c κs. search needs) (λ c. search needs) (λ c. search needs) returns)
+    (record { decoded = block .parse-block .ensures; inside = told .inside; room = told .room; are = told .are })))

@@ -7,29 +7,27 @@ use Rattle.semcode_decode.proofs.decode.Parse.Laws as D′
 use Rattle.semcode_records.specs.declared.symbol.DecodedDebugSymbol.{DecodedDebugSymbol}
 use Rattle.semcode_records.proofs.symbol.DecodedDebugSymbol as T
 use Rattle.semcode_symbols.specs.Symbols.{lentSymbols}
-use Rattle.semcode_symbols.proofs.Walk.{refl, ap, _∙_, ℕ, _<_, _^_, [], _∷_, List, length, URA, fullShare, named, w16, w64, Val, vint}
-use Rattle.semcode_symbols.proofs.Walk.{SProp, ent, id⊢, emp, Fml, fat, Memory, Routine, Heap, WpFn, Tables, Atoms, Fun, factI, givenOf}
-use Rattle.semcode_symbols.proofs.Walk.{tables, tablesOf, Lfts, Shares, AllOutlive, Given, ‵, raw, _⊛_, ⋆, _$_, _∵_, !, qed, by, move, keep}
-use Rattle.semcode_symbols.proofs.Walk.{use1, split, rewrite, look, init, forget, stop, hop, fld, from, load, addr, of-opd, and-then, no-more}
-use Rattle.semcode_symbols.proofs.Walk.{assigns, land, returns, enter, alloc1, alloc0, params1, pass1, pass0, whole, sub, look-in, agg, fmOf}
-use Rattle.semcode_symbols.proofs.Walk.{Is, Are, Ises, Spells, valss, shows, uint-vals, uint-tells, nothing-lawful, u8, u64, unit}
-use Rattle.semcode_symbols.proofs.Walk.{RefT, typesAt, sliceVal, ShrSlice, slice-vals, mut-slice-tells, shr-slice-tells, shr-slice-copy, only}
-use Rattle.semcode_symbols.proofs.Walk.{facts, heard, owned, Args, Vals, Meets, tripleOf, Triple, entered, cited, had, Met, number, called}
-use Rattle.semcode_symbols.proofs.Walk.{leaves, freed, by-walk}
+use Rattle.semcode_symbols.proofs.Walk as walks
+use walks.{refl, ap, _∙_, ℕ, _<_, _^_, [], _∷_, List, length, URA, fullShare, named, w16, w64, Val, vint, SProp, ent, id⊢, emp, Fml, fat, Memory, Routine}
+use walks.{Heap, WpFn, Tables, Atoms, Fun, factI, givenOf, tables, tablesOf, Lfts, Shares, AllOutlive, Given, ‵, raw, _⊛_, ⋆, _$_, _∵_, !, qed, by, move}
+use walks.{keep, use1, split, rewrite, look, init, forget, stop, hop, fld, from, load, addr, of-opd, and-then, no-more, assigns, land, returns, enter}
+use walks.{alloc1, alloc0, params1, pass1, pass0, whole, sub, look-in, agg, fmOf, Is, Are, Ises, Spells, valss, shows, uint-vals, uint-tells}
+use walks.{nothing-lawful, u8, u64, unit, RefT, typesAt, sliceVal, ShrSlice, slice-vals, mut-slice-tells, shr-slice-tells, shr-slice-copy, only, facts}
+use walks.{heard, owned, Args, Vals, Meets, tripleOf, Triple, entered, cited, had, Met, number, called, leaves, freed, by-walk, local}
 use Rattle.semcode_symbols.proofs.PlacedParse as P
-use Rattle.semcode_symbols.proofs.PlacedParse.Laws as P′
+use P.Laws as P′
 use Rattle.semcode_symbols.proofs.parse_placed as core
-use Rattle.semcode_symbols.proofs.parse_placed.Symbol as core-def
-use Rattle.semcode_symbols.proofs.parse_placed.Symbol.{name as #core}
-use Rattle.semcode_symbols.proofs.parse_placed.Met as core-thm
+use core.Symbol as core-def
+use core.Symbol.{name as #core}
+use core.Met as core-thm
 use Rattle.semcode_symbols.proofs.fill_symbols as fill
-use Rattle.semcode_symbols.proofs.fill_symbols.Symbol as fill-def
-use Rattle.semcode_symbols.proofs.fill_symbols.Symbol.{name as #fill}
-use Rattle.semcode_symbols.proofs.fill_symbols.Met as fill-thm
-use Rattle.semcode_symbols.proofs.parse_string_table_debug_and_ownership.Key.{name as #parse}
+use fill.Symbol as fill-def
+use fill.Symbol.{name as #fill}
+use fill.Met as fill-thm
 use Rattle.semcode_symbols.proofs.parse_string_table_debug_and_ownership as f
-use Rattle.semcode_symbols.proofs.parse_string_table_debug_and_ownership.Statement as stated
-use Rattle.semcode_symbols.proofs.parse_string_table_debug_and_ownership.Code as code
+use f.Key.{name as #parse}
+use f.Statement as stated
+use f.Code as code
 
 abbrev spelt : (κs : Lfts 4) → Spells (typesAt (f.signature .params) κs)
 spelt κs = (uint-vals w64, (slice-vals, (uint-vals w16, (slice-vals, (slice-vals, (slice-vals, tt))))))
@@ -114,26 +112,26 @@ module _ {M : Type 1} (𝓤 : URA M) (H : Heap 𝓤) (A : Atoms 𝓤) (W : Given
         assigns ! (of-opd ! (load ! (from ! (fld ! refl (stop !))) (look-in ! 22 (sub ! 1 refl (whole !))))) (from ! (stop !))
         (init ! 14 refl (tt, record { fits = n-fits })) $
         assigns ! (addr ! (from ! (fld ! refl (hop ! (look-in ! 20 (sub ! 0 refl (whole !))) (stop !))))) (from ! (stop !)) (init ! 12 refl (tt, tt)) $
-        assigns ! (agg ! (and-then ! (load ! (from ! (stop !)) (look ! 12 refl))
+        assigns ! (agg ! (and-then ! (local ! 12 refl)
         (and-then ! (load ! (from ! (fld ! refl (stop !))) (look-in ! 20 (sub ! 1 refl (whole !)))) (no-more !)))) (from ! (stop !))
         (init ! 10 refl (tt, (tt, (record { fits = are .1 .1 .1 .1 .0 .0 .1 .0 }, tt)))) $
         assigns ! (addr ! (from ! (fld ! refl (hop ! (look-in ! 18 (sub ! 0 refl (whole !))) (stop !))))) (from ! (stop !)) (init ! 8 refl (tt, tt)) $
-        assigns ! (agg ! (and-then ! (load ! (from ! (stop !)) (look ! 8 refl))
+        assigns ! (agg ! (and-then ! (local ! 8 refl)
         (and-then ! (load ! (from ! (fld ! refl (stop !))) (look-in ! 18 (sub ! 1 refl (whole !)))) (no-more !)))) (from ! (stop !))
         (init ! 6 refl (tt, (tt, (record { fits = are .1 .1 .1 .1 .1 .0 .0 .1 .0 }, tt)))) $
         -- the core
         number ! w64 n n-fits $ move ! (38 ∷ []) $ use1 W (‵ O ⊛ ‵ O) (shr-slice-copy 𝓤 H A W (named 0) (κs .0) u8 .twice z (vals .1 .0)) $ split ! $
         move ! (35 ∷ 37 ∷ 38 ∷ 39 ∷ 0 ∷ 40 ∷ 2 ∷ 42 ∷ 43 ∷ []) $
         called ! (fmOf 𝓤 H (W .laws) 𝓣) core.ended (core.clauses 𝓤 H A mem run) known-core to-core (id⊢ 𝓤 (emp 𝓤))
-        (and-then ! (load ! (from ! (stop !)) (look ! 30 refl)) (and-then ! (load ! (from ! (stop !)) (look ! 28 refl))
-        (and-then ! (load ! (from ! (stop !)) (look ! 26 refl)) (and-then ! (load ! (from ! (stop !)) (look ! 16 refl))
-        (and-then ! (load ! (from ! (stop !)) (look ! 12 refl)) (and-then ! (load ! (from ! (stop !)) (look ! 8 refl)) (no-more !))))))) (λ w r ws.
+        (and-then ! (local ! 30 refl) (and-then ! (local ! 28 refl)
+        (and-then ! (local ! 26 refl) (and-then ! (local ! 16 refl)
+        (and-then ! (local ! 12 refl) (and-then ! (local ! 8 refl) (no-more !))))))) (λ w r ws.
         heard ! _ (λ e. move ! (5 ∷ []) $ facts ! P.the-row (Is P.the-row) (shows 𝓤 H A P.the-row) r (w ∷ []) (λ is.
         -- [strings and paths at last; the tokens 0, 2, 3; code; the locals, _15 at 6; the token 1; symbols; nothing]
         land ! (from ! (stop !)) (init ! 22 refl (LL.lawful P.the-type P′.the-laws 𝓤 H A W .typed r _ is .0)) $
         rewrite ! 22 (λ (u : Val). ‵ (fat fullShare P′.mir l₇ 0 u)) (ap only (LL.tells P.the-type P′.the-laws r _ is)) refl $
         assigns ! (addr ! (from ! (fld ! refl (hop ! (look-in ! 28 (sub ! 0 refl (whole !))) (stop !))))) (from ! (stop !)) (init ! 8 refl (tt, tt)) $
-        assigns ! (agg ! (and-then ! (load ! (from ! (stop !)) (look ! 8 refl))
+        assigns ! (agg ! (and-then ! (local ! 8 refl)
         (and-then ! (load ! (from ! (fld ! refl (stop !))) (look-in ! 28 (sub ! 1 refl (whole !)))) (no-more !)))) (from ! (stop !))
         (init ! 6 refl (tt, (tt, (record { fits = n-fits }, tt)))) $
         -- the list is filled
@@ -141,7 +139,7 @@ module _ {M : Type 1} (𝓤 : URA M) (H : Heap 𝓤) (A : Atoms 𝓤) (W : Given
         (LL.owed P.the-type P′.the-laws r _ is .1 .0 .1) $ move ! (40 ∷ 4 ∷ 41 ∷ 7 ∷ 0 ∷ 1 ∷ []) $
         called ! (fmOf 𝓤 H (W .laws) 𝓣) fill.ended (fill.clauses 𝓤 H A mem run) known-fill (to-fill (r .at) (r .count))
         (factI 𝓤 _ (emp 𝓤) (e .inside, e .room))
-        (and-then ! (load ! (from ! (stop !)) (look ! 5 refl)) (and-then ! (load ! (from ! (stop !)) (look ! 31 refl))
+        (and-then ! (local ! 5 refl) (and-then ! (local ! 31 refl)
         (and-then ! (load ! (from ! (fld ! refl (stop !))) (look-in ! 21 (sub ! 1 refl (whole !))))
         (and-then ! (load ! (from ! (fld ! refl (stop !))) (look-in ! 21 (sub ! 2 refl (whole !)))) (no-more !))))) (λ u r′ ws′.
         heard ! _ (λ e′. move ! (3 ∷ []) $ facts ! unit (Is unit) (shows 𝓤 H A unit) r′ (u ∷ []) (λ is′.

@@ -14,19 +14,17 @@ use denote.Triple.Walked.{goes-slice}
 use Rattle.semcode_records.specs.declared.symbol.DecodedDebugSymbol.{DecodedDebugSymbol as DebugSymbol}
 use Rattle.semcode_records.proofs.symbol.DecodedDebugSymbol as T
 use Rattle.semcode_records.proofs.symbol.DecodedDebugSymbol.Laws as T′
-use Rattle.semcode_symbols.proofs.store_symbol.Key.{name as #store-symbol}
 use Rattle.semcode_symbols.proofs.store_symbol as f
-use Rattle.semcode_symbols.proofs.store_symbol.Statement as stated
-use Rattle.semcode_symbols.proofs.store_symbol.Code as code
-use Rattle.semcode_symbols.proofs.Walk.{refl, sym, ap, subst, ℕ, _<_, _^_, _*_, [], _∷_, List, length, URA, fullShare, named, w16, w32, w64}
-use Rattle.semcode_symbols.proofs.Walk.{tyPtr, Val, vunit, vint, vptr, SProp, ent, emp, Lft, Share, GName, fsep, feq, fat, flft, Memory}
-use Rattle.semcode_symbols.proofs.Walk.{Routine, Heap, Calls, Loops, WpFn, Tables, Atoms, Fun, fact, factI, givenOf, tables, tablesOf, Given}
-use Rattle.semcode_symbols.proofs.Walk.{‵, raw, later, ⋆, _$_, _∵_, !, qed, by, move, keep, drop, use1, rewrite, fsplit, fjoin, feqI, updating}
-use Rattle.semcode_symbols.proofs.Walk.{await, look, init, forget, stop, hop, fld, from, load, lit, of-opd, bin, and-then, no-more, assigns}
-use Rattle.semcode_symbols.proofs.Walk.{returns, enter, alloc1, alloc0, params1, pass1, pass0, whole, sub, look-in, agg, RattleType, Is}
-use Rattle.semcode_symbols.proofs.Walk.{Spells, valss, shows, uint-vals, uint-tells, RefT, sliceVal, Room, finally, slice-vals}
-use Rattle.semcode_symbols.proofs.Walk.{mut-slice-tells, plain, typesAt, owned, heard, Meets, tripleOf, entered, Lfts, AllOutlive, had, Met}
-use Rattle.semcode_symbols.proofs.Walk.{leaves, freed, by-walk}
+use f.Key.{name as #store-symbol}
+use f.Statement as stated
+use f.Code as code
+use Rattle.semcode_symbols.proofs.Walk as walks
+use walks.{refl, sym, ap, subst, ℕ, _<_, _^_, _*_, [], _∷_, List, length, URA, fullShare, named, w16, w32, w64, tyPtr, Val, vunit, vint, vptr, SProp, ent}
+use walks.{emp, Lft, Share, GName, fsep, feq, fat, flft, Memory, Routine, Heap, Calls, Loops, WpFn, Tables, Atoms, Fun, fact, factI, givenOf, tables}
+use walks.{tablesOf, Given, ‵, raw, later, ⋆, _$_, _∵_, !, qed, by, move, keep, drop, use1, rewrite, fsplit, fjoin, feqI, updating, await, look, init}
+use walks.{forget, stop, hop, fld, from, load, lit, of-opd, bin, and-then, no-more, assigns, returns, enter, alloc1, alloc0, params1, pass1, pass0, whole}
+use walks.{sub, look-in, agg, RattleType, Is, Spells, valss, shows, uint-vals, uint-tells, RefT, sliceVal, Room, finally, slice-vals, mut-slice-tells}
+use walks.{plain, typesAt, owned, heard, Meets, tripleOf, entered, Lfts, AllOutlive, had, Met, leaves, freed, by-walk, local}
 
 abbrev spelt : (κs : Lfts 1) → Spells (typesAt (f.signature .params) κs)
 spelt κs = (slice-vals, (uint-vals w64, (uint-vals w64, (uint-vals w32, (uint-vals w16, tt)))))
@@ -98,19 +96,19 @@ module _ {M : Type 1} (𝓤 : URA M) (H : Heap 𝓤) (A : Atoms 𝓤) (W : Given
         (init ! 10 refl (tt, record { fits = f₁ })) $
         pass1 ! (init ! 8 refl (tt, record { fits = f₂ })) $ pass1 ! (init ! 6 refl (tt, record { fits = f₃ })) $ pass0 ! $
         -- [_8; …; _7; …; _6; …; _5; …; _4; …; _3; …; _2; …; _1; …; room for _0; …; the token; what the parameters own]
-        assigns ! (agg ! (and-then ! (load ! (from ! (stop !)) (look ! 10 refl))
-        (and-then ! (load ! (from ! (stop !)) (look ! 8 refl)) (and-then ! (load ! (from ! (stop !)) (look ! 6 refl)) (no-more !))))) (from ! (stop !))
+        assigns ! (agg ! (and-then ! (local ! 10 refl)
+        (and-then ! (local ! 8 refl) (and-then ! (local ! 6 refl) (no-more !))))) (from ! (stop !))
         (init ! 4 refl (tt, (record { fits = f₁ }, (record { fits = f₂ }, (record { fits = f₃ }, tt))))) $
-        assigns ! (bin ! (load ! (from ! (stop !)) (look ! 12 refl)) (lit ! tt) (record { fits = place-fits within room })) (from ! (stop !))
+        assigns ! (bin ! (local ! 12 refl) (lit ! tt) (record { fits = place-fits within room })) (from ! (stop !))
         (init ! 2 refl (tt, record { fits = place-fits within room })) $
-        assigns ! (bin ! (load ! (from ! (fld ! refl (stop !))) (look-in ! 14 (sub ! 0 refl (whole !)))) (load ! (from ! (stop !)) (look ! 2 refl))
+        assigns ! (bin ! (load ! (from ! (fld ! refl (stop !))) (look-in ! 14 (sub ! 0 refl (whole !)))) (local ! 2 refl)
         tt) (from ! (stop !)) (init ! 0 refl (tt, tt)) $
         rewrite ! 0 (λ (p : ℕ). ‵ (fat fullShare tyPtr l₈ 0 (vptr b p))) (sym (place-is 16 o i)) refl $
         move ! (19 ∷ []) $ fsplit ! $ move ! (1 ∷ []) $ fsplit ! $ move ! (0 ∷ 1 ∷ 21 ∷ []) $
         opens-slice ! tt R ys b o $ elem-out ! R (Is R) (shows 𝓤 H A R) (LL.vals T.the-type T′.the-laws) (LL.tells T.the-type T′.the-laws) fullShare
         ys i y b o within (λ _.
         -- [symbols[i]; what it owns; the others; the open borrow; obs; auth; symbols' fact; the locals, _8 at 7; what the numbers own]
-        assigns ! (of-opd ! (load ! (from ! (stop !)) (look ! 11 refl))) (from ! (hop ! (look ! 7 refl) (stop !)))
+        assigns ! (of-opd ! (local ! 11 refl)) (from ! (hop ! (look ! 7 refl) (stop !)))
         (store-raw ! 0 refl (tt, (record { fits = f₁ }, (record { fits = f₂ }, (record { fits = f₃ }, tt))))) $
         move ! (1 ∷ []) $ drop ! $ owned ! R (Is R) ((LL.makes T.the-type T′.the-plain) 𝓤 H A) y _ made $ move ! (1 ∷ 0 ∷ []) $ elem-put ! R fullShare
         ys i y (mach ∷ []) b o within $

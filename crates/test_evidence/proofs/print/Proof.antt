@@ -3,19 +3,10 @@ use borrow.Author.Needs.{needs}
 use mathlib.Core.Path.{sym}
 use lib.Seq.{length-take-le}
 use Rattle.evidence_output.proofs.WrittenLaws.{written-within}
-use Rattle.test_evidence.proofs.print.Statement.{statement}
-use Rattle.test_evidence.proofs.print.Tie as tie
+use Rattle.test_evidence.proofs.print as f
+use f.Tie as tie
 
-slice-aggregate-write-all : tie.Need-slice-aggregate-write-all
-slice-aggregate-write-all c = sym (length-take-le _ _ (written-within (c .before .before .evidence .ensures)))
-
-pub print-spec : {M : Type 1} → statement M
+pub print-spec : {M : Type 1} → f.Statement.statement M
 print-spec =
-    tie.close
-    (tie.spec
-    (λ c. search needs)
-    (λ c κs. search needs)
-    (λ c. search needs)
-    slice-aggregate-write-all
-    (λ c κs. search needs)
-    (λ c. search needs))
+    tie.close (tie.spec (search needs) (search needs) (search needs)
+    (λ c. sym (length-take-le _ _ (written-within (c .before .before .evidence .ensures)))) (search needs) (search needs))

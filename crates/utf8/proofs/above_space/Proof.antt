@@ -2,11 +2,10 @@
 use borrow.Author.Needs.{needs}
 use native.Mathlib.Omega.{arith}
 use Rattle.utf8.proofs.ScanLaws.{above-space}
-use Rattle.utf8.proofs.above_space.Statement.{statement}
-use Rattle.utf8.proofs.above_space.Tie as tie
+use Rattle.utf8.proofs.above_space as f
+use f.Tie as tie
 
-returns : tie.Need-returns
-returns c = above-space (c .args .b) (omega arith)
-
-pub above-space-spec : {M : Type 1} → statement M
-above-space-spec = tie.close (tie.spec (λ c. search needs) (λ c. search needs) returns)
+pub above-space-spec : {M : Type 1} → f.Statement.statement M
+above-space-spec =
+    tie.close (tie.spec (search needs) (search needs)
+    (λ c. above-space (c .args .b) (omega arith)))

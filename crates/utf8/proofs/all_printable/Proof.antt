@@ -6,8 +6,8 @@ use borrow.Author.Needs.{needs}
 use lib.ListN.{length}
 use Rattle.utf8.specs.Scan.{allPrintable}
 use Rattle.utf8.proofs.ScanLaws.{printableFrom, printable-turn, printable-end}
-use Rattle.utf8.proofs.all_printable.Statement.{statement}
-use Rattle.utf8.proofs.all_printable.Tie as tie
+use Rattle.utf8.proofs.all_printable as f
+use f.Tie as tie
 
 abbrev Inv-loop : tie.InvT-loop
 Inv-loop s high₀ i₀ high i = (i ≤ length s) × (printableFrom high s i ≡ allPrintable s)
@@ -15,33 +15,14 @@ Inv-loop s high₀ i₀ high i = (i ≤ length s) × (printableFrom high s i ≡
 abbrev μ-loop : tie.MeasureT-loop
 μ-loop s high₀ i₀ high i = length s - i
 
-loop-holds : tie.Need-loop-holds Inv-loop μ-loop
-loop-holds c = (omega arith, refl)
-
-loop-again : tie.Need-loop-again Inv-loop μ-loop
-loop-again c =
-    let at-loop = c .before .before .before .before in
-    let start = at-loop .before .before in
+pub all-printable-spec : {M : Type 1} → f.Statement.statement M
+all-printable-spec =
+    tie.close (tie.spec Inv-loop μ-loop
+    (λ c. (omega arith, refl)) (search needs) (search needs) (search needs) (search needs) (search needs)
+    (λ c. let at-loop = c .before .before .before .before in
     let l = at-loop .loop in
-    let s = start .args .bytes .now in (
+    let s = at-loop .before .before .args .bytes .now in (
       omega arith,
       rw (c .greatest .ensures) (printable-turn s (l .i) (l .high) _ (omega arith) (c .before .above-space .ensures) ∙ l .inv .1),
-    )
-
-returns : tie.Need-returns Inv-loop μ-loop
-returns c = let l = c .before .loop in printable-end _ (l .i) (l .high) (omega arith) ∙ l .inv .1
-
-pub all-printable-spec : {M : Type 1} → statement M
-all-printable-spec =
-    tie.close
-    (tie.spec
-    Inv-loop
-    μ-loop
-    loop-holds
-    (λ c. search needs)
-    (λ c κs. search needs)
-    (λ c κs. search needs)
-    (λ c. search needs)
-    (λ c. search needs)
-    loop-again
-    returns)
+    ))
+    (λ c. let l = c .before .loop in printable-end _ (l .i) (l .high) (omega arith) ∙ l .inv .1))

@@ -6,104 +6,40 @@ use native.Mathlib.Omega.{arith}
 use Rattle.utf8.specs.Utf8.{isControl}
 use Rattle.utf8.proofs.Utf8Laws.{lead-none, lead-2, lead-3, lead-4, lead-past}
 use Rattle.utf8.proofs.CharLaws.{later-there, lead-char, lead-ill, lead-more, later-ill, later-char, later-more, large-3, large-4}
-use Rattle.utf8.proofs.char_at.Statement.{statement}
-use Rattle.utf8.proofs.char_at.Tie as tie
+use Rattle.utf8.proofs.char_at as f
+use f.Tie as tie
 
-returns : tie.Need-returns
-returns c = lead-char _ _ (omega arith) (omega arith) (c .is-control .ensures)
-
-returns-2 : tie.Need-returns-2
-returns-2 c = lead-ill _ _ (omega arith) (lead-none _ (omega arith) (omega arith))
-
-returns-3 : tie.Need-returns-3
-returns-3 c =
-    lead-more _ _ (omega arith) (lead-2 _ (omega arith) (omega arith))
-    (later-ill _ _ 0x80 0xBF _ (sym (c .before .later .ensures) ∙ not-true _ (c .if4 .taken)))
-
-shared-slice-read-is-control : tie.Need-shared-slice-read-is-control
-shared-slice-read-is-control c =
-    later-there 0x80 0xBF _ _ (sym (c .before .before .later .ensures) ∙ not-false _ (c .before .if4 .left)) .0
-
-returns-4 : tie.Need-returns-4
-returns-4 c =
-    let at-later = c .before .before .before in
-    let t = sym (at-later .later .ensures) ∙ not-false _ (c .before .before .if4 .left) in
+pub char-at-spec : {M : Type 1} → f.Statement.statement M
+char-at-spec =
+    tie.close (tie.spec (search needs) (search needs) (search needs)
+    (λ c. lead-char _ _ (omega arith) (omega arith) (c .is-control .ensures))
+    (λ c. lead-ill _ _ (omega arith) (lead-none _ (omega arith) (omega arith))) (search needs) (search needs)
+    (λ c. lead-more _ _ (omega arith) (lead-2 _ (omega arith) (omega arith))
+    (later-ill _ _ 0x80 0xBF _ (sym (c .before .later .ensures) ∙ not-true _ (c .if4 .taken)))) (search needs)
+    (λ c. later-there 0x80 0xBF _ _ (sym (c .before .before .later .ensures) ∙ not-false _ (c .before .if4 .left)) .0) (search needs) (search needs)
+    (λ c. let t = sym (c .before .before .before .later .ensures) ∙ not-false _ (c .before .before .if4 .left) in
     let l = later-there 0x80 0xBF _ _ t in
     lead-more _ _ (omega arith) (lead-2 _ (omega arith) (omega arith))
-    (later-char _ _ 0x80 0xBF _ (omega arith) t (c .is-control2 .ensures ∙ ap isControl (omega arith)))
-
-returns-5 : tie.Need-returns-5
-returns-5 c = lead-more _ _ (omega arith) (lead-2 _ (omega arith) (omega arith)) (c .last .ensures _ (omega arith))
-
-returns-6 : tie.Need-returns-6
-returns-6 c =
-    lead-more _ _ (omega arith)
+    (later-char _ _ 0x80 0xBF _ (omega arith) t (c .is-control2 .ensures ∙ ap isControl (omega arith)))) (search needs) (search needs)
+    (λ c. lead-more _ _ (omega arith) (lead-2 _ (omega arith) (omega arith)) (c .last .ensures _ (omega arith))) (search needs) (search needs)
+    (search needs) (search needs)
+    (λ c. lead-more _ _ (omega arith)
     (lead-3 _ _ _ (c .before .before .before .bound .ensures) (c .before .before .bound2 .ensures) (omega arith) (omega arith))
-    (later-ill _ _ _ _ _ (sym (c .before .later2 .ensures) ∙ not-true _ (c .if7 .taken)))
-
-returns-7 : tie.Need-returns-7
-returns-7 c =
-    let at-later = c .before .before in
-    let el = at-later .before .before .bound .ensures in
-    let eh = at-later .before .bound2 .ensures in
-    let t = sym (at-later .later2 .ensures) ∙ not-false _ (c .before .if7 .left) in
+    (later-ill _ _ _ _ _ (sym (c .before .later2 .ensures) ∙ not-true _ (c .if7 .taken)))) (search needs) (search needs)
+    (λ c. let el = c .before .before .before .before .bound .ensures in
+    let eh = c .before .before .before .bound2 .ensures in
+    let t = sym (c .before .before .later2 .ensures) ∙ not-false _ (c .before .if7 .left) in
     let l = later-there _ _ _ _ t in
     lead-more _ _ (omega arith) (lead-3 _ _ _ el eh (omega arith) (omega arith))
-    (later-more _ _ _ _ _ (omega arith) t (c .last2 .ensures _ (large-3 _ _ _ _ (l .1) (l .2) el eh (omega arith) (omega arith))))
-
-returns-8 : tie.Need-returns-8
-returns-8 c =
-    lead-more _ _ (omega arith)
+    (later-more _ _ _ _ _ (omega arith) t (c .last2 .ensures _ (large-3 _ _ _ _ (l .1) (l .2) el eh (omega arith) (omega arith))))) (search needs)
+    (search needs) (search needs) (search needs)
+    (λ c. lead-more _ _ (omega arith)
     (lead-4 _ _ _ (c .before .before .before .bound3 .ensures) (c .before .before .bound4 .ensures) (omega arith) (omega arith))
-    (later-ill _ _ _ _ _ (sym (c .before .later3 .ensures) ∙ not-true _ (c .if9 .taken)))
-
-returns-9 : tie.Need-returns-9
-returns-9 c =
-    let at-later = c .before .before in
-    let el = at-later .before .before .bound3 .ensures in
-    let eh = at-later .before .bound4 .ensures in
-    let t = sym (at-later .later3 .ensures) ∙ not-false _ (c .before .if9 .left) in
+    (later-ill _ _ _ _ _ (sym (c .before .later3 .ensures) ∙ not-true _ (c .if9 .taken)))) (search needs) (search needs)
+    (λ c. let el = c .before .before .before .before .bound3 .ensures in
+    let eh = c .before .before .before .bound4 .ensures in
+    let t = sym (c .before .before .later3 .ensures) ∙ not-false _ (c .before .if9 .left) in
     let l = later-there _ _ _ _ t in
     lead-more _ _ (omega arith) (lead-4 _ _ _ el eh (omega arith) (omega arith))
-    (later-more _ _ _ _ _ (omega arith) t (c .last-two .ensures _ (large-4 _ _ _ _ (l .1) (l .2) el eh (omega arith) (omega arith))))
-
-returns-10 : tie.Need-returns-10
-returns-10 c = lead-ill _ _ (omega arith) (lead-past _ (omega arith))
-
-pub char-at-spec : {M : Type 1} → statement M
-char-at-spec =
-    tie.close
-    (tie.spec
-    (λ c. search needs)
-    (λ c κs. search needs)
-    (λ c. search needs)
-    returns
-    returns-2
-    (λ c. search needs)
-    (λ c κs. search needs)
-    returns-3
-    (λ c. search needs)
-    shared-slice-read-is-control
-    (λ c κs. search needs)
-    (λ c. search needs)
-    returns-4
-    (λ c. search needs)
-    (λ c κs. search needs)
-    returns-5
-    (λ c κs. search needs)
-    (λ c κs. search needs)
-    (λ c. search needs)
-    (λ c κs. search needs)
-    returns-6
-    (λ c. search needs)
-    (λ c κs. search needs)
-    returns-7
-    (λ c κs. search needs)
-    (λ c κs. search needs)
-    (λ c. search needs)
-    (λ c κs. search needs)
-    returns-8
-    (λ c. search needs)
-    (λ c κs. search needs)
-    returns-9
-    returns-10)
+    (later-more _ _ _ _ _ (omega arith) t (c .last-two .ensures _ (large-4 _ _ _ _ (l .1) (l .2) el eh (omega arith) (omega arith)))))
+    (λ c. lead-ill _ _ (omega arith) (lead-past _ (omega arith))))

@@ -4,17 +4,12 @@ use borrow.Author.Tests.{not-true, not-false}
 use mathlib.Core.Path.{refl, sym, _∙_}
 use native.Mathlib.Omega.{arith}
 use Rattle.utf8.proofs.CharLaws.{no-control, later-there, later-ill, later-char}
-use Rattle.utf8.proofs.last.Statement.{statement}
-use Rattle.utf8.proofs.last.Tie as tie
+use Rattle.utf8.proofs.last as f
+use f.Tie as tie
 
-returns : tie.Need-returns
-returns c = λ p h. later-ill _ _ 0x80 0xBF p (sym (c .before .later .ensures) ∙ not-true _ (c .if1 .taken))
-
-add : tie.Need-add-t5
-add c = let l = later-there 0x80 0xBF _ _ (sym (c .before .later .ensures) ∙ not-false _ (c .if1 .left)) .0 in search needs
-
-returns-2 : tie.Need-returns-2
-returns-2 c = λ p h. later-char _ _ 0x80 0xBF p refl (sym (c .before .later .ensures) ∙ not-false _ (c .if1 .left)) (no-control _ (omega arith))
-
-pub last-spec : {M : Type 1} → statement M
-last-spec = tie.close (tie.spec (λ c κs. search needs) returns add returns-2)
+pub last-spec : {M : Type 1} → f.Statement.statement M
+last-spec =
+    tie.close (tie.spec (search needs)
+    (λ c. λ p h. later-ill _ _ 0x80 0xBF p (sym (c .before .later .ensures) ∙ not-true _ (c .if1 .taken)))
+    (λ c. let l = later-there 0x80 0xBF _ _ (sym (c .before .later .ensures) ∙ not-false _ (c .if1 .left)) .0 in search needs)
+    (λ c. λ p h. later-char _ _ 0x80 0xBF p refl (sym (c .before .later .ensures) ∙ not-false _ (c .if1 .left)) (no-control _ (omega arith))))

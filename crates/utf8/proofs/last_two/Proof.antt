@@ -4,8 +4,8 @@ use borrow.Author.Tests.{not-true, not-false}
 use mathlib.Core.Path.{refl, sym, _∙_}
 use native.Mathlib.Omega.{arith}
 use Rattle.utf8.proofs.CharLaws.{later-there, later-ill, later-more}
-use Rattle.utf8.proofs.last_two.Statement.{statement}
-use Rattle.utf8.proofs.last_two.Tie as tie
+use Rattle.utf8.proofs.last_two as f
+use f.Tie as tie
 
 returns : tie.Need-returns
 returns c = λ p h. later-ill _ _ 0x80 0xBF p (sym (c .before .later .ensures) ∙ not-true _ (c .if1 .taken))
@@ -17,5 +17,5 @@ returns-2 : tie.Need-returns-2
 returns-2 c = λ p h.
     later-more _ _ 0x80 0xBF p refl (sym (c .before .before .later .ensures) ∙ not-false _ (c .before .if1 .left)) (c .last .ensures _ (omega arith))
 
-pub last-two-spec : {M : Type 1} → statement M
-last-two-spec = tie.close (tie.spec (λ c κs. search needs) returns add (λ c κs. search needs) returns-2)
+pub last-two-spec : {M : Type 1} → f.Statement.statement M
+last-two-spec = tie.close (tie.spec (search needs) returns add (search needs) returns-2)

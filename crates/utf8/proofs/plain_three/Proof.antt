@@ -6,8 +6,8 @@ use native.Mathlib.Omega.{arith}
 use Rattle.utf8.proofs.BoolLaws.{never-true}
 use Rattle.utf8.proofs.Utf8Laws.{lead-plain}
 use Rattle.utf8.proofs.CharLaws.{no-control, later-there, lead-more, later-char, later-more}
-use Rattle.utf8.proofs.plain_three.Statement.{statement}
-use Rattle.utf8.proofs.plain_three.Tie as tie
+use Rattle.utf8.proofs.plain_three as f
+use f.Tie as tie
 
 returns : tie.Need-returns-5
 returns c = λ e.
@@ -17,17 +17,7 @@ returns c = λ e.
     (later-more _ _ 0x80 0xBF _ (omega arith) t
     (later-char _ _ 0x80 0xBF _ (omega arith) (sym (c .later2 .ensures) ∙ e) (no-control _ (let l = later-there 0x80 0xBF _ _ t in omega arith))))
 
-pub plain-three-spec : {M : Type 1} → statement M
+pub plain-three-spec : {M : Type 1} → f.Statement.statement M
 plain-three-spec =
-    tie.close
-    (tie.spec
-    (λ c. search needs)
-    (λ c e. never-true e)
-    (λ c e. never-true e)
-    (λ c e. never-true e)
-    (λ c. search needs)
-    (λ c κs. search needs)
-    (λ c e. never-true e)
-    (λ c. search needs)
-    (λ c κs. search needs)
-    returns)
+    tie.close (tie.spec (search needs) (λ c e. never-true e) (λ c e. never-true e) (λ c e. never-true e) (search needs) (search needs)
+    (λ c e. never-true e) (search needs) (search needs) returns)

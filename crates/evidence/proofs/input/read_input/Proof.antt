@@ -4,8 +4,8 @@ use Prim.Native.Nat.{_-_, _≤_}
 use mathlib.Core.Path.{_≡_}
 use lib.ListN.{length}
 use Rattle.io.proofs.Counting.{counts}
-use Rattle.evidence.proofs.input.read_input.Statement.{statement}
-use Rattle.evidence.proofs.input.read_input.Tie as tie
+use Rattle.evidence.proofs.input.read_input as f
+use f.Tie as tie
 
 abbrev Inv-loop : tie.InvT-loop
 Inv-loop buf₀ len₀ buf len = (len ≤ length buf₀) × (length buf ≡ length buf₀)
@@ -13,27 +13,8 @@ Inv-loop buf₀ len₀ buf len = (len ≤ length buf₀) × (length buf ≡ leng
 abbrev μ-loop : tie.MeasureT-loop
 μ-loop buf₀ len₀ buf len = length buf₀ - len
 
-pub read-input-spec : {M : Type 1} → statement M
+pub read-input-spec : {M : Type 1} → f.Statement.statement M
 read-input-spec =
-    tie.close
-    (tie.spec
-    Inv-loop
-    μ-loop
-    (λ c. search needs)
-    (λ c. search needs)
-    (λ c. search needs)
-    (λ c. search needs)
-    (λ c κs. search needs)
-    (λ c. search needs)
-    (λ c. counts _ _ (search needs))
-    (λ c. search needs)
-    (λ c. search needs)
-    (λ c. search needs)
-    (λ c κs. search needs)
-    (λ c. search needs)
-    (λ c. counts _ _ (search needs))
-    (λ c. search needs)
-    (λ c. search needs)
-    (λ c. search needs)
-    (λ c. search needs)
-    (λ c. counts _ _ (search needs)))
+    tie.close (tie.spec Inv-loop μ-loop (search needs) (search needs) (search needs) (search needs) (search needs) (search needs)
+    (λ c. counts _ _ (search needs)) (search needs) (search needs) (search needs) (search needs) (search needs) (λ c. counts _ _ (search needs))
+    (search needs) (search needs) (search needs) (search needs) (λ c. counts _ _ (search needs)))

@@ -43,7 +43,7 @@ put-bytes-spec =
     μ-loop
     loop-holds
     (λ c. search needs)
-    (λ c κs. search needs)
+    (search needs)
     (λ c. search needs)
     (λ c. search needs)
     loop-again

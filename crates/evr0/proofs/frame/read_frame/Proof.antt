@@ -14,8 +14,8 @@ use Rattle.local_format.proofs.OutLaws.{told}
 use Rattle.local_format.proofs.FieldLaws.{field-ok}
 use Rattle.local_format.proofs.TagLaws.{tag-there}
 use Rattle.evr0.proofs.FrameLaws.{no-tag, no-length, empty, too-long, payload-cut, payload-there}
-use Rattle.evr0.proofs.frame.read_frame.Statement.{statement}
-use Rattle.evr0.proofs.frame.read_frame.Tie as tie
+use Rattle.evr0.proofs.frame.read_frame as f
+use f.Tie as tie
 
 tag : (c : tie.Else1) → tagAt evr0 (c .before .before .before .before .args .bytes .now) (c .before .before .before .before .args .cursor) ≡ true
 tag c = sym (c .before .tag-at .ensures) ∙ not-false _ (c .if1 .left)
@@ -35,68 +35,25 @@ within c =
     let f = field-ok 0 4 (a .bytes .now) (a .cursor + 4) (ap (orCut 0 (a .cursor + 4)) (size c)) in
     omega arith
 
-returns : tie.Need-returns
-returns c = ap refused (c .refuse .ensures) ∙ no-tag _ _ (sym (c .before .before .tag-at .ensures) ∙ not-true _ (c .before .if1 .taken))
-
-add-len-at : tie.Need-add-len-at
-add-len-at c = omega (arith, tag-there _ _ _ (tag c))
-
-returns-2 : tie.Need-returns-2
-returns-2 c =
-    let stage = c .before .before .before .before in
+pub read-frame-spec : {M : Type 1} → f.Statement.statement M
+read-frame-spec =
+    tie.close (tie.spec (search needs) (search needs) (search needs)
+    (λ c. ap refused (c .refuse .ensures) ∙ no-tag _ _ (sym (c .before .before .tag-at .ensures) ∙ not-true _ (c .before .if1 .taken)))
+    (λ c. omega (arith, tag-there _ _ _ (tag c))) (search needs) (search needs) (search needs) (search needs)
+    (λ c. let stage = c .before .before .before .before in
     ap refused (c .refuse2 .ensures)
-    ∙ no-length _ _ (tag (stage)) (told u32Out (c .before .before .before .read-u32-le .ensures) (c .before .enum-told .given .1))
-
-returns-3 : tie.Need-returns-3
-returns-3 c =
-    let k = c .before .before .before in
-    ap refused (c .refuse3 .ensures) ∙ empty _ _ (tag (k .before .before .before)) _ _ (size k) (c .before .if2 .taken)
-
-returns-4 : tie.Need-returns-4
-returns-4 c =
-    let stage = c .before .before .before .before in
-    let k = stage in
+    ∙ no-length _ _ (tag (stage)) (told u32Out (c .before .before .before .read-u32-le .ensures) (c .before .enum-told .given .1))) (search needs)
+    (search needs)
+    (λ c. let k = c .before .before .before in
+    ap refused (c .refuse3 .ensures) ∙ empty _ _ (tag (k .before .before .before)) _ _ (size k) (c .before .if2 .taken)) (search needs)
+    (λ c. let k = c .before .before .before .before in
     ap refused (c .refuse4 .ensures)
-    ∙ too-long _ _ (tag (k .before .before .before)) _ _ (size k) (c .before .before .if2 .left) (c .before .if3 .taken)
-
-sub-if4 : tie.Need-sub-if4
-sub-if4 c = within (c .before .before .before)
-
-returns-5 : tie.Need-returns-5
-returns-5 c =
-    let stage = c .before .before .before .before .before in
-    let k = stage in
+    ∙ too-long _ _ (tag (k .before .before .before)) _ _ (size k) (c .before .before .if2 .left) (c .before .if3 .taken))
+    (λ c. within (c .before .before .before)) (search needs)
+    (λ c. let k = c .before .before .before .before .before in
     ap refused (c .refuse5 .ensures)
     ∙ payload-cut _ _ (tag (k .before .before .before)) _ _ (size k) (c .before .before .before .if2 .left) (c .before .before .if3 .left)
-    (omega (arith, c .before .if4 .taken, within k))
-
-returns-6 : tie.Need-returns-6
-returns-6 c =
-    let stage = c .before .before .before .before in
-    let k = stage in
+    (omega (arith, c .before .if4 .taken, within k)))
+    (λ c. let k = c .before .before .before .before in
     payload-there _ _ (tag (k .before .before .before)) _ _ (size k) (c .before .before .if2 .left) (c .before .if3 .left)
-    (omega (arith, c .if4 .left, within k))
-
-pub read-frame-spec : {M : Type 1} → statement M
-read-frame-spec =
-    tie.close
-    (tie.spec
-    (λ c. search needs)
-    (λ c κs. search needs)
-    (λ c κs. search needs)
-    returns
-    add-len-at
-    (λ c κs. search needs)
-    (λ c. search needs)
-    (λ c. search needs)
-    (λ c κs. search needs)
-    returns-2
-    (λ c. search needs)
-    (λ c κs. search needs)
-    returns-3
-    (λ c κs. search needs)
-    returns-4
-    sub-if4
-    (λ c κs. search needs)
-    returns-5
-    returns-6)
+    (omega (arith, c .if4 .left, within k))))

@@ -13,8 +13,8 @@ use Rattle.evr0_head.specs.Maps.{countsOut}
 use Rattle.evr0_tables.specs.PayloadMaps.{placesOut, Reads}
 use Rattle.evr0.specs.Answer.{Lent, lentOf}
 use Rattle.evr0.proofs.CheckLaws.{ready, reads-as, tables-refused, may-derive, derived, not-derived}
-use Rattle.evr0.proofs.section.check_tables.Statement.{statement}
-use Rattle.evr0.proofs.section.check_tables.Tie as tie
+use Rattle.evr0.proofs.section.check_tables as f
+use f.Tie as tie
 
 -- ---- The stages
 abbrev start : tie.After-read-tables → tie.Start
@@ -42,25 +42,6 @@ module _ (c : tie.After-tables2) where
   proofs-total : length (take (start at .args .counts .proofs) (at .read-tables .last .1 .1 .1 .1 .0)) ≡ start at .args .counts .proofs
   proofs-total = simp length-take (omega (arith, proofs-fit))
 
-read-tables-requires : tie.Need-read-tables-requires
-read-tables-requires c κs =
-    let s = c .before .before .before .before .before .before in
-    let r = ready _ _ _ _ (s .pre) in
-    ((r .propositions, r .proofs), (r .parents, r .within))
-
-slice-reshare-prefix-derive : tie.Need-slice-reshare-prefix-derive
-slice-reshare-prefix-derive c = proofs-fit (c .before)
-
-slice-aggregate-derive : tie.Need-slice-aggregate-derive
-slice-aggregate-derive c = sym (proofs-total (c .before .before))
-
-derive-requires : tie.Need-derive-requires
-derive-requires c κs =
-    let t = c .before .before .before in
-    let s = start (at t) in
-    let r = ready _ _ _ _ (s .pre) in
-    (may-derive (brought (at t)) (brought (at t)) _ _ _ (s .pre) (reads t), omega (arith, r .depths, proofs-total t))
-
 -- ---- The answers
 returns : tie.Need-returns
 returns c =
@@ -69,47 +50,28 @@ returns c =
     let r = t .before .before .before .before .before .before in
     λ end. tables-refused (brought r) _ _ _ _ (start r .pre) (rw (t .tables .given .1) at (r .read-tables .ensures)) refl refl (k .clear .ensures) end
 
-returns-2 : tie.Need-returns-2
-returns-2 c =
-    let third = c .before .before in
+pub check-tables-spec : {M : Type 1} → f.Statement.statement M
+check-tables-spec =
+    tie.close (tie.spec
+    (λ c κs. let s = c .before .before .before .before .before .before in
+    let r = ready _ _ _ _ (s .pre) in
+    ((r .propositions, r .proofs), (r .parents, r .within))) (search needs) (search needs) (search needs)
+    (λ c. proofs-fit (c .before))
+    (λ c. sym (proofs-total (c .before .before)))
+    (λ c κs. let t = c .before .before .before in
+    let s = start (at t) in
+    let r = ready _ _ _ _ (s .pre) in
+    (may-derive (brought (at t)) (brought (at t)) _ _ _ (s .pre) (reads t), omega (arith, r .depths, proofs-total t))) (search needs) (search needs)
+    (search needs) (search needs) (search needs) (search needs) (search needs) returns (search needs) (search needs) (search needs)
+    (λ c. let third = c .before .before in
     let second = third .before .before .before .before in
     let r = second .before .before .before in
     let d = r .before .before .before .before in
     let t = d .before .before .before .before in
     let k = at t .read-tables .kept in
     λ end. not-derived (brought (at t)) _ _ _ _ (start (at t) .pre) (reads t) (rw (r .derived .given .1) at (d .derive .ensures))
-    (second .clear2 .ensures ∙ ap (λ (n : ℕ). lent n []) (k .1 .1 .1 .0)) (third .clear3 .ensures ∙ ap (λ (n : ℕ). lent n []) (k .1 .1 .1 .1 .0)) refl end
-
-returns-3 : tie.Need-returns-3
-returns-3 c =
-    let d = c .before .before .before .before in
+    (second .clear2 .ensures ∙ ap (λ (n : ℕ). lent n []) (k .1 .1 .1 .0)) (third .clear3 .ensures ∙ ap (λ (n : ℕ). lent n []) (k .1 .1 .1 .1 .0)) refl end)
+    (search needs) (search needs) (search needs)
+    (λ c. let d = c .before .before .before .before in
     let t = d .before .before .before .before in
-    λ end. derived (brought (at t)) _ _ _ _ (start (at t) .pre) (reads t) (rw (c .enum-told .given .1) at (d .derive .ensures)) refl refl refl end
-
-pub check-tables-spec : {M : Type 1} → statement M
-check-tables-spec =
-    tie.close
-    (tie.spec
-    read-tables-requires
-    (λ c. search needs)
-    (λ c κs. search needs)
-    (λ c. search needs)
-    slice-reshare-prefix-derive
-    slice-aggregate-derive
-    derive-requires
-    (λ c. search needs)
-    (λ c κs. search needs)
-    (λ c κs. search needs)
-    (λ c. search needs)
-    (λ c. search needs)
-    (λ c. search needs)
-    (λ c. search needs)
-    returns
-    (λ c. search needs)
-    (λ c. search needs)
-    (λ c. search needs)
-    returns-2
-    (λ c. search needs)
-    (λ c. search needs)
-    (λ c. search needs)
-    returns-3)
+    λ end. derived (brought (at t)) _ _ _ _ (start (at t) .pre) (reads t) (rw (c .enum-told .given .1) at (d .derive .ensures)) refl refl refl end))

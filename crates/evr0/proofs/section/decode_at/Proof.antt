@@ -8,8 +8,8 @@ use Rattle.evr0.specs.Answer.{Lent, lentOf}
 use Rattle.evr0.specs.AnswerMaps.{outcomeOut, answerOut}
 use Rattle.evr0.specs.Steps.{payloadIn, Ends}
 use Rattle.evr0.proofs.DecodeLaws.{refusal-within, refused-at, accepted-at}
-use Rattle.evr0.proofs.section.decode_at.Statement.{statement}
-use Rattle.evr0.proofs.section.decode_at.Tie as tie
+use Rattle.evr0.proofs.section.decode_at as f
+use f.Tie as tie
 
 -- ---- The stages
 module _ (c : tie.After-decode-payload) where
@@ -35,45 +35,21 @@ end-fits c = omega arith
 -- ---- The answers
 moved-requires : tie.Need-moved-requires
 moved-requires c κs =
-    let o = c .before in
-    let d = of-outcome o in
+    let d = of-outcome (c .before) in
     let a = start d .args in
     let fits : a .start + a .len ≤ 18446744073709551615 = end-fits (start d) in
-    omega (arith, refusal-within (a .bytes .now) (a .start) (a .len) _ (brought d) _ _ (ends d) _ (ap outcomeOut (o .outcome .given .1)))
+    omega (arith, refusal-within (a .bytes .now) (a .start) (a .len) _ (brought d) _ _ (ends d) _ (ap outcomeOut (c .before .outcome .given .1)))
 
-returns : tie.Need-returns
-returns c =
-    let o = c .before .before .before in
+pub decode-at-spec : {M : Type 1} → f.Statement.statement M
+decode-at-spec =
+    tie.close (tie.spec (search needs) (search needs) (search needs) (search needs) (search needs) (search needs) moved-requires (search needs)
+    (search needs) (search needs) (search needs) (search needs)
+    (λ c. let o = c .before .before .before in
     let d = of-outcome o in
     let a = start d .args in
     refused-at (a .bytes .now) (a .start) (a .len) _ _ _ _ (ends d) _ (ap outcomeOut (o .outcome .given .1)) (c .refused-section .ensures)
-    (c .before .moved .ensures)
-
-returns-2 : tie.Need-returns-2
-returns-2 c =
-    let on = c .before .before .before .before .before .before in
+    (c .before .moved .ensures)) (search needs) (search needs) (search needs)
+    (λ c. let on = c .before .before .before .before .before .before in
     let d = on .before .before in
     let a = start d .args in
-    accepted-at (a .bytes .now) (a .start) (a .len) _ _ _ _ (ends d) _ (ap outcomeOut (c .enum-told .given .1))
-
-pub decode-at-spec : {M : Type 1} → statement M
-decode-at-spec =
-    tie.close
-    (tie.spec
-    (λ c. search needs)
-    (λ c. search needs)
-    (λ c. search needs)
-    (λ c. search needs)
-    (λ c κs. search needs)
-    (λ c. search needs)
-    moved-requires
-    (λ c κs. search needs)
-    (λ c. search needs)
-    (λ c. search needs)
-    (λ c. search needs)
-    (λ c. search needs)
-    returns
-    (λ c. search needs)
-    (λ c. search needs)
-    (λ c. search needs)
-    returns-2)
+    accepted-at (a .bytes .now) (a .start) (a .len) _ _ _ _ (ends d) _ (ap outcomeOut (c .enum-told .given .1))))

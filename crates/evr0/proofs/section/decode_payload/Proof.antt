@@ -12,8 +12,8 @@ use Rattle.evr0.specs.Steps.{payloadIn, Passes}
 use Rattle.evr0_tables.proofs.RowLaws.{answered}
 use Rattle.evr0.proofs.SectionLaws.{no-head, accepted-head}
 use Rattle.evr0.proofs.AnswerLaws.{passed, not-passed, answered-with, refusal-ends}
-use Rattle.evr0.proofs.section.decode_payload.Statement.{statement}
-use Rattle.evr0.proofs.section.decode_payload.Tie as tie
+use Rattle.evr0.proofs.section.decode_payload as f
+use f.Tie as tie
 
 -- ---- The stages
 module _ (c : tie.After-read-checked-head) where
@@ -53,27 +53,24 @@ check-tables-requires : tie.Need-check-tables-requires
 check-tables-requires c κs =
     record { head = _; read = head-read (c .before .before .before .before .before); same = refl; next = refl }
 
-returns : tie.Need-returns
-returns c =
-    let third = c .before .before .before in
+pub decode-payload-spec : {M : Type 1} → f.Statement.statement M
+decode-payload-spec =
+    tie.close (tie.spec (search needs) (search needs) (search needs) (search needs) (search needs) (search needs) (search needs) check-tables-requires
+    (search needs) (search needs) (search needs) (search needs) (search needs) (search needs) (search needs)
+    (λ c. let third = c .before .before .before in
     let second = third .before .before .before .before in
     let one = second .before .before .before .before in
     let r = one .before .before .before in
-    let at = r .before .before in
-    refusal-ends (no-head fourRules _ _ _ _ (sym (head-is at) ∙ ap (headIn _ _) (r .answer .given .1)))
-    (record { propositions = one .clear .ensures; proofs = second .clear2 .ensures; depths = third .clear3 .ensures }) _ (c .refused-section .ensures)
-
-returns-2 : tie.Need-returns-2
-returns-2 c =
-    let on = c .before .before .before .before .before .before in
+    refusal-ends (no-head fourRules _ _ _ _ (sym (head-is (r .before .before)) ∙ ap (headIn _ _) (r .answer .given .1)))
+    (record { propositions = one .clear .ensures; proofs = second .clear2 .ensures; depths = third .clear3 .ensures }) _ (c .refused-section .ensures))
+    (search needs) (search needs) (search needs)
+    (λ c. let on = c .before .before .before .before .before .before in
     let at = on .before .before .before .before in
     let x = payloadIn (brought (head-at (read-at at))) (given-at at .args .payload .now) (given-at at .args .end) in
     let e = not-passed x _ (told checkedOut (passes at .answer) (c .before .before .checked .given .1)) in
-    record { answer = c .refused-section2 .ensures ∙ sym (ap (answerOf (given-at at .args .cursor)) e); tables = passes at .tables }
-
-returns-3 : tie.Need-returns-3
-returns-3 c =
-    let on = c .before .before .before .before .before .before in
+    record { answer = c .refused-section2 .ensures ∙ sym (ap (answerOf (given-at at .args .cursor)) e); tables = passes at .tables }) (search needs)
+    (search needs) (search needs)
+    (λ c. let on = c .before .before .before .before .before .before in
     let at = on .before .before .before .before .before in
     let a = given-at at .args in
     let k = passes at in
@@ -90,33 +87,4 @@ returns-3 c =
       })
           (c .accept .ensures) ∙ answered-with x (s .0) _ (a .cursor) (a .end) (s .1) (h .0) (h .1);
       tables = k .tables;
-    }
-
-pub decode-payload-spec : {M : Type 1} → statement M
-decode-payload-spec =
-    tie.close
-    (tie.spec
-    (λ c κs. search needs)
-    (λ c. search needs)
-    (λ c κs. search needs)
-    (λ c κs. search needs)
-    (λ c κs. search needs)
-    (λ c κs. search needs)
-    (λ c. search needs)
-    check-tables-requires
-    (λ c. search needs)
-    (λ c κs. search needs)
-    (λ c. search needs)
-    (λ c κs. search needs)
-    (λ c. search needs)
-    (λ c. search needs)
-    (λ c. search needs)
-    returns
-    (λ c. search needs)
-    (λ c. search needs)
-    (λ c. search needs)
-    returns-2
-    (λ c. search needs)
-    (λ c. search needs)
-    (λ c. search needs)
-    returns-3)
+    }))

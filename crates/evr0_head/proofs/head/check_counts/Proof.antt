@@ -5,22 +5,15 @@ use Rattle.evr0_head.proofs.HeadLaws.{limited}
 use Rattle.evr0_fields.specs.Maps.{checkedOut}
 use Rattle.evr0_head.specs.Maps.{countsOut}
 use Rattle.evr0_section.specs.Head.{checkCounts}
-use Rattle.evr0_head.proofs.head.check_counts.Statement.{statement}
-use Rattle.evr0_head.proofs.head.check_counts.Tie as tie
+use Rattle.evr0_head.proofs.head.check_counts as f
+use f.Tie as tie
 
-check-sizes-requires : tie.Need-check-sizes-requires
-check-sizes-requires c κs =
-    let w = c .before .before in (
+pub check-counts-spec : {M : Type 1} → f.Statement.statement M
+unfolding checkCounts
+check-counts-spec =
+    tie.close (tie.spec (search needs) (search needs) (search needs)
+    (λ c κs. let w = c .before .before in (
       limited (countsOut (w .before .before .before .args .head .counts)) _ (sym (w .within-limits .ensures) ∙ ap checkedOut (c .enum-told .given .1)),
       w .before .before .before .pre .1,
-    )
-
-returns : tie.Need-returns
-unfolding checkCounts
-returns c = λ source contract. rw (← c .before .before .before .within-limits .ensures, c .before .limits .given .1)
-
-pub check-counts-spec : {M : Type 1} → statement M
-check-counts-spec =
-    tie.close
-    (tie.spec (λ c κs. search needs) (λ c. search needs) (λ c. search needs) check-sizes-requires returns
-    (λ c. search needs))
+    ))
+    (λ c. λ source contract. rw (← c .before .before .before .within-limits .ensures, c .before .limits .given .1)) (λ c. search needs))

@@ -12,8 +12,8 @@ use Rattle.evr0_section.specs.Head.{checkCounts}
 use Rattle.evr0_fields.proofs.Steps.{Step, told, tests, then-tests, goes-on}
 use Rattle.evr0_head.specs.Maps.{countsOut, roomOut, headRecord}
 use Rattle.evr0_head.proofs.HeadLaws.{within}
-use Rattle.evr0_head.proofs.head.check_sizes.Statement.{statement}
-use Rattle.evr0_head.proofs.head.check_sizes.Tie as tie
+use Rattle.evr0_head.proofs.head.check_sizes as f
+use f.Tie as tie
 
 module _ (source contract : List ℕ) where
   abbrev least : tie.After-table-sizes → Step Bool (Out (Unit {0}))
@@ -22,9 +22,8 @@ module _ (source contract : List ℕ) where
       let s = c .before .before .before in
       let h = s .args .head in
       let p = s .args .payload .now in
-      let r = c .table-sizes in
-      tests (checkCounts (roomOut (s .args .room)) p (headRecord source contract h)) (leb (r .result) (length p - h .next)) _ _ _
-      (ap (λ n. leb n (length p - h .next)) (r .ensures .0))
+      tests (checkCounts (roomOut (s .args .room)) p (headRecord source contract h)) (leb (c .table-sizes .result) (length p - h .next)) _ _ _
+      (ap (λ n. leb n (length p - h .next)) (c .table-sizes .ensures .0))
       (goes-on _ (within (countsOut (h .counts)) (h .«counts_at») (s .pre .0)))
 
   abbrev held : tie.After-table-sizes2 → Step Bool (Out (Unit {0}))
@@ -43,35 +42,23 @@ module _ (source contract : List ℕ) where
       let r = c .table-sizes3 in
       then-tests (held t) (le-leb _ _ (c .before .if2 .left)) (leb (n + r .result) 8388608) _ _ _ (ap (λ k. leb (n + k) 8388608) (r .ensures .0)) refl
 
-returns : tie.Need-returns
+pub check-sizes-spec : {M : Type 1} → f.Statement.statement M
 unfolding checkCounts
-returns c = λ source contract. c .refused .ensures ∙ sym (told (least source contract (c .before .before)) (lt-leb _ _ (c .before .if1 .taken)))
-
-returns-2 : tie.Need-returns-2
-unfolding checkCounts
-returns-2 c = λ source contract. c .refused2 .ensures ∙ sym (told (held source contract (c .before .before)) (lt-leb _ _ (c .before .if2 .taken)))
-
-returns-3 : tie.Need-returns-3
-unfolding checkCounts
-returns-3 c = λ source contract. c .refused3 .ensures ∙ sym (told (work source contract (c .before .before)) (lt-leb _ _ (c .before .if3 .taken)))
-
-returns-4 : tie.Need-returns-4
-unfolding checkCounts
-returns-4 c =
-    let r = c .before in
-    λ source contract.
-    rw (told (work source contract (r .before .before)) (le-leb _ _ (r .before .if3 .left)), ← r .has-room .ensures, c .if4 .taken)
-
-returns-5 : tie.Need-returns-5
-unfolding checkCounts
-returns-5 c =
-    let r = c .before .before in
-    λ source contract.
-    rw (c .refused4 .ensures, told (work source contract (r .before .before)) (le-leb _ _ (r .before .if3 .left)), ← r .has-room .ensures, c .before .if4 .left)
-
-pub check-sizes-spec : {M : Type 1} → statement M
 check-sizes-spec =
-    tie.close
-    (tie.spec (λ c. search needs) (λ c κs. search needs) (λ c κs. search needs) returns (λ c κs. search needs) (λ c. search needs)
-    (λ c κs. search needs) returns-2 (λ c κs. search needs) (λ c. search needs) (λ c κs. search needs) returns-3 (λ c κs. search needs)
-    (λ c κs. search needs) returns-4 returns-5)
+    tie.close (tie.spec (search needs) (search needs) (search needs)
+    (λ c. λ source contract. c .refused .ensures ∙ sym (told (least source contract (c .before .before)) (lt-leb _ _ (c .before .if1 .taken))))
+    (search needs) (search needs) (search needs)
+    (λ c. λ source contract. c .refused2 .ensures ∙ sym (told (held source contract (c .before .before)) (lt-leb _ _ (c .before .if2 .taken))))
+    (search needs) (search needs) (search needs)
+    (λ c. λ source contract. c .refused3 .ensures ∙ sym (told (work source contract (c .before .before)) (lt-leb _ _ (c .before .if3 .taken))))
+    (search needs) (search needs)
+    (λ c. λ source contract.
+    rw (told (work source contract (c .before .before .before)) (le-leb _ _ (c .before .before .if3 .left)), ← c .before .has-room .ensures, c .if4 .taken))
+    (λ c. let r = c .before .before in
+    λ source contract.
+    rw (
+      c .refused4 .ensures,
+      told (work source contract (r .before .before)) (le-leb _ _ (r .before .if3 .left)),
+      ← r .has-room .ensures,
+      c .before .if4 .left,
+    )))

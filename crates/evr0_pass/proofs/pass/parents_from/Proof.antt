@@ -178,26 +178,26 @@ parents-from-spec =
     (tie.spec
     Inv-loop
     μ-loop
-    (λ c κs. search needs)
-    (λ c κs. search needs)
-    (λ c κs. search needs)
+    (search needs)
+    (search needs)
+    (search needs)
     (λ c. search needs)
     loop-holds
     (λ c. search needs)
     (λ c. search needs)
-    (λ c κs. search needs)
-    (λ c κs. search needs)
-    (λ c κs. search needs)
-    (λ c κs. search needs)
+    (search needs)
+    (search needs)
+    (search needs)
+    (search needs)
     returns
     (λ c. search needs)
     shared-slice-read-agrees
     agrees-requires
-    (λ c κs. search needs)
+    (search needs)
     returns-2
     (λ c. search needs)
     shared-slice-read-larger
-    (λ c κs. search needs)
+    (search needs)
     add-least
     (λ c. search needs)
     (λ c. search needs)

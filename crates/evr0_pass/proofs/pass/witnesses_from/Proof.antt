@@ -17,8 +17,8 @@ use Rattle.evr0_pass.specs.View.{witnessView}
 use Rattle.evr0_pass.specs.Maps.{layoutOut, tablesIn, proofOut, suited}
 use Rattle.evr0_pass.proofs.ViewLaws.{witness-at}
 use Rattle.evr0_pass.proofs.WitnessLaws.{suits-turn, suits-refused}
-use Rattle.evr0_pass.proofs.pass.witnesses_from.Statement.{statement}
-use Rattle.evr0_pass.proofs.pass.witnesses_from.Tie as tie
+use Rattle.evr0_pass.proofs.pass.witnesses_from as f
+use f.Tie as tie
 
 abbrev from : List ℕ → List ℕ → Layout → Proof → ℕ → ℕ → Out (Unit {0})
 from payload starts tables proof = pass.witnessesFrom (tables .«parents_at») (tablesIn payload starts tables) (proofOut proof)
@@ -32,12 +32,6 @@ Inv-loop payload tables proof witness₀ end witness =
 
 abbrev μ-loop : tie.MeasureT-loop
 μ-loop payload tables proof witness₀ end witness = end - witness
-
-loop-holds : tie.Need-loop-holds Inv-loop μ-loop
-loop-holds c =
-    let a = c .before .before .before .args in
-    let e : c .before .place .result + c .wide .result - c .before .place .result ≡ a .proof .«witness_count» = omega arith in
-    (omega arith, λ starts. rw (e, c .before .place .ensures))
 
 -- ---- A turn
 abbrev read-at : tie.After-suits Inv-loop μ-loop → tie.After-u32-at Inv-loop μ-loop
@@ -83,9 +77,21 @@ returns c starts =
     (suit-is t starts ∙ ap checkedOut (c .before .checked .given .1)))
     ∙ l .inv .1 starts
 
-loop-again : tie.Need-loop-again Inv-loop μ-loop
-loop-again c =
-    let t = c .before .before in
+returns-2 : tie.Need-returns-2 Inv-loop μ-loop
+returns-2 c starts =
+    let a = c .before .before .before .before .before .args in
+    let l = c .before .loop in
+    sym (witnesses-none (a .tables .«parents_at») (tablesIn (a .payload .now) starts (a .tables)) (proofOut (a .proof)) _ (l .witness) (omega arith))
+    ∙ l .inv .1 starts
+
+pub witnesses-from-spec : {M : Type 1} → f.Statement.statement M
+witnesses-from-spec =
+    tie.close (tie.spec Inv-loop μ-loop (search needs) (search needs) (search needs)
+    (λ c. let a = c .before .before .before .args in
+    let e : c .before .place .result + c .wide .result - c .before .place .result ≡ a .proof .«witness_count» = omega arith in
+    (omega arith, λ starts. rw (e, c .before .place .ensures))) (search needs) (search needs) (search needs) (search needs) (search needs)
+    (search needs) (search needs) (search needs) returns (search needs) (search needs) (search needs)
+    (λ c. let t = c .before .before in
     let a = start-at t .args in
     let l = loop-at t .loop in
     let end = loop-at t .before .before .place .result + loop-at t .before .wide .result in
@@ -96,37 +102,4 @@ loop-again c =
           (end - l .witness) (l .witness) (omega arith)
           (suit-is t starts ∙ ap checkedOut (c .enum-told .given .1)))
           ∙ l .inv .1 starts),
-    )
-
-returns-2 : tie.Need-returns-2 Inv-loop μ-loop
-returns-2 c starts =
-    let start = c .before .before .before .before .before in
-    let a = start .args in
-    let l = c .before .loop in
-    sym (witnesses-none (a .tables .«parents_at») (tablesIn (a .payload .now) starts (a .tables)) (proofOut (a .proof)) _ (l .witness) (omega arith))
-    ∙ l .inv .1 starts
-
-pub witnesses-from-spec : {M : Type 1} → statement M
-witnesses-from-spec =
-    tie.close
-    (tie.spec
-    Inv-loop
-    μ-loop
-    (λ c κs. search needs)
-    (λ c κs. search needs)
-    (λ c. search needs)
-    loop-holds
-    (λ c. search needs)
-    (λ c. search needs)
-    (λ c. search needs)
-    (λ c κs. search needs)
-    (λ c. search needs)
-    (λ c. search needs)
-    (λ c κs. search needs)
-    (λ c. search needs)
-    returns
-    (λ c. search needs)
-    (λ c. search needs)
-    (λ c. search needs)
-    loop-again
-    returns-2)
+    )) returns-2)

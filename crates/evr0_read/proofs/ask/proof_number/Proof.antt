@@ -4,27 +4,17 @@ use mathlib.Core.Path.{ap}
 use Rattle.evr0_read.specs.Maps.{foundOut}
 use Rattle.evr0_read.proofs.TableLaws.{proof-read}
 use Rattle.evr0_read.proofs.AskLaws.{handed, read-there}
-use Rattle.evr0_read.proofs.ask.proof_number.Statement.{statement}
-use Rattle.evr0_read.proofs.ask.proof_number.Tie as tie
+use Rattle.evr0_read.proofs.ask.proof_number as f
+use f.Tie as tie
 
 abbrev found : tie.After-slice-known6 → tie.After-find
 found c = c .before .before .before .before .before .before
 
-returns : tie.Need-returns
-returns c =
-    let p = c .before in
-    let f = p .before .before in
-    read-there _ _ (found (f .before .before) .find .ensures) _ _ _ (λ r. r)
-    (proof-read _ _ _) (ap foundOut (f .found .given .1)) (p .payload-of .ensures) (c .proof-at .ensures)
-
-returns-2 : tie.Need-returns-2
-returns-2 c =
-    let f = c .before in
-    handed (found (f .before .before) .find .ensures) _ (λ r. r) (ap foundOut (f .found2 .given .1))
-
-pub proof-number-spec : {M : Type 1} → statement M
+pub proof-number-spec : {M : Type 1} → f.Statement.statement M
 proof-number-spec =
-    tie.close
-    (tie.spec (λ c κs. search needs) (λ c. search needs) (λ c κs. search needs) (λ c κs. search needs) (λ c. search needs)
-    (λ c. search needs) (λ c. search needs) (λ c. search needs) returns (λ c. search needs) (λ c. search needs) (λ c. search needs)
-    returns-2)
+    tie.close (tie.spec (search needs) (search needs) (search needs) (search needs) (search needs) (search needs) (search needs) (search needs)
+    (λ c. let f = c .before .before .before in
+    read-there _ _ (found (f .before .before) .find .ensures) _ _ _ (λ r. r)
+    (proof-read _ _ _) (ap foundOut (f .found .given .1)) (c .before .payload-of .ensures) (c .proof-at .ensures)) (search needs) (search needs)
+    (search needs)
+    (λ c. handed (found (c .before .before .before) .find .ensures) _ (λ r. r) (ap foundOut (c .before .found2 .given .1))))

@@ -13,8 +13,8 @@ use Rattle.evr0_records.specs.Maps as records
 use Rattle.evr0_read.specs.Entry.{placedWitness}
 use Rattle.evr0_read.specs.Maps.{witnessBeside}
 use Rattle.evr0_read.proofs.EntryLaws.{record-refused, record-found, beside-answer, refused-beside}
-use Rattle.evr0_read.proofs.cell.witness_at.Statement.{statement}
-use Rattle.evr0_read.proofs.cell.witness_at.Tie as tie
+use Rattle.evr0_read.proofs.cell.witness_at as f
+use f.Tie as tie
 
 module _ (c : tie.After-read-witness) where
   abbrev start : tie.Start
@@ -27,21 +27,12 @@ module _ (c : tie.After-read-witness) where
       ≡ witnessOf 4 (drop (start .args .at) (start .args .payload .now))
   answered = ap (λ (b : Beside (Sized WitnessRecord)). b .answer) at-place ∙ beside-answer _
 
-returns : tie.Need-returns
-returns c =
-    let stage = c .before .before .before .before .before in
-    let q = stage in
-    ap witnessBeside (record-found (witnessOf 4) placedWitness _ _ (told (witnessIn _ _) (answered q) (c .before .answer .given .1)) refl)
-
-returns-2 : tie.Need-returns-2
-returns-2 c =
-    let stage = c .before .before .before .before .before in
-    let q = stage in
+pub witness-at-spec : {M : Type 1} → f.Statement.statement M
+witness-at-spec =
+    tie.close (tie.spec (search needs) (search needs) (search needs) (search needs)
+    (λ c. let q = c .before .before .before .before .before in
+    ap witnessBeside (record-found (witnessOf 4) placedWitness _ _ (told (witnessIn _ _) (answered q) (c .before .answer .given .1)) refl))
+    (λ c. let q = c .before .before .before .before .before in
     let e = told (witnessIn (q .read-witness .result .«file_digest») (q .read-witness .result .«origin_digest»)) (answered q)
     (c .before .answer2 .given .1) in
-    refused-beside _ (at-place q) e ∙ ap witnessBeside (record-refused (witnessOf 4) placedWitness _ _ e)
-
-pub witness-at-spec : {M : Type 1} → statement M
-witness-at-spec =
-    tie.close
-    (tie.spec (λ c κs. search needs) (λ c κs. search needs) (λ c. search needs) (λ c. search needs) returns returns-2)
+    refused-beside _ (at-place q) e ∙ ap witnessBeside (record-refused (witnessOf 4) placedWitness _ _ e)))

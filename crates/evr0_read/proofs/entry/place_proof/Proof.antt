@@ -3,13 +3,10 @@ use borrow.Author.Needs.{needs}
 use mathlib.Core.Path.{ap}
 use Rattle.evr0_records.specs.Maps.{proofRecord}
 use Rattle.evr0_read.specs.Entry.{withRule}
-use Rattle.evr0_read.proofs.entry.place_proof.Statement.{statement}
-use Rattle.evr0_read.proofs.entry.place_proof.Tie as tie
+use Rattle.evr0_read.proofs.entry.place_proof as f
+use f.Tie as tie
 
-returns : tie.Need-returns
-returns c =
-    let start = c .before .before .before .before .before in
-    ap (withRule (proofRecord (start .args .proof))) (c .place-text .ensures)
-
-pub place-proof-spec : {M : Type 1} → statement M
-place-proof-spec = tie.close (tie.spec (λ c κs. search needs) returns)
+pub place-proof-spec : {M : Type 1} → f.Statement.statement M
+place-proof-spec =
+    tie.close (tie.spec (search needs)
+    (λ c. ap (withRule (proofRecord (c .before .before .before .before .before .args .proof))) (c .place-text .ensures)))

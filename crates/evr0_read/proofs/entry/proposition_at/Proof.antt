@@ -3,29 +3,18 @@ use borrow.Author.Needs.{needs}
 use Rattle.evr0_section.specs.Proposition.{propositionOf}
 use Rattle.evr0_records.specs.Maps.{propositionOut}
 use Rattle.evr0_read.proofs.EntryLaws.{read-at, record-refused, record-found, kind-lies, place-fits}
-use Rattle.evr0_read.proofs.entry.proposition_at.Statement.{statement}
-use Rattle.evr0_read.proofs.entry.proposition_at.Tie as tie
+use Rattle.evr0_read.proofs.entry.proposition_at as f
+use f.Tie as tie
 
-requires : tie.Need-place-proposition-requires
-requires c κs =
-    let q = c .before .before .before in
-    place-fits _ _ _ (q .before .before .before .good .0 .0)
-    (kind-lies _ (read-at propositionOut propositionOf (q .read-proposition .ensures) (q .before .tail .ensures) (c .before .read .given .1)))
-
-returns : tie.Need-returns
-returns c =
-    let k = c .before .before in
-    let q = k .before .before in
-    record-found _ _ _ _ (read-at propositionOut propositionOf (q .read-proposition .ensures) (q .before .tail .ensures) (k .read .given .1))
-    (c .place-proposition .ensures)
-
-returns-2 : tie.Need-returns-2
-returns-2 c =
-    let k = c .before in
-    let q = k .before .before in
-    record-refused _ _ _ _ (read-at propositionOut propositionOf (q .read-proposition .ensures) (q .before .tail .ensures) (k .read2 .given .1))
-
-pub proposition-at-spec : {M : Type 1} → statement M
+pub proposition-at-spec : {M : Type 1} → f.Statement.statement M
 proposition-at-spec =
-    tie.close
-    (tie.spec (λ c κs. search needs) (λ c κs. search needs) (λ c. search needs) requires (λ c. search needs) returns returns-2)
+    tie.close (tie.spec (search needs) (search needs) (search needs)
+    (λ c κs. let q = c .before .before .before in
+    place-fits _ _ _ (q .before .before .before .good .0 .0)
+    (kind-lies _ (read-at propositionOut propositionOf (q .read-proposition .ensures) (q .before .tail .ensures) (c .before .read .given .1))))
+    (search needs)
+    (λ c. let q = c .before .before .before .before in
+    record-found _ _ _ _ (read-at propositionOut propositionOf (q .read-proposition .ensures) (q .before .tail .ensures) (c .before .before .read .given .1))
+    (c .place-proposition .ensures))
+    (λ c. let q = c .before .before .before in
+    record-refused _ _ _ _ (read-at propositionOut propositionOf (q .read-proposition .ensures) (q .before .tail .ensures) (c .before .read2 .given .1))))

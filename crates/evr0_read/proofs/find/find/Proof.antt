@@ -4,8 +4,8 @@ use mathlib.Core.Path.{sym, ap, _∙_}
 use Rattle.evr0.specs.Answer.{Answer}
 use Rattle.evr0.specs.AnswerMaps.{outcomeOut}
 use Rattle.evr0_read.proofs.FindLaws.{answer-refused, answer-accepted, finds-none, finds-by}
-use Rattle.evr0_read.proofs.find.find.Statement.{statement}
-use Rattle.evr0_read.proofs.find.find.Tie as tie
+use Rattle.evr0_read.proofs.find.find as f
+use f.Tie as tie
 
 module _ (c : tie.After-slice-known6) where
   abbrev decoded : tie.After-decode-evr0-section
@@ -17,17 +17,16 @@ module _ (c : tie.After-slice-known6) where
   abbrev start : tie.Start
   start = lent .before .before .before .before
 
-returns : tie.Need-returns
-returns c =
-    let k = c .before .before .before in
+pub find-spec : {M : Type 1} → f.Statement.statement M
+find-spec =
+    tie.close (tie.spec (search needs) (search needs) (search needs) (search needs) (search needs) (search needs) (search needs) (search needs)
+    (search needs)
+    (λ c. let k = c .before .before .before in
     let d = decoded k .decode-evr0-section in
     finds-none _ _ _ (start k .args .wanted)
     (answer-refused _ _ (sym (ap (λ (a : Answer). a .outcome) (d .ensures .answer)) ∙ ap outcomeOut (c .before .outcome .given .1)))
-    (d .ensures .tables)
-
-returns-2 : tie.Need-returns-2
-returns-2 c =
-    let w = c .before .before .before .before .before .before in
+    (d .ensures .tables)) (search needs) (search needs) (search needs)
+    (λ c. let w = c .before .before .before .before .before .before in
     let s = w .before .before .before .before in
     let p = s .before .before .before in
     let o = p .before .before .before in
@@ -38,11 +37,4 @@ returns-2 c =
     finds-by _ _ _ is (d .ensures .tables)
     (record { propositions = d .kept .1 .1 .0; proofs = d .kept .1 .1 .1 .0; depths = d .kept .1 .1 .1 .1 .0 })
     (w .settle .ensures) (start k .args .wanted) (p .payload-of .ensures) (ap (λ (a : Answer). a .cursor) (d .ensures .answer) ∙ end) counts
-    (s .seek .ensures)
-
-pub find-spec : {M : Type 1} → statement M
-find-spec =
-    tie.close
-    (tie.spec (λ c κs. search needs) (λ c. search needs) (λ c. search needs) (λ c κs. search needs) (λ c κs. search needs)
-    (λ c κs. search needs) (λ c. search needs) (λ c. search needs) (λ c. search needs) returns (λ c. search needs) (λ c. search needs)
-    (λ c. search needs) returns-2)
+    (s .seek .ensures)))

@@ -2,10 +2,9 @@
 use borrow.Author.Needs.{needs}
 use mathlib.Core.Path.{sym}
 use lib.ListN.{List·getD-eq-default}
-use Rattle.evr0_read.proofs.table.start_at.Statement.{statement}
-use Rattle.evr0_read.proofs.table.start_at.Tie as tie
+use Rattle.evr0_read.proofs.table.start_at as f
+use f.Tie as tie
 
-pub start-at-spec : {M : Type 1} → statement M
-start-at-spec =
-    tie.close
-    (tie.spec (λ c. search needs) (λ c. search needs) (λ c. search needs) (λ c. sym (List·getD-eq-default (c .before .args .table .now) 0 (c .if1 .left))))
+pub start-at-spec : {M : Type 1} → f.Statement.statement M
+start-at-spec = tie.close (tie.spec (search needs) (search needs) (search needs)
+    (λ c. sym (List·getD-eq-default (c .before .args .table .now) 0 (c .if1 .left))))

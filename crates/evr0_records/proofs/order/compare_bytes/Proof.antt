@@ -7,8 +7,8 @@ use native.Mathlib.Omega.{arith}
 use lib.ListN.{length, drop}
 use Rattle.evr0_records.proofs.OrderLaws.{both-go-on, second-ends, first-ends, both-end}
 use Rattle.evr0_section.specs.Proposition.{compare, compareBytes}
-use Rattle.evr0_records.proofs.order.compare_bytes.Statement.{statement}
-use Rattle.evr0_records.proofs.order.compare_bytes.Tie as tie
+use Rattle.evr0_records.proofs.order.compare_bytes as f
+use f.Tie as tie
 
 abbrev Inv-loop : tie.InvT-loop
 Inv-loop a b i₀ i = (i ≤ length a) × (i ≤ length b) × (compareBytes a b ≡ compareBytes (drop i a) (drop i b))
@@ -16,68 +16,34 @@ Inv-loop a b i₀ i = (i ≤ length a) × (i ≤ length b) × (compareBytes a b 
 abbrev μ-loop : tie.MeasureT-loop
 μ-loop a b i₀ i = length a - i
 
-loop-holds : tie.Need-loop-holds Inv-loop μ-loop
-loop-holds c = (omega arith, omega arith, refl)
-
-returns : tie.Need-returns Inv-loop μ-loop
-returns c =
-    let l = c .before .before in
-    let a = l .before .args .a .now in
-    let b = l .before .args .b .now in
-    rw (l .loop .inv .2, second-ends a b (l .loop .i) (omega arith) (omega arith))
-
-returns-2 : tie.Need-returns-2 Inv-loop μ-loop
+pub compare-bytes-spec : {M : Type 1} → f.Statement.statement M
 unfolding compare
-returns-2 c =
-    let stage = c .before .before .before .before .before in
-    let l = stage in
-    let a = l .before .args .a .now in
+compare-bytes-spec =
+    tie.close (tie.spec Inv-loop μ-loop
+    (λ c. (omega arith, omega arith, refl))
+    (λ c. let l = c .before .before in
     let b = l .before .args .b .now in
-    rw (l .loop .inv .2, both-go-on a b (l .loop .i) (omega arith) (omega arith), lt-ltb _ _ (c .if2 .taken))
-
-returns-3 : tie.Need-returns-3 Inv-loop μ-loop
-unfolding compare
-returns-3 c =
-    let stage = c .before .before .before .before .before .before in
-    let l = stage in
-    let a = l .before .args .a .now in
-    let b = l .before .args .b .now in
-    rw (l .loop .inv .2, both-go-on a b (l .loop .i) (omega arith) (omega arith), le-ltb _ _ (c .before .if2 .left), lt-ltb _ _ (c .if3 .taken))
-
-loop-again : tie.Need-loop-again Inv-loop μ-loop
-unfolding compare
-loop-again c =
-    let stage = c .before .before .before .before .before .before in
-    let l = stage in
-    let a = l .before .args .a .now in
-    let b = l .before .args .b .now in (
+    rw (l .loop .inv .2, second-ends (l .before .args .a .now) b (l .loop .i) (omega arith) (omega arith))) (search needs) (search needs)
+    (λ c. let l = c .before .before .before .before .before in
+    rw (l .loop .inv .2, both-go-on (l .before .args .a .now) (l .before .args .b .now) (l .loop .i) (omega arith) (omega arith), lt-ltb _ _ (c .if2 .taken)))
+    (λ c. let stage = c .before .before .before .before .before .before in
+    let a = stage .before .args .a .now in
+    let b = stage .before .args .b .now in
+    rw (stage .loop .inv .2, both-go-on a b (stage .loop .i) (omega arith) (omega arith), le-ltb _ _ (c .before .if2 .left), lt-ltb _ _ (c .if3 .taken)))
+    (search needs) (search needs)
+    (λ c. let stage = c .before .before .before .before .before .before in
+    let b = stage .before .args .b .now in (
       omega arith,
       omega arith,
       rw (
-        l .loop .inv .2,
-        both-go-on a b (l .loop .i) (omega arith) (omega arith),
+        stage .loop .inv .2,
+        both-go-on (stage .before .args .a .now) b (stage .loop .i) (omega arith) (omega arith),
         le-ltb _ _ (c .before .if2 .left),
         le-ltb
             _ _ (c .if3 .left),
       ),
-    )
-
-returns-4 : tie.Need-returns-4 Inv-loop μ-loop
-returns-4 c =
-    let l = c .before .before in
-    let a = l .before .args .a .now in
-    let b = l .before .args .b .now in
-    rw (l .loop .inv .2, first-ends a b (l .loop .i) (omega arith) (omega arith))
-
-returns-5 : tie.Need-returns-5 Inv-loop μ-loop
-returns-5 c =
-    let l = c .before .before in
-    let a = l .before .args .a .now in
-    let b = l .before .args .b .now in
-    rw (l .loop .inv .2, both-end a b (l .loop .i) (omega arith) (omega arith))
-
-pub compare-bytes-spec : {M : Type 1} → statement M
-compare-bytes-spec =
-    tie.close
-    (tie.spec Inv-loop μ-loop loop-holds returns (λ c. search needs) (λ c. search needs) returns-2 returns-3
-    (λ c. search needs) (λ c. search needs) loop-again returns-4 returns-5)
+    ))
+    (λ c. let l = c .before .before in
+    rw (l .loop .inv .2, first-ends (l .before .args .a .now) (l .before .args .b .now) (l .loop .i) (omega arith) (omega arith)))
+    (λ c. let l = c .before .before in
+    rw (l .loop .inv .2, both-end (l .before .args .a .now) (l .before .args .b .now) (l .loop .i) (omega arith) (omega arith))))

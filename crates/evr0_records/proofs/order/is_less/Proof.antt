@@ -1,16 +1,11 @@
 -- Order by order.
 use borrow.Author.Needs.{needs}
-use Rattle.evr0_records.proofs.order.is_less.Statement.{statement}
-use Rattle.evr0_records.proofs.order.is_less.Tie as tie
+use Rattle.evr0_records.proofs.order.is_less as f
+use f.Tie as tie
 
-returns : tie.Need-returns
-returns c = rw (c .enum-told .given .1)
-
-returns-2 : tie.Need-returns-2
-returns-2 c = rw (c .enum-told2 .given .1)
-
-returns-3 : tie.Need-returns-3
-returns-3 c = rw (c .enum-told3 .given .1)
-
-pub is-less-spec : {M : Type 1} → statement M
-is-less-spec = tie.close (tie.spec (λ c. search needs) (λ c. search needs) (λ c. search needs) returns returns-2 returns-3)
+pub is-less-spec : {M : Type 1} → f.Statement.statement M
+is-less-spec =
+    tie.close (tie.spec (search needs) (search needs) (search needs)
+    (λ c. rw (c .enum-told .given .1))
+    (λ c. rw (c .enum-told2 .given .1))
+    (λ c. rw (c .enum-told3 .given .1)))

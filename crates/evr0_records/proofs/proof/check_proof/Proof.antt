@@ -11,8 +11,8 @@ use Rattle.evr0_head.specs.Maps.{countsOut}
 use Rattle.evr0_records.specs.Maps.{unownedOut, proofRecord, namedOut}
 use Rattle.evr0_records.specs.declared.rule.Named.{Named}
 use Rattle.evr0_records.proofs.ProofLaws.{same-range}
-use Rattle.evr0_records.proofs.proof.check_proof.Statement.{statement}
-use Rattle.evr0_records.proofs.proof.check_proof.Tie as tie
+use Rattle.evr0_records.proofs.proof.check_proof as f
+use f.Tie as tie
 
 abbrev next : tie.After-is-next → Step Bool (Out Rule)
 unfolding checkProof
@@ -24,9 +24,7 @@ next c =
 abbrev contiguous : tie.After-is-contiguous → Step Bool (Out Rule)
 unfolding checkProof
 contiguous c =
-    let i = c .before in
-    let r = c .is-contiguous in
-    then-tests (next (i .before)) (not-false _ (i .if1 .left)) (r .result) _ _ _ (r .ensures) refl
+    then-tests (next (c .before .before)) (not-false _ (c .before .if1 .left)) (c .is-contiguous .result) _ _ _ (c .is-contiguous .ensures) refl
 
 abbrev ends : tie.After-ends-within → Step Bool (Out Rule)
 unfolding checkProof
@@ -48,37 +46,16 @@ named c =
 abbrev numbers : tie.After-has-numbers → Step Bool (Out Rule)
 unfolding checkProof
 numbers c =
-    let k = c .before .before in
-    let r = c .has-numbers in
-    then-tests (named (k .before .before)) (k .named .given .1) (r .result) _ _ _ (r .ensures) refl
+    then-tests (named (c .before .before .before .before)) (c .before .before .named .given .1) (c .has-numbers .result) _ _ _ (c .has-numbers .ensures) refl
 
-returns : tie.Need-returns
+pub check-proof-spec : {M : Type 1} → f.Statement.statement M
 unfolding checkProof
-returns c = c .unsettled .ensures ∙ sym (told (next (c .before .before)) (not-true _ (c .before .if1 .taken)))
-
-returns-2 : tie.Need-returns-2
-unfolding checkProof
-returns-2 c = c .unsettled2 .ensures ∙ sym (told (contiguous (c .before .before)) (not-true _ (c .before .if2 .taken)))
-
-returns-3 : tie.Need-returns-3
-unfolding checkProof
-returns-3 c = c .unsettled3 .ensures ∙ sym (told (ends (c .before .before)) (not-true _ (c .before .if3 .taken)))
-
-returns-4 : tie.Need-returns-4
-unfolding checkProof
-returns-4 c = c .unsettled4 .ensures ∙ sym (told (named (c .before .before .before)) (c .before .enum-told .given .1))
-
-returns-5 : tie.Need-returns-5
-unfolding checkProof
-returns-5 c = c .unsettled5 .ensures ∙ sym (told (numbers (c .before .before)) (not-true _ (c .before .if4 .taken)))
-
-returns-6 : tie.Need-returns-6
-unfolding checkProof
-returns-6 c = sym (told (numbers (c .before)) (not-false _ (c .if4 .left)))
-
-pub check-proof-spec : {M : Type 1} → statement M
 check-proof-spec =
-    tie.close
-    (tie.spec (λ c κs. search needs) (λ c κs. search needs) returns (λ c κs. search needs) (λ c κs. search needs) returns-2
-    (λ c κs. search needs) (λ c κs. search needs) returns-3 (λ c κs. search needs) (λ c. search needs) (λ c. search needs)
-    (λ c κs. search needs) returns-4 (λ c κs. search needs) (λ c κs. search needs) returns-5 returns-6)
+    tie.close (tie.spec (search needs) (search needs)
+    (λ c. c .unsettled .ensures ∙ sym (told (next (c .before .before)) (not-true _ (c .before .if1 .taken)))) (search needs) (search needs)
+    (λ c. c .unsettled2 .ensures ∙ sym (told (contiguous (c .before .before)) (not-true _ (c .before .if2 .taken)))) (search needs) (search needs)
+    (λ c. c .unsettled3 .ensures ∙ sym (told (ends (c .before .before)) (not-true _ (c .before .if3 .taken)))) (search needs) (search needs)
+    (search needs) (search needs)
+    (λ c. c .unsettled4 .ensures ∙ sym (told (named (c .before .before .before)) (c .before .enum-told .given .1))) (search needs) (search needs)
+    (λ c. c .unsettled5 .ensures ∙ sym (told (numbers (c .before .before)) (not-true _ (c .before .if4 .taken))))
+    (λ c. sym (told (numbers (c .before)) (not-false _ (c .if4 .left)))))

@@ -12,8 +12,8 @@ use Rattle.evr0_fields.specs.Maps.{placeOut, spanOut}
 use Rattle.evr0_fields.specs.declared.place.Place.{Place}
 use Rattle.evr0_fields.proofs.Steps.{Step, told, reads-field, then, then-field, handed}
 use Rattle.evr0_records.specs.Checks.{restOf}
-use Rattle.evr0_records.proofs.proof.read_rest.Statement.{statement}
-use Rattle.evr0_records.proofs.proof.read_rest.Tie as tie
+use Rattle.evr0_records.proofs.proof.read_rest as f
+use f.Tie as tie
 
 abbrev authority : tie.After-read-u32-le → Step U32 (Out (Sized ProofRecord))
 authority c =
@@ -23,76 +23,49 @@ authority c =
 
 abbrev first-witness : tie.After-read-u32-le2 → Step U32 (Out (Sized ProofRecord))
 first-witness c =
-    let k = c .before .before in
     let r = c .read-u32-le2 in
-    then-field (authority (k .before .before)) (k .authority .given .1) u32Out (r .result) _ _ (r .ensures) refl
+    then-field (authority (c .before .before .before .before)) (c .before .before .authority .given .1) u32Out (r .result) _ _ (r .ensures) refl
 
 abbrev witness-count : tie.After-read-u32-le3 → Step U32 (Out (Sized ProofRecord))
 witness-count c =
-    let k = c .before .before in
     let r = c .read-u32-le3 in
-    then-field (first-witness (k .before .before)) (k .first-witness .given .1) u32Out (r .result) _ _ (r .ensures) refl
+    then-field (first-witness (c .before .before .before .before)) (c .before .before .first-witness .given .1) u32Out (r .result) _ _ (r .ensures) refl
 
 abbrev first-parent : tie.After-read-u32-le4 → Step U32 (Out (Sized ProofRecord))
 first-parent c =
-    let k = c .before .before in
     let r = c .read-u32-le4 in
-    then-field (witness-count (k .before .before)) (k .witnesses .given .1) u32Out (r .result) _ _ (r .ensures) refl
+    then-field (witness-count (c .before .before .before .before)) (c .before .before .witnesses .given .1) u32Out (r .result) _ _ (r .ensures) refl
 
 abbrev parent-count : tie.After-read-u32-le5 → Step U32 (Out (Sized ProofRecord))
 parent-count c =
-    let k = c .before .before in
     let r = c .read-u32-le5 in
-    then-field (first-parent (k .before .before)) (k .first-parent .given .1) u32Out (r .result) _ _ (r .ensures) refl
+    then-field (first-parent (c .before .before .before .before)) (c .before .before .first-parent .given .1) u32Out (r .result) _ _ (r .ensures) refl
 
 abbrev operation : tie.After-read-u8 → Step U8 (Out (Sized ProofRecord))
 operation c =
-    let k = c .before .before in
     let r = c .read-u8 in
-    then-field (parent-count (k .before .before)) (k .parents .given .1) u8Out (r .result) _ _ (r .ensures) refl
+    then-field (parent-count (c .before .before .before .before)) (c .before .before .parents .given .1) u8Out (r .result) _ _ (r .ensures) refl
 
 abbrev zeros : tie.After-zeros-after → Step Place (Out (Sized ProofRecord))
 zeros c =
-    let k = c .before .before in
     let r = c .zeros-after in
-    then (operation (k .before .before)) (k .operation .given .1) placeOut (r .result) _ (r .ensures) refl
+    then (operation (c .before .before .before .before)) (c .before .before .operation .given .1) placeOut (r .result) _ (r .ensures) refl
 
-zeros-after-requires : tie.Need-zeros-after-requires
-zeros-after-requires c κs =
-    let k = c .before in
-    let x = field-ok 5 1 _ _ (field-told u8Out 5 _ (k .before .before .read-u8 .ensures) (k .operation .given .1)) in
-    (x .2 ∙ sym (le-1 _ _), x .0, x .1)
-
-returns : tie.Need-returns
-returns c = c .cut .ensures ∙ sym (told (authority (c .before .before .before)) (c .before .enum-told .given .1))
-
-returns-2 : tie.Need-returns-2
-returns-2 c = c .cut2 .ensures ∙ sym (told (first-witness (c .before .before .before)) (c .before .enum-told2 .given .1))
-
-returns-3 : tie.Need-returns-3
-returns-3 c = c .cut3 .ensures ∙ sym (told (witness-count (c .before .before .before)) (c .before .enum-told3 .given .1))
-
-returns-4 : tie.Need-returns-4
-returns-4 c = c .cut4 .ensures ∙ sym (told (first-parent (c .before .before .before)) (c .before .enum-told4 .given .1))
-
-returns-5 : tie.Need-returns-5
-returns-5 c = c .cut5 .ensures ∙ sym (told (parent-count (c .before .before .before)) (c .before .enum-told5 .given .1))
-
-returns-6 : tie.Need-returns-6
-returns-6 c = c .cut6 .ensures ∙ sym (told (operation (c .before .before .before)) (c .before .enum-told6 .given .1))
-
-returns-7 : tie.Need-returns-7
-returns-7 c = handed (zeros (c .before .before .before)) (c .before .enum-told7 .given .1) placeOut (c .place-refusal .ensures) refl
-
-returns-8 : tie.Need-returns-8
-returns-8 c = let k = c .before in sym (told (zeros (k .before .before)) (k .zeros .given .1))
-
-pub read-rest-spec : {M : Type 1} → statement M
+pub read-rest-spec : {M : Type 1} → f.Statement.statement M
 read-rest-spec =
-    tie.close
-    (tie.spec (λ c κs. search needs) (λ c. search needs) (λ c. search needs) (λ c κs. search needs) returns
-    (λ c κs. search needs) (λ c. search needs) (λ c. search needs) (λ c κs. search needs) returns-2 (λ c κs. search needs)
-    (λ c. search needs) (λ c. search needs) (λ c κs. search needs) returns-3 (λ c κs. search needs) (λ c. search needs)
-    (λ c. search needs) (λ c κs. search needs) returns-4 (λ c κs. search needs) (λ c. search needs) (λ c. search needs)
-    (λ c κs. search needs) returns-5 (λ c κs. search needs) (λ c. search needs) (λ c. search needs) (λ c κs. search needs)
-    returns-6 zeros-after-requires (λ c. search needs) (λ c. search needs) (λ c κs. search needs) returns-7 returns-8)
+    tie.close (tie.spec (search needs) (search needs) (search needs) (search needs)
+    (λ c. c .cut .ensures ∙ sym (told (authority (c .before .before .before)) (c .before .enum-told .given .1))) (search needs) (search needs)
+    (search needs) (search needs)
+    (λ c. c .cut2 .ensures ∙ sym (told (first-witness (c .before .before .before)) (c .before .enum-told2 .given .1))) (search needs) (search needs)
+    (search needs) (search needs)
+    (λ c. c .cut3 .ensures ∙ sym (told (witness-count (c .before .before .before)) (c .before .enum-told3 .given .1))) (search needs) (search needs)
+    (search needs) (search needs)
+    (λ c. c .cut4 .ensures ∙ sym (told (first-parent (c .before .before .before)) (c .before .enum-told4 .given .1))) (search needs) (search needs)
+    (search needs) (search needs)
+    (λ c. c .cut5 .ensures ∙ sym (told (parent-count (c .before .before .before)) (c .before .enum-told5 .given .1))) (search needs) (search needs)
+    (search needs) (search needs)
+    (λ c. c .cut6 .ensures ∙ sym (told (operation (c .before .before .before)) (c .before .enum-told6 .given .1)))
+    (λ c κs. let x = field-ok 5 1 _ _ (field-told u8Out 5 _ (c .before .before .before .read-u8 .ensures) (c .before .operation .given .1)) in
+    (x .2 ∙ sym (le-1 _ _), x .0, x .1)) (search needs) (search needs) (search needs)
+    (λ c. handed (zeros (c .before .before .before)) (c .before .enum-told7 .given .1) placeOut (c .place-refusal .ensures) refl)
+    (λ c. let k = c .before in sym (told (zeros (k .before .before)) (k .zeros .given .1))))

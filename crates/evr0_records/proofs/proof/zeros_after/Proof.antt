@@ -4,44 +4,24 @@ use borrow.Author.Needs.{needs}
 use Rattle.local_format.specs.Maps.{u32Out}
 use Rattle.local_format.proofs.FieldLaws.{field-told}
 use Rattle.evr0_records.proofs.ZerosLaws.{zeros-cut, zeros-bad, zeros-good}
-use Rattle.evr0_records.proofs.proof.zeros_after.Statement.{statement}
-use Rattle.evr0_records.proofs.proof.zeros_after.Tie as tie
+use Rattle.evr0_records.proofs.proof.zeros_after as f
+use f.Tie as tie
 
-returns : tie.Need-returns
-returns c =
-    let t = c .before .before .before in
+pub zeros-after-spec : {M : Type 1} → f.Statement.statement M
+zeros-after-spec =
+    tie.close (tie.spec (search needs) (search needs) (search needs) (search needs)
+    (λ c. let t = c .before .before .before in
     let s = t .before .before in
     rw (c .refuse .ensures, s .pre .1)
     (zeros-cut (s .args .bytes .now) (s .args .at) (s .pre .2)
-    (field-told u32Out 5 (s .args .at) (t .read-u32-le .ensures) (c .before .enum-told .given .1)))
-
-returns-2 : tie.Need-returns-2
-returns-2 c =
-    let f = c .before .before .before in
-    let t = f .before .before in
-    let s = t .before .before in
+    (field-told u32Out 5 (s .args .at) (t .read-u32-le .ensures) (c .before .enum-told .given .1)))) (search needs)
+    (λ c. let f = c .before .before .before in
+    let s = f .before .before .before .before in
     rw (c .refuse2 .ensures, s .pre .1)
-    (zeros-bad (s .args .bytes .now) (s .args .at) (field-told u32Out 5 (s .args .at) (t .read-u32-le .ensures) (f .four .given .1)) λ k.
-    c .before .if1 .taken (k ∙ sym (s .pre .0)))
-
-returns-3 : tie.Need-returns-3
-returns-3 c =
-    let f = c .before .before in
-    let t = f .before .before in
+    (zeros-bad (s .args .bytes .now) (s .args .at) (field-told u32Out 5 (s .args .at) (f .before .before .read-u32-le .ensures) (f .four .given .1)) λ k.
+    c .before .if1 .taken (k ∙ sym (s .pre .0))))
+    (λ c. let t = c .before .before .before .before in
     let s = t .before .before in
     rw (s .pre .1)
-    (zeros-good (s .args .bytes .now) (s .args .at) (field-told u32Out 5 (s .args .at) (t .read-u32-le .ensures) (f .four .given .1))
-    (c .if1 .left ∙ s .pre .0))
-
-pub zeros-after-spec : {M : Type 1} → statement M
-zeros-after-spec =
-    tie.close
-    (tie.spec
-    (λ c κs. search needs)
-    (λ c. search needs)
-    (λ c. search needs)
-    (λ c κs. search needs)
-    returns
-    (λ c κs. search needs)
-    returns-2
-    returns-3)
+    (zeros-good (s .args .bytes .now) (s .args .at) (field-told u32Out 5 (s .args .at) (t .read-u32-le .ensures) (c .before .before .four .given .1))
+    (c .if1 .left ∙ s .pre .0))))

@@ -1,14 +1,15 @@
 -- The four orders, joined as the definition joins them.
 use borrow.Author.Needs.{needs}
 use Rattle.evr0_section.specs.Proposition.{compareKeys}
-use Rattle.evr0_records.proofs.proposition.precedes.Statement.{statement}
-use Rattle.evr0_records.proofs.proposition.precedes.Tie as tie
+use Rattle.evr0_records.proofs.proposition.precedes as f
+use f.Tie as tie
 
-returns : tie.Need-returns
+pub precedes-spec : {M : Type 1} → f.Statement.statement M
 unfolding compareKeys
-returns c =
-    let stage = c .before .before .before .before in
-    let types = stage in
+precedes-spec =
+    tie.close (tie.spec (search needs) (search needs) (search needs) (search needs) (search needs) (search needs) (search needs) (search needs)
+    (search needs) (search needs)
+    (λ c. let types = c .before .before .before .before in
     let kinds = types .before .before .before in
     rw (
       c .is-less .ensures,
@@ -21,11 +22,4 @@ returns c =
       kinds .compare-bytes .ensures,
       kinds .before .bytes-of2 .ensures,
       kinds .before .before .bytes-of .ensures,
-    )
-
-pub precedes-spec : {M : Type 1} → statement M
-precedes-spec =
-    tie.close
-    (tie.spec (λ c κs. search needs) (λ c κs. search needs) (λ c κs. search needs) (λ c κs. search needs)
-    (λ c κs. search needs) (λ c κs. search needs) (λ c κs. search needs) (λ c κs. search needs) (λ c κs. search needs)
-    (λ c κs. search needs) returns)
+    )))

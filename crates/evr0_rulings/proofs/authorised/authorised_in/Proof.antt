@@ -9,8 +9,8 @@ use Rattle.evr0_records.specs.Maps.{proofOut}
 use Rattle.evr0_rulings.specs.Held.{Held}
 use Rattle.evr0_rulings.proofs.HeldLaws.{proof-there}
 use Rattle.evr0_rulings.proofs.AuthorisedLaws.{LeftFrom, left-all, none-left, found-here, goes-on}
-use Rattle.evr0_rulings.proofs.authorised.authorised_in.Statement.{statement}
-use Rattle.evr0_rulings.proofs.authorised.authorised_in.Tie as tie
+use Rattle.evr0_rulings.proofs.authorised.authorised_in as f
+use f.Tie as tie
 
 abbrev Inv-loop : tie.InvT-loop
 Inv-loop payload starts proposition i₀ i = (d : Section) → Held payload starts d → LeftFrom d (proposition .0) i
@@ -28,37 +28,22 @@ returns c d h =
 
 returns-2 : tie.Need-returns-2 Inv-loop μ-loop
 returns-2 c d h =
-    let o = c .before in
-    let k = o .before .before in
+    let k = c .before .before .before in
     let q = k .before .before in
     found-here _ _ d h _ _ (q .before .before .loop .inv d h) _ (q .before .loop-test .taken)
-    (told proofOut (q .proof-in .ensures) (k .read .given .1)) (sym (o .operates .ensures) ∙ c .if1 .taken)
+    (told proofOut (q .proof-in .ensures) (k .read .given .1)) (sym (c .before .operates .ensures) ∙ c .if1 .taken)
 
 loop-again : tie.Need-loop-again Inv-loop μ-loop
 loop-again c d h =
-    let o = c .before in
-    let k = o .before .before in
+    let k = c .before .before .before in
     let q = k .before .before in
     goes-on _ _ d h _ _ (q .before .before .loop .inv d h) _ (q .before .loop-test .taken) (told proofOut (q .proof-in .ensures) (k .read .given .1))
-    (sym (o .operates .ensures) ∙ c .if1 .left)
+    (sym (c .before .operates .ensures) ∙ c .if1 .left)
 
 returns-3 : tie.Need-returns-3 Inv-loop μ-loop
 returns-3 c d h = none-left _ _ d h _ _ (c .before .loop .inv d h) (c .loop-test .left)
 
-pub authorised-in-spec : {M : Type 1} → statement M
+pub authorised-in-spec : {M : Type 1} → f.Statement.statement M
 authorised-in-spec =
-    tie.close
-    (tie.spec
-    Inv-loop
-    μ-loop
-    loop-holds
-    (λ c κs. search needs)
-    (λ c. search needs)
-    (λ c. search needs)
-    returns
-    (λ c κs. search needs)
-    returns-2
-    (λ c. search needs)
-    (λ c. search needs)
-    loop-again
-    returns-3)
+    tie.close (tie.spec Inv-loop μ-loop loop-holds (search needs) (search needs) (search needs) returns (search needs) returns-2 (search needs)
+    (search needs) loop-again returns-3)

@@ -12,8 +12,8 @@ use Rattle.evr0_records.specs.Maps.{proofOut}
 use Rattle.evr0_rulings.specs.Held.{Held, proofIn}
 use Rattle.evr0_rulings.proofs.HeldLaws.{proof-there}
 use Rattle.evr0_rulings.proofs.DownLaws.{Reached, reached-start, ends-here, spent-here, cell-there, moves-on}
-use Rattle.evr0_rulings.proofs.down.down_from.Statement.{statement}
-use Rattle.evr0_rulings.proofs.down.down_from.Tie as tie
+use Rattle.evr0_rulings.proofs.down.down_from as f
+use f.Tie as tie
 
 abbrev Inv-loop : tie.InvT-loop
 Inv-loop payload starts cells from limit table from₀ moves₀ reached moves =
@@ -23,9 +23,6 @@ Inv-loop payload starts cells from limit table from₀ moves₀ reached moves =
 
 abbrev μ-loop : tie.MeasureT-loop
 μ-loop payload starts cells from limit table from₀ moves₀ reached moves = limit - moves
-
-loop-holds : tie.Need-loop-holds Inv-loop μ-loop
-loop-holds c = (omega arith, λ d h e l. reached-start _ d _ _ l)
 
 -- what was read is the record with the number reached
 module _ (c : tie.After-proof-in Inv-loop μ-loop) where
@@ -74,49 +71,21 @@ returns-4 c d h e l =
     (u .before .before .before .if1 .left)
     _ e (told u32Out (celled u) (c .enum-told2 .given .1)))
 
-add-moves : tie.Need-add-moves Inv-loop μ-loop
-add-moves c =
-    let u = c .before .before .before in
+pub down-from-spec : {M : Type 1} → f.Statement.statement M
+down-from-spec =
+    tie.close (tie.spec Inv-loop μ-loop (search needs)
+    (λ c. (omega arith, λ d h e l. reached-start _ d _ _ l)) (search needs) (search needs) (search needs) (search needs) returns returns-2 returns-3
+    (search needs) (search needs) (search needs) (search needs) returns-4
+    (λ c. let u = c .before .before .before in
     let l = at-loop u in
-    omega (arith, l .loop .inv .0, u .before .before .if2 .left, l .before .before .before .before .fits .limit)
-
-loop-again : tie.Need-loop-again Inv-loop μ-loop
-loop-again c =
-    let u = c .before .before .before in
+    omega (arith, l .loop .inv .0, u .before .before .if2 .left, l .before .before .before .before .fits .limit))
+    (λ c. let u = c .before .before .before in
+    omega (arith, at-loop u .loop .inv .0, u .before .before .if2 .left))
+    (λ c. let u = c .before .before .before in
     let k = record-read u in
-    let q = k .before .before in
     let lp = at-loop u in (
       omega (arith, lp .loop .inv .0, u .before .before .if2 .left),
-      λ d h e l. moves-on _ _ d h _ _ _ _ (lp .loop .inv .1 d h e l) _ (told proofOut (numbered q) (k .read .given .1))
+      λ d h e l. moves-on _ _ d h _ _ _ _ (lp .loop .inv .1 d h e l) _ (told proofOut (numbered (k .before .before)) (k .read .given .1))
           (u .before .before .before .if1 .left)
           _ e (u .before .before .if2 .left) (lp .loop .inv .0) (told u32Out (celled u) (c .before .cell .given .1)),
-    )
-
-loop-less : tie.Need-loop-less Inv-loop μ-loop
-loop-less c =
-    let u = c .before .before .before in
-    omega (arith, at-loop u .loop .inv .0, u .before .before .if2 .left)
-
-pub down-from-spec : {M : Type 1} → statement M
-down-from-spec =
-    tie.close
-    (tie.spec
-    Inv-loop
-    μ-loop
-    (λ c κs. search needs)
-    loop-holds
-    (λ c κs. search needs)
-    (λ c κs. search needs)
-    (λ c. search needs)
-    (λ c. search needs)
-    returns
-    returns-2
-    returns-3
-    (λ c κs. search needs)
-    (λ c κs. search needs)
-    (λ c. search needs)
-    (λ c. search needs)
-    returns-4
-    add-moves
-    loop-less
-    loop-again)
+    )))

@@ -6,35 +6,28 @@ use Rattle.evr0_section.specs.Witness.{witnessRow}
 use Rattle.evr0_section.proofs.Inside.{witnessRowIn}
 use Rattle.evr0_tables.specs.Maps.{tableOut}
 use Rattle.evr0_tables.proofs.PayloadLaws.{next-within, rest-kept}
-use Rattle.evr0_tables.proofs.payload.read_rest.Statement.{statement}
-use Rattle.evr0_tables.proofs.payload.read_rest.Tie as tie
+use Rattle.evr0_tables.proofs.payload.read_rest as f
+use f.Tie as tie
 
-read-parents-requires : tie.Need-read-parents-requires
-read-parents-requires c κs =
-    let r = c .before .before .before in
+pub read-rest-spec : {M : Type 1} → f.Statement.statement M
+read-rest-spec =
+    tie.close (tie.spec (search needs) (search needs) (search needs)
+    (λ c. rw (rest-kept, ← c .before .before .read-witnesses .ensures, c .enum-told .given .1))
+    (λ c κs. let r = c .before .before .before in
     let s = r .before .before in (
       s .pre .0,
       next-within (witnessRow 4 _) (λ q u. witnessRowIn q 4 _ u) _ _ 0 _ (s .pre .1)
           (told tableOut (r .read-witnesses .ensures) (c .before .witnesses .given .1)),
-    )
-
-returns : tie.Need-returns
-returns c = rw (rest-kept, ← c .before .before .read-witnesses .ensures, c .enum-told .given .1)
-
-returns-2 : tie.Need-returns-2
-returns-2 c =
-    let w = c .before .before .before .before in
+    )) (search needs) (search needs)
+    (λ c. let w = c .before .before .before .before in
     rw (
       rest-kept,
       ← w .before .before .read-witnesses .ensures,
       w .witnesses .given .1,
       ← c .before .before .read-parents .ensures,
       c .enum-told2 .given .1,
-    )
-
-returns-3 : tie.Need-returns-3
-returns-3 c =
-    let q = c .before .before .before in
+    )) (search needs)
+    (λ c. let q = c .before .before .before in
     let w = q .before .before .before .before in
     rw (
       c .refuse .ensures,
@@ -44,11 +37,8 @@ returns-3 c =
       ← q .before .before .read-parents .ensures,
       q .parents .given .1,
       ne-eqb _ _ (c .before .if1 .taken),
-    )
-
-returns-4 : tie.Need-returns-4
-returns-4 c =
-    let q = c .before .before in
+    ))
+    (λ c. let q = c .before .before in
     let w = q .before .before .before .before in
     rw (
       rest-kept,
@@ -57,20 +47,4 @@ returns-4 c =
       ← q .before .before .read-parents .ensures,
       q .parents .given .1,
       eq-eqb _ _ (c .if1 .left),
-    )
-
-pub read-rest-spec : {M : Type 1} → statement M
-read-rest-spec =
-    tie.close
-    (tie.spec
-    (λ c κs. search needs)
-    (λ c. search needs)
-    (λ c. search needs)
-    returns
-    read-parents-requires
-    (λ c. search needs)
-    (λ c. search needs)
-    returns-2
-    (λ c κs. search needs)
-    returns-3
-    returns-4)
+    )))

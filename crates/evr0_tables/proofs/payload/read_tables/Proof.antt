@@ -4,44 +4,25 @@ use Rattle.local_format.proofs.OutLaws.{told}
 use Rattle.derivation.specs.Rule.{fourRules}
 use Rattle.evr0_tables.specs.PayloadMaps.{placesOut}
 use Rattle.evr0_tables.proofs.PayloadLaws.{cleared, cleared-past}
-use Rattle.evr0_tables.proofs.payload.read_tables.Statement.{statement}
-use Rattle.evr0_tables.proofs.payload.read_tables.Tie as tie
+use Rattle.evr0_tables.proofs.payload.read_tables as f
+use f.Tie as tie
 
-returns : tie.Need-returns
-returns c =
-    let second = c .before .before in
+pub read-tables-spec : {M : Type 1} → f.Statement.statement M
+read-tables-spec =
+    tie.close (tie.spec (search needs) (search needs) (search needs) (search needs) (search needs) (search needs) (search needs) (search needs)
+    (search needs)
+    (λ c. let second = c .before .before in
     let one = second .before .before .before .before in
     let r = one .before .before .before in
     let f = r .before .before .before .before .before .before in
     let d = f .read-four in
     cleared (told placesOut (d .ensures .answer) (r .places .given .1)) _ _ (d .last .1 .1 .1 .0) (d .last .1 .1 .1 .1 .0)
     (d .kept .1 .1 .1 .0) (d .kept .1 .1 .1 .1 .0) (one .clear .ensures)
-    (second .clear2 .ensures)
-
-returns-2 : tie.Need-returns-2
-returns-2 c =
-    let second = c .before .before in
+    (second .clear2 .ensures)) (search needs) (search needs)
+    (λ c. let second = c .before .before in
     let one = second .before .before .before .before in
     let r = one .before .before .before in
     let f = r .before .before .before .before .before .before in
     let d = f .read-four in
     cleared-past fourRules _ _ _ _ _ (rw (r .places2 .given .1) at (d .ensures)) (d .kept .1 .1 .1 .0) (d .kept .1 .1 .1 .1 .0)
-    (one .clear-from .ensures) (second .clear-from2 .ensures)
-
-pub read-tables-spec : {M : Type 1} → statement M
-read-tables-spec =
-    tie.close
-    (tie.spec
-    (λ c κs. search needs)
-    (λ c. search needs)
-    (λ c κs. search needs)
-    (λ c κs. search needs)
-    (λ c. search needs)
-    (λ c κs. search needs)
-    (λ c κs. search needs)
-    (λ c. search needs)
-    (λ c. search needs)
-    returns
-    (λ c. search needs)
-    (λ c. search needs)
-    returns-2)
+    (one .clear-from .ensures) (second .clear-from2 .ensures)))

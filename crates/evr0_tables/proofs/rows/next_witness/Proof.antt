@@ -2,24 +2,21 @@
 use Rattle.evr0_section.specs.Witness.{witnessOf, witnessRow}
 use Rattle.evr0_tables.proofs.RowLaws.{answered}
 use borrow.Author.Needs.{needs}
-use Rattle.evr0_tables.proofs.rows.next_witness.Statement.{statement}
-use Rattle.evr0_tables.proofs.rows.next_witness.Tie as tie
+use Rattle.evr0_tables.proofs.rows.next_witness as f
+use f.Tie as tie
 
-returns : tie.Need-returns
+pub next-witness-spec : {M : Type 1} → f.Statement.statement M
 unfolding witnessRow
-returns c =
-    let r = c .before .before .before in
+next-witness-spec =
+    tie.close (tie.spec (search needs) (search needs) (search needs) (search needs) (search needs) (search needs) (search needs)
+    (λ c. let r = c .before .before .before in
     rw (
       ← r .before .tail .ensures,
       ← answered (λ x. x .item .fileDigest) (λ x. x .item .originDigest) (witnessOf 4 (r .before .tail .result .now))
           (r .read-witness .ensures),
       c .before .answer .given .1,
-    )
-
-returns-2 : tie.Need-returns-2
-unfolding witnessRow
-returns-2 c =
-    let k = c .before .before .before in
+    ))
+    (λ c. let k = c .before .before .before in
     let r = k .before .before .before .before in
     rw (
       ← r .before .tail .ensures,
@@ -27,12 +24,8 @@ returns-2 c =
       k .before .before .answer2 .given .1,
       ← k .check-witness .ensures,
       c .before .checked .given .1,
-    )
-
-returns-3 : tie.Need-returns-3
-unfolding witnessRow
-returns-3 c =
-    let k = c .before .before in
+    ))
+    (λ c. let k = c .before .before in
     let r = k .before .before .before .before in
     rw (
       ← r .before .tail .ensures,
@@ -40,19 +33,4 @@ returns-3 c =
       k .before .before .answer2 .given .1,
       ← k .check-witness .ensures,
       c .enum-told .given .1,
-    )
-
-pub next-witness-spec : {M : Type 1} → statement M
-next-witness-spec =
-    tie.close
-    (tie.spec
-    (λ c κs. search needs)
-    (λ c κs. search needs)
-    (λ c. search needs)
-    (λ c. search needs)
-    (λ c κs. search needs)
-    (λ c. search needs)
-    (λ c. search needs)
-    returns
-    returns-2
-    returns-3)
+    )))

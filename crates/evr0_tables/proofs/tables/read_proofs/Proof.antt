@@ -15,8 +15,8 @@ use Rattle.evr0_head.specs.Maps.{countsOut}
 use Rattle.evr0_records.specs.Maps.{unownedOut}
 use Rattle.evr0_tables.specs.Maps.{proofRowOut, ownedIn}
 use Rattle.evr0_tables.proofs.TableLaws.{Stands, Stopped, starting, advance, stop, stored, read-owned, read-front, refused-front}
-use Rattle.evr0_tables.proofs.tables.read_proofs.Statement.{statement}
-use Rattle.evr0_tables.proofs.tables.read_proofs.Tie as tie
+use Rattle.evr0_tables.proofs.tables.read_proofs as f
+use f.Tie as tie
 
 abbrev Inv-loop : tie.InvT-loop
 Inv-loop payload counts at starts₀ count unowned₀ place₀ i₀ starts unowned place i =
@@ -46,48 +46,16 @@ module _ (c : tie.After-row2 Inv-loop μ-loop) where
       (start l2 .args .at) noneOwned (l2 .loop .place) (refusalOut (c .row2 .given .0 .0))
   stopped = stop (l2 .loop .inv .0) (proofRowIn _ _ _ _) (omega arith) (told proofRowOut (c .before .before .next-proof .ensures) (c .row2 .given .1))
 
-loop-holds : tie.Need-loop-holds Inv-loop μ-loop
-loop-holds c = (starting (proofRow fourRules _) _ _ _ noneOwned (c .before .before .pre .1), refl)
-
-add-place : tie.Need-add-place Inv-loop μ-loop
-add-place c = omega (arith, on (c .before) .within)
-
-loop-again : tie.Need-loop-again Inv-loop μ-loop
-loop-again c =
-    let k = c .before in
-    (stored _ _ _ (on k) (omega (arith, l k .loop .inv .1)), simp length-set (l k .loop .inv .1))
-
-moved-requires : tie.Need-moved-requires Inv-loop μ-loop
-moved-requires c κs = omega (arith, stopped (c .before) .within)
-
-returns : tie.Need-returns Inv-loop μ-loop
-returns c =
-    let e = stopped (c .before .before) .is in
-    (ap refused (c .moved .ensures) ∙ sym (ap ownedIn e), refused-front _ e)
-
-returns-2 : tie.Need-returns-2 Inv-loop μ-loop
-returns-2 c =
-    let i = c .before .loop .inv in
-    (read-owned (i .0) (omega arith), read-front (i .0) (omega arith) _ refl (omega (arith, i .1)))
-
-pub read-proofs-spec : {M : Type 1} → statement M
+pub read-proofs-spec : {M : Type 1} → f.Statement.statement M
 read-proofs-spec =
-    tie.close
-    (tie.spec
-    Inv-loop
-    μ-loop
-    loop-holds
-    (λ c κs. search needs)
-    (λ c. search needs)
-    (λ c. search needs)
-    (λ c. search needs)
-    add-place
-    (λ c. search needs)
-    (λ c. search needs)
-    loop-again
-    (λ c. search needs)
-    moved-requires
-    (λ c. search needs)
-    returns
-    (λ c. search needs)
-    returns-2)
+    tie.close (tie.spec Inv-loop μ-loop
+    (λ c. (starting (proofRow fourRules _) _ _ _ noneOwned (c .before .before .pre .1), refl)) (search needs) (search needs) (search needs)
+    (search needs)
+    (λ c. omega (arith, on (c .before) .within)) (search needs) (search needs)
+    (λ c. let k = c .before in
+    (stored _ _ _ (on k) (omega (arith, l k .loop .inv .1)), simp length-set (l k .loop .inv .1))) (search needs)
+    (λ c κs. omega (arith, stopped (c .before) .within)) (search needs)
+    (λ c. let e = stopped (c .before .before) .is in
+    (ap refused (c .moved .ensures) ∙ sym (ap ownedIn e), refused-front _ e)) (search needs)
+    (λ c. let i = c .before .loop .inv in
+    (read-owned (i .0) (omega arith), read-front (i .0) (omega arith) _ refl (omega (arith, i .1)))))

@@ -13,8 +13,8 @@ use Rattle.evr0_section.proofs.Inside.{propositionRowIn}
 use Rattle.evr0_records.specs.Maps.{propositionRecord}
 use Rattle.evr0_tables.specs.Maps.{beforeOut, propositionRowOut, keptIn, nextIn}
 use Rattle.evr0_tables.proofs.TableLaws.{Stands, Stopped, starting, advance, stop, stored, read-next, read-front, refused-front}
-use Rattle.evr0_tables.proofs.tables.read_propositions.Statement.{statement}
-use Rattle.evr0_tables.proofs.tables.read_propositions.Tie as tie
+use Rattle.evr0_tables.proofs.tables.read_propositions as f
+use f.Tie as tie
 
 abbrev Inv-loop : tie.InvT-loop
 Inv-loop payload count at starts₀ prior₀ place₀ i₀ starts prior place i =
@@ -48,48 +48,15 @@ module _ (c : tie.After-row2 Inv-loop μ-loop) where
       stop (l2 .loop .inv .0) (propositionRowIn _ _) (omega arith)
       (ap keptIn (told (propositionRowOut _) (c .before .before .next-proposition .ensures) (c .row2 .given .1)))
 
-loop-holds : tie.Need-loop-holds Inv-loop μ-loop
-loop-holds c = (starting propositionRow _ _ _ first (c .before .before .pre .1), refl)
-
-add-place : tie.Need-add-place Inv-loop μ-loop
-add-place c = omega (arith, on (c .before) .within)
-
-loop-again : tie.Need-loop-again Inv-loop μ-loop
-loop-again c =
-    let k = c .before in
-    (stored _ _ _ (on k) (omega (arith, l k .loop .inv .1)), simp length-set (l k .loop .inv .1))
-
-moved-requires : tie.Need-moved-requires Inv-loop μ-loop
-moved-requires c κs = omega (arith, stopped (c .before) .within)
-
-returns : tie.Need-returns Inv-loop μ-loop
-returns c =
-    let e = stopped (c .before .before) .is in
-    (ap refused (c .moved .ensures) ∙ sym (ap nextIn e), refused-front _ e)
-
-returns-2 : tie.Need-returns-2 Inv-loop μ-loop
-returns-2 c =
-    let i = c .before .loop .inv in
-    (read-next (i .0) (omega arith), read-front (i .0) (omega arith) _ refl (omega (arith, i .1)))
-
-pub read-propositions-spec : {M : Type 1} → statement M
+pub read-propositions-spec : {M : Type 1} → f.Statement.statement M
 read-propositions-spec =
-    tie.close
-    (tie.spec
-    Inv-loop
-    μ-loop
-    loop-holds
-    (λ c κs. search needs)
-    (λ c. search needs)
-    (λ c. search needs)
-    (λ c. search needs)
-    add-place
-    (λ c. search needs)
-    (λ c. search needs)
-    loop-again
-    (λ c. search needs)
-    moved-requires
-    (λ c. search needs)
-    returns
-    (λ c. search needs)
-    returns-2)
+    tie.close (tie.spec Inv-loop μ-loop
+    (λ c. (starting propositionRow _ _ _ first (c .before .before .pre .1), refl)) (search needs) (search needs) (search needs) (search needs)
+    (λ c. omega (arith, on (c .before) .within)) (search needs) (search needs)
+    (λ c. let k = c .before in
+    (stored _ _ _ (on k) (omega (arith, l k .loop .inv .1)), simp length-set (l k .loop .inv .1))) (search needs)
+    (λ c κs. omega (arith, stopped (c .before) .within)) (search needs)
+    (λ c. let e = stopped (c .before .before) .is in
+    (ap refused (c .moved .ensures) ∙ sym (ap nextIn e), refused-front _ e)) (search needs)
+    (λ c. let i = c .before .loop .inv in
+    (read-next (i .0) (omega arith), read-front (i .0) (omega arith) _ refl (omega (arith, i .1)))))

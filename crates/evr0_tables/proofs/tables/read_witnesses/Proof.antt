@@ -13,8 +13,8 @@ use Rattle.evr0_head.specs.Maps.{countsOut}
 use Rattle.evr0_tables.specs.Maps.{sizeOut, nextIn}
 use Rattle.evr0_tables.proofs.RowLaws.{witness-kept, size-kept}
 use Rattle.evr0_tables.proofs.TableLaws.{Stands, Stopped, starting, advance, stop, read-next}
-use Rattle.evr0_tables.proofs.tables.read_witnesses.Statement.{statement}
-use Rattle.evr0_tables.proofs.tables.read_witnesses.Tie as tie
+use Rattle.evr0_tables.proofs.tables.read_witnesses as f
+use f.Tie as tie
 
 abbrev Inv-loop : tie.InvT-loop
 Inv-loop payload counts at count place₀ i₀ place i =
@@ -46,38 +46,12 @@ module _ (c : tie.After-row2 Inv-loop μ-loop) where
       stop (l2 .loop .inv .1) (witnessRowIn _ 4 _ _) (omega arith)
       (size-kept (witnessRow 4 _ _ _) (told sizeOut (c .before .before .next-witness .ensures) (c .row2 .given .1)))
 
-loop-holds : tie.Need-loop-holds Inv-loop μ-loop
-loop-holds c = ([], starting (witnessRow 4 _) _ _ _ 0 (c .before .pre))
-
-add-place : tie.Need-add-place Inv-loop μ-loop
-add-place c = omega (arith, on (c .before) .within)
-
-loop-again : tie.Need-loop-again Inv-loop μ-loop
-loop-again c = (_, on (c .before))
-
-moved-requires : tie.Need-moved-requires Inv-loop μ-loop
-moved-requires c κs = omega (arith, stopped (c .before) .within)
-
-returns : tie.Need-returns Inv-loop μ-loop
-returns c = ap refused (c .moved .ensures) ∙ sym (ap nextIn (stopped (c .before .before) .is))
-
-returns-2 : tie.Need-returns-2 Inv-loop μ-loop
-returns-2 c = read-next (c .before .loop .inv .1) (omega arith)
-
-pub read-witnesses-spec : {M : Type 1} → statement M
+pub read-witnesses-spec : {M : Type 1} → f.Statement.statement M
 read-witnesses-spec =
-    tie.close
-    (tie.spec
-    Inv-loop
-    μ-loop
-    loop-holds
-    (λ c κs. search needs)
-    (λ c. search needs)
-    add-place
-    (λ c. search needs)
-    (λ c. search needs)
-    loop-again
-    (λ c. search needs)
-    moved-requires
-    returns
-    returns-2)
+    tie.close (tie.spec Inv-loop μ-loop
+    (λ c. ([], starting (witnessRow 4 _) _ _ _ 0 (c .before .pre))) (search needs) (search needs)
+    (λ c. omega (arith, on (c .before) .within)) (search needs) (search needs)
+    (λ c. (_, on (c .before))) (search needs)
+    (λ c κs. omega (arith, stopped (c .before) .within))
+    (λ c. ap refused (c .moved .ensures) ∙ sym (ap nextIn (stopped (c .before .before) .is)))
+    (λ c. read-next (c .before .loop .inv .1) (omega arith)))

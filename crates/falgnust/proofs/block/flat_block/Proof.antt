@@ -1,22 +1,8 @@
 -- Either variant is told by its own fields.
 use borrow.Author.Needs.{needs}
-use mathlib.Core.Path.{refl}
-use Rattle.falgnust.proofs.block.flat_block.Statement.{statement}
-use Rattle.falgnust.proofs.block.flat_block.Tie as tie
+use Rattle.falgnust.proofs.block.flat_block as f
 
-returns : tie.Need-returns
-returns c = rw (c .no-refusal .ensures, c .before .before .parse .given .1) refl
-
-returns-2 : tie.Need-returns-2
-returns-2 c = rw (c .flat-refusal .ensures, c .before .before .parse2 .given .1) refl
-
-pub flat-block-spec : {M : Type 1} → statement M
+pub flat-block-spec : {M : Type 1} → f.Statement.statement M
 flat-block-spec =
-    tie.close
-    (tie.spec
-    (λ c. search needs)
-    (λ c κs. search needs)
-    (λ c. search needs)
-    (λ c κs. search needs)
-    returns
-    returns-2)
+    f.Tie.close (f.Tie.spec (search needs) (search needs) (search needs) (search needs)
+    (λ c. rw (c .no-refusal .ensures, c .before .before .parse .given .1)) λ c. rw (c .flat-refusal .ensures, c .before .before .parse2 .given .1))

@@ -1,12 +1,6 @@
 -- The flat struct holds what `parent_at` answers.
 use borrow.Author.Needs.{needs}
-use mathlib.Core.Path.{ap, _∙_}
-use Rattle.falgnust.specs.EntryMaps.{flatParent}
-use Rattle.falgnust.proofs.parent.falgnust_read_parent.Statement.{statement}
-use Rattle.falgnust.proofs.parent.falgnust_read_parent.Tie as tie
+use Rattle.falgnust.proofs.parent.falgnust_read_parent as f
 
-returns : tie.Need-returns
-returns c = c .flat-parent .ensures ∙ ap flatParent (c .before .parent-at .ensures)
-
-pub falgnust-read-parent-spec : {M : Type 1} → statement M
-falgnust-read-parent-spec = tie.close (tie.spec (λ c κs. search needs) (λ c κs. search needs) returns)
+pub falgnust-read-parent-spec : {M : Type 1} → f.Statement.statement M
+falgnust-read-parent-spec = f.Tie.close (f.Tie.spec (search needs) (search needs) λ c. rw (c .flat-parent .ensures, c .before .parent-at .ensures))

@@ -1,12 +1,6 @@
 -- The flat struct holds what `proof_at` answers.
 use borrow.Author.Needs.{needs}
-use mathlib.Core.Path.{ap, _∙_}
-use Rattle.falgnust.specs.EntryMaps.{flatProof}
-use Rattle.falgnust.proofs.proof.falgnust_read_proof.Statement.{statement}
-use Rattle.falgnust.proofs.proof.falgnust_read_proof.Tie as tie
+use Rattle.falgnust.proofs.proof.falgnust_read_proof as f
 
-returns : tie.Need-returns
-returns c = c .flat-proof .ensures ∙ ap flatProof (c .before .proof-at .ensures)
-
-pub falgnust-read-proof-spec : {M : Type 1} → statement M
-falgnust-read-proof-spec = tie.close (tie.spec (λ c κs. search needs) (λ c κs. search needs) returns)
+pub falgnust-read-proof-spec : {M : Type 1} → f.Statement.statement M
+falgnust-read-proof-spec = f.Tie.close (f.Tie.spec (search needs) (search needs) λ c. rw (c .flat-proof .ensures, c .before .proof-at .ensures))

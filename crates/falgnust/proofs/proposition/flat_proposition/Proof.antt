@@ -1,25 +1,9 @@
 -- Either variant is told by its own fields, and a text by its own.
 use borrow.Author.Needs.{needs}
-use mathlib.Core.Path.{refl}
-use Rattle.falgnust.proofs.proposition.flat_proposition.Statement.{statement}
-use Rattle.falgnust.proofs.proposition.flat_proposition.Tie as tie
+use Rattle.falgnust.proofs.proposition.flat_proposition as f
 
-returns : tie.Need-returns
-returns c =
-    let at-entry = c .before .before .before .before in
-    rw (c .flat-span .ensures, c .before .no-refusal .ensures, at-entry .entry .given .1) refl
-
-returns-2 : tie.Need-returns-2
-returns-2 c = rw (c .flat-refusal .ensures, c .before .before .entry2 .given .1) refl
-
-pub flat-proposition-spec : {M : Type 1} → statement M
+pub flat-proposition-spec : {M : Type 1} → f.Statement.statement M
 flat-proposition-spec =
-    tie.close
-    (tie.spec
-    (λ c. search needs)
-    (λ c κs. search needs)
-    (λ c κs. search needs)
-    (λ c. search needs)
-    (λ c κs. search needs)
-    returns
-    returns-2)
+    f.Tie.close (f.Tie.spec (search needs) (search needs) (search needs) (search needs) (search needs)
+    (λ c. rw (c .flat-span .ensures, c .before .no-refusal .ensures, c .before .before .before .before .entry .given .1))
+    λ c. rw (c .flat-refusal .ensures, c .before .before .entry2 .given .1))

@@ -1,17 +1,6 @@
 -- The flat struct holds what `read_path` answers.
 use borrow.Author.Needs.{needs}
-use mathlib.Core.Path.{ap, _∙_}
-use Rattle.falgnust.specs.BlockMaps.{flatPath}
-use Rattle.falgnust.proofs.record.falgnust_read_path.Statement.{statement}
-use Rattle.falgnust.proofs.record.falgnust_read_path.Tie as tie
+use Rattle.falgnust.proofs.record.falgnust_read_path as f
 
-returns : tie.Need-returns
-returns c = c .flat-path .ensures ∙ ap flatPath (c .before .read-path .ensures)
-
-pub falgnust-read-path-spec : {M : Type 1} → statement M
-falgnust-read-path-spec =
-    tie.close
-    (tie.spec
-    (λ c κs. search needs)
-    (λ c κs. search needs)
-    returns)
+pub falgnust-read-path-spec : {M : Type 1} → f.Statement.statement M
+falgnust-read-path-spec = f.Tie.close (f.Tie.spec (search needs) (search needs) λ c. rw (c .flat-path .ensures, c .before .read-path .ensures))

@@ -1,23 +1,9 @@
 -- Either variant is told by its own fields.
 use borrow.Author.Needs.{needs}
-use mathlib.Core.Path.{refl}
-use Rattle.falgnust.proofs.record.flat_path.Statement.{statement}
-use Rattle.falgnust.proofs.record.flat_path.Tie as tie
+use Rattle.falgnust.proofs.record.flat_path as f
 
-returns : tie.Need-returns
-returns c = rw (c .flat-event .ensures, c .before .no-refusal .ensures, c .before .before .before .read .given .1) refl
-
-returns-2 : tie.Need-returns-2
-returns-2 c = rw (c .flat-refusal .ensures, c .before .before .read2 .given .1) refl
-
-pub flat-path-spec : {M : Type 1} → statement M
+pub flat-path-spec : {M : Type 1} → f.Statement.statement M
 flat-path-spec =
-    tie.close
-    (tie.spec
-    (λ c. search needs)
-    (λ c κs. search needs)
-    (λ c κs. search needs)
-    (λ c. search needs)
-    (λ c κs. search needs)
-    returns
-    returns-2)
+    f.Tie.close (f.Tie.spec (search needs) (search needs) (search needs) (search needs) (search needs)
+    (λ c. rw (c .flat-event .ensures, c .before .no-refusal .ensures, c .before .before .before .read .given .1))
+    λ c. rw (c .flat-refusal .ensures, c .before .before .read2 .given .1))

@@ -1,12 +1,6 @@
 -- The flat struct holds what `read_text` answers.
 use borrow.Author.Needs.{needs}
-use mathlib.Core.Path.{ap, _∙_}
-use Rattle.falgnust.specs.Maps.{flatText}
-use Rattle.falgnust.proofs.text.falgnust_read_text.Statement.{statement}
-use Rattle.falgnust.proofs.text.falgnust_read_text.Tie as tie
+use Rattle.falgnust.proofs.text.falgnust_read_text as f
 
-returns : tie.Need-returns
-returns c = c .flat-text .ensures ∙ ap flatText (c .before .read-text .ensures)
-
-pub falgnust-read-text-spec : {M : Type 1} → statement M
-falgnust-read-text-spec = tie.close (tie.spec (λ c κs. search needs) (λ c κs. search needs) returns)
+pub falgnust-read-text-spec : {M : Type 1} → f.Statement.statement M
+falgnust-read-text-spec = f.Tie.close (f.Tie.spec (search needs) (search needs) λ c. rw (c .flat-text .ensures, c .before .read-text .ensures))

@@ -1,12 +1,6 @@
 -- The flat struct holds what `witness_at` answers.
 use borrow.Author.Needs.{needs}
-use mathlib.Core.Path.{ap, _∙_}
-use Rattle.falgnust.specs.EntryMaps.{flatWitness}
-use Rattle.falgnust.proofs.witness.falgnust_read_witness.Statement.{statement}
-use Rattle.falgnust.proofs.witness.falgnust_read_witness.Tie as tie
+use Rattle.falgnust.proofs.witness.falgnust_read_witness as f
 
-returns : tie.Need-returns
-returns c = c .flat-witness .ensures ∙ ap flatWitness (c .before .witness-at .ensures)
-
-pub falgnust-read-witness-spec : {M : Type 1} → statement M
-falgnust-read-witness-spec = tie.close (tie.spec (λ c κs. search needs) (λ c κs. search needs) returns)
+pub falgnust-read-witness-spec : {M : Type 1} → f.Statement.statement M
+falgnust-read-witness-spec = f.Tie.close (f.Tie.spec (search needs) (search needs) λ c. rw (c .flat-witness .ensures, ← c .before .witness-at .ensures))

@@ -2,16 +2,12 @@
 use borrow.Author.Needs.{needs}
 use native.Mathlib.Omega.{arith}
 use Rattle.local_format.specs.Out.{held}
-use Rattle.local_format.proofs.refusal.diag_offset.Statement.{statement}
-use Rattle.local_format.proofs.refusal.diag_offset.Tie as tie
+use Rattle.local_format.proofs.refusal.diag_offset as f
+use f.Tie as tie
 
-returns : tie.Need-returns
+pub diag-offset-spec : {M : Type 1} → f.Statement.statement M
 unfolding held
-returns c = omega arith
-
-returns-2 : tie.Need-returns-2
-unfolding held
-returns-2 c = omega arith
-
-pub diag-offset-spec : {M : Type 1} → statement M
-diag-offset-spec = tie.close (tie.spec (λ c. search needs) (λ c. search needs) returns returns-2)
+diag-offset-spec =
+    tie.close (tie.spec (search needs) (search needs)
+    (λ c. omega arith)
+    (λ c. omega arith))

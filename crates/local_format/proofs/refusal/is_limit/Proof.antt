@@ -7,8 +7,8 @@ use native.Mathlib.Omega.{arith}
 use native.Mathlib.Decide.{decLe}
 use borrow.Author.Tests.{ne-eqb}
 use Rattle.local_format.specs.Refusal.{among, limits}
-use Rattle.local_format.proofs.refusal.is_limit.Statement.{statement}
-use Rattle.local_format.proofs.refusal.is_limit.Tie as tie
+use Rattle.local_format.proofs.refusal.is_limit as f
+use f.Tie as tie
 
 none : (n : ℕ) → (n ≡ 3 → ⊥) → (n ≡ 12 → ⊥) → (n ≡ 14 → ⊥) → (n ≡ 15 → ⊥) → (n ≡ 27 → ⊥) → (n ≡ 31 → ⊥) → (n ≡ 36 → ⊥)
     → false ≡ among limits n
@@ -17,22 +17,6 @@ none n a b c d e f g = simp (ne-eqb n 3 a, ne-eqb n 12 b, ne-eqb n 14 c, ne-eqb 
 
 is : (n m : ℕ) → among limits m ≡ true → n ≡ m → true ≡ among limits n
 is n m h e = sym (ap (among limits) e ∙ h)
-
-returns : tie.Need-returns
-returns c =
-    let r = c .before .match .rest .1 in
-    none _ (λ e. r (inl e)) (λ e. r (inr (inl e))) (omega arith) (omega arith) (omega arith) (omega arith) (omega arith)
-
-returns-2 : tie.Need-returns-2
-returns-2 c =
-    let r = c .before .before .match .rest .1 in
-    none _ (omega arith) (omega arith) (omega arith) (omega arith) (λ e. r (inr (inr (inl e)))) (λ e. r (inr (inr (inr (inl e)))))
-    (λ e. r (inr (inr (inr (inr e)))))
-
-returns-3 : tie.Need-returns-3
-unfolding among
-returns-3 c =
-    ⊎-elim (is _ 3 refl) (⊎-elim (is _ 12 refl) (⊎-elim (is _ 27 refl) (⊎-elim (is _ 31 refl) (is _ 36 refl)))) (c .match .keys1)
 
 returns-4 : tie.Need-returns-4
 unfolding among
@@ -44,5 +28,13 @@ returns-4 c =
     go n low high (yes h) = is n 14 refl (omega arith)
     go n low high (no h) = is n 15 refl (omega arith)
 
-pub is-limit-spec : {M : Type 1} → statement M
-is-limit-spec = tie.close (tie.spec returns returns-2 returns-3 returns-4)
+pub is-limit-spec : {M : Type 1} → f.Statement.statement M
+unfolding among
+is-limit-spec =
+    tie.close (tie.spec
+    (λ c. let r = c .before .match .rest .1 in
+    none _ (λ e. r (inl e)) (λ e. r (inr (inl e))) (omega arith) (omega arith) (omega arith) (omega arith) (omega arith))
+    (λ c. let r = c .before .before .match .rest .1 in
+    none _ (omega arith) (omega arith) (omega arith) (omega arith) (λ e. r (inr (inr (inl e)))) (λ e. r (inr (inr (inr (inl e)))))
+    (λ e. r (inr (inr (inr (inr e))))))
+    (λ c. ⊎-elim (is _ 3 refl) (⊎-elim (is _ 12 refl) (⊎-elim (is _ 27 refl) (⊎-elim (is _ 31 refl) (is _ 36 refl)))) (c .match .keys1)) returns-4)

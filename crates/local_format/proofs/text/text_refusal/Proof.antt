@@ -1,13 +1,10 @@
 -- Each variant holds what the map says.
 use borrow.Author.Needs.{needs}
-use Rattle.local_format.proofs.text.text_refusal.Statement.{statement}
-use Rattle.local_format.proofs.text.text_refusal.Tie as tie
+use Rattle.local_format.proofs.text.text_refusal as f
+use f.Tie as tie
 
-returns : tie.Need-returns
-returns c = rw (c .before .text .given .1)
-
-returns-2 : tie.Need-returns-2
-returns-2 c = rw (c .before .enum-told .given .1, c .refuse .ensures)
-
-pub text-refusal-spec : {M : Type 1} → statement M
-text-refusal-spec = tie.close (tie.spec (λ c. search needs) (λ c. search needs) (λ c κs. search needs) returns returns-2)
+pub text-refusal-spec : {M : Type 1} → f.Statement.statement M
+text-refusal-spec =
+    tie.close (tie.spec (search needs) (search needs) (search needs)
+    (λ c. rw (c .before .text .given .1))
+    (λ c. rw (c .before .enum-told .given .1, c .refuse .ensures)))

@@ -16,10 +16,8 @@ use Rattle.semcode_decode.proofs.BlockLaws.{layout-refused}
 use Rattle.lent_table.proofs.Laws.{front-lent}
 use Rattle.semcode_decode.proofs.LentLaws.{accepted}
 use borrow.Author.Needs.{needs}
-use Rattle.semcode_decode.proofs.decode.parse_block.Statement.{
-  statement,
-}
-use Rattle.semcode_decode.proofs.decode.parse_block.Tie as tie
+use Rattle.semcode_decode.proofs.decode.parse_block as f
+use f.Tie as tie
 
 -- the block with places in it
 abbrev block : tie.After-parse-tables → Out Block
@@ -28,25 +26,23 @@ block pt =
     let a = start .args in
     blockOf (a .header-rev) (roomsOf (tables (a .strings .now) (a .paths .now)) (a .symbols)) (a .code .now)
 
-returns : tie.Need-returns
-returns c =
-    let p = c .before in
-    let c2 = p .before .before .before in
+pub parse-block-spec : {M : Type 1} → f.Statement.statement M
+parse-block-spec =
+    tie.close (tie.spec (search needs) (search needs) (search needs) (search needs) (search needs) (search needs) (search needs) (search needs)
+    (search needs)
+    (λ c. let c2 = c .before .before .before .before in
     let c1 = c2 .before .before .before .before in
     let k = c1 .before .before in
     let pt = k .before .before .before .before .before .before in
     let a = pt .before .before .before .before .before .before .args in
     let b = layout-refused (block pt) (told parseOut (pt .parse-tables .ensures .answer) (k .enum-told .given .1)) in
-    let q = p .parse-refusal .ensures ∙ ap (λ (x : Parse). refusalOf (parseOut x)) (k .enum-told .given .1) in
+    let q = c .before .parse-refusal .ensures ∙ ap (λ (x : Parse). refusalOf (parseOut x)) (k .enum-told .given .1) in
     rw b (record {
       answer = ap refused (c .based .ensures) ∙ ap (λ (r : Refusal). refused (atOffset r (held (a .base-offset) (r .offset)))) q;
       strings = c1 .clear .ensures ∙ ap (λ (n : ℕ). lent n []) (pt .parse-tables .kept .1 .1 .1 .0);
       paths = c2 .clear2 .ensures ∙ ap (λ (n : ℕ). lent n []) (pt .parse-tables .kept .1 .1 .1 .1 .0);
-    })
-
-returns-2 : tie.Need-returns-2
-returns-2 c =
-    let f2 = c .before .before in
+    })) (search needs) (search needs) (search needs) (search needs)
+    (λ c. let f2 = c .before .before in
     let f1 = f2 .before .before .before .before in
     let k = f1 .before .before .before in
     let pt = k .before .before .before .before .before .before in
@@ -60,11 +56,4 @@ returns-2 c =
       answer = w .0;
       strings = f1 .clear-from .ensures ∙ strings ∙ ap (lent (length (a .strings .now))) (w .1);
       paths = f2 .clear-from2 .ensures ∙ paths ∙ ap (lent (length (a .paths .now))) (w .2);
-    }
-
-pub parse-block-spec : {M : Type 1} → statement M
-parse-block-spec =
-    tie.close
-    (tie.spec (λ c κs. search needs) (λ c. search needs) (λ c. search needs) (λ c κs. search needs) (λ c κs. search needs) (λ c κs. search needs)
-    (λ c κs. search needs) (λ c. search needs) (λ c. search needs) returns (λ c κs. search needs) (λ c κs. search needs) (λ c. search needs)
-    (λ c. search needs) returns-2)
+    }))

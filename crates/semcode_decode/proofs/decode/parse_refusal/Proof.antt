@@ -1,9 +1,8 @@
 -- Meets its contract, by cases of the answer.
 use borrow.Author.Needs.{needs}
-use Rattle.semcode_decode.proofs.decode.parse_refusal.Statement.{statement}
-use Rattle.semcode_decode.proofs.decode.parse_refusal.Tie as tie
+use Rattle.semcode_decode.proofs.decode.parse_refusal as f
+use f.Tie as tie
 
-pub parse-refusal-spec : {M : Type 1} → statement M
-parse-refusal-spec =
-    tie.close (tie.spec (λ c. search needs) (λ c. search needs) (λ c κs. search needs)
-    (λ c. rw (c .before .answer .given .1)) (λ c. rw (c .refuse .ensures, c .before .enum-told .given .1)))
+pub parse-refusal-spec : {M : Type 1} → f.Statement.statement M
+parse-refusal-spec = tie.close (tie.spec (search needs) (search needs) (search needs) (λ c. rw (c .before .answer .given .1))
+    (λ c. rw (c .refuse .ensures, c .before .enum-told .given .1)))

@@ -11,8 +11,8 @@ use Rattle.semcode_records.specs.Path.{Path, pathAt}
 use Rattle.semcode_records.specs.Maps.{pathOut}
 use Rattle.semcode_records.proofs.PathLaws.{path-refused, path-read}
 use Rattle.semcode_decode.proofs.TableLaws.{Filling, fill-first, fill-refused, fill-on, filled}
-use Rattle.semcode_decode.proofs.table.fill_paths.Statement.{statement}
-use Rattle.semcode_decode.proofs.table.fill_paths.Tie as tie
+use Rattle.semcode_decode.proofs.table.fill_paths as f
+use f.Tie as tie
 
 abbrev Inv-loop : tie.InvT-loop
 Inv-loop bytes at count header-rev paths₀ wanted cursor₀ i₀ paths cursor i =
@@ -25,47 +25,32 @@ abbrev μ-loop : tie.MeasureT-loop
 abbrev reader : tie.At-loop Inv-loop μ-loop → ℕ → Out (Taken Path)
 reader l = pathAt (l .before .before .before .args .header-rev) (l .before .before .before .args .bytes .now)
 
-loop-holds : tie.Need-loop-holds Inv-loop μ-loop
-loop-holds c =
-    let a = c .before .before .args in
-    (omega arith, refl, fill-first (pathAt (a .header-rev) (a .bytes .now)) (a .count) (a .at) (a .paths .now))
-
-returns : tie.Need-returns Inv-loop μ-loop
-returns c =
-    let k = c .before in
-    let r = k .before .before in
+pub fill-paths-spec : {M : Type 1} → f.Statement.statement M
+fill-paths-spec =
+    tie.close (tie.spec Inv-loop μ-loop
+    (λ c. let a = c .before .before .args in
+    (omega arith, refl, fill-first (pathAt (a .header-rev) (a .bytes .now)) (a .count) (a .at) (a .paths .now))) (search needs) (search needs)
+    (search needs) (search needs) (search needs)
+    (λ c. let r = c .before .before .before in
     let l = r .before .before in
     let a = l .before .before .before .args in
     let e =
     fill-refused (reader l) (a .count) (a .at) (l .loop .i) (l .loop .cursor) (l .loop .paths) (l .loop .inv .2)
     (r .before .loop-test .taken)
-    (path-refused (a .header-rev) (a .bytes .now) (l .loop .cursor) (told pathOut (r .read-path .ensures) (k .enum-told .given .1)))
+    (path-refused (a .header-rev) (a .bytes .now) (l .loop .cursor) (told pathOut (r .read-path .ensures) (c .before .enum-told .given .1)))
     in
-    rw (e, c .path-refusal .ensures, k .enum-told .given .1) (refl, refl)
-
-loop-again : tie.Need-loop-again Inv-loop μ-loop
-loop-again c =
-    let k = c .before in
-    let r = k .before .before in
+    rw (e, c .path-refusal .ensures, c .before .enum-told .given .1) (refl, refl)) (search needs) (search needs) (search needs) (search needs)
+    (λ c. let r = c .before .before .before in
     let l = r .before .before in
     let a = l .before .before .before .args in
     let more = r .before .loop-test .taken in
-    let p = path-read (a .header-rev) (a .bytes .now) (l .loop .cursor) (told pathOut (r .read-path .ensures) (k .answer .given .1)) in (
+    let p = path-read (a .header-rev) (a .bytes .now) (l .loop .cursor) (told pathOut (r .read-path .ensures) (c .before .answer .given .1)) in (
       omega arith,
       simp length-set (l .loop .inv .1),
       fill-on (reader l) (a .count) (a .at) (l .loop .i) (l .loop .cursor) (l .loop .paths) (l .loop .inv .2) more (omega arith) (p .1),
-    )
-
-returns-2 : tie.Need-returns-2 Inv-loop μ-loop
-returns-2 c =
-    let l = c .before in
+    )) (search needs)
+    (λ c. let l = c .before in
     let a = l .before .before .before .args in
     let z : l .loop .i ≡ a .count = omega arith in
     let f = filled (reader l) (a .count) (a .at) (l .loop .cursor) (l .loop .paths) (rw z at (l .loop .inv .2)) (omega arith) in
-    (sym (f .0), f .1)
-
-pub fill-paths-spec : {M : Type 1} → statement M
-fill-paths-spec =
-    tie.close
-    (tie.spec Inv-loop μ-loop loop-holds (λ c κs. search needs) (λ c. search needs) (λ c. search needs) (λ c κs. search needs) (λ c. search needs)
-    returns (λ c. search needs) (λ c. search needs) (λ c. search needs) (λ c. search needs) loop-again (λ c. search needs) returns-2)
+    (sym (f .0), f .1)))

@@ -11,8 +11,8 @@ use Rattle.local_format.proofs.OutLaws.{told, on-ok, on-refused}
 use Rattle.semcode_records.specs.Records.{Taken, taken}
 use Rattle.semcode_decode.specs.Block.{stringRecord}
 use Rattle.semcode_decode.proofs.TableLaws.{Filling, fill-first, fill-refused, fill-on, filled}
-use Rattle.semcode_decode.proofs.table.fill_strings.Statement.{statement}
-use Rattle.semcode_decode.proofs.table.fill_strings.Tie as tie
+use Rattle.semcode_decode.proofs.table.fill_strings as f
+use f.Tie as tie
 
 abbrev Inv-loop : tie.InvT-loop
 Inv-loop bytes at count strings₀ wanted cursor₀ i₀ strings cursor i =
@@ -28,47 +28,32 @@ reader l = stringRecord (l .before .before .before .args .bytes .now)
 abbrev asRecord : Span → Out (Taken Span)
 asRecord text = taken text (text .next)
 
-loop-holds : tie.Need-loop-holds Inv-loop μ-loop
-loop-holds c =
-    let a = c .before .before .args in
-    (omega arith, refl, fill-first (stringRecord (a .bytes .now)) (a .count) (a .at) (a .strings .now))
-
-returns : tie.Need-returns Inv-loop μ-loop
-returns c =
-    let k = c .before in
-    let r = k .before .before in
+pub fill-strings-spec : {M : Type 1} → f.Statement.statement M
+fill-strings-spec =
+    tie.close (tie.spec Inv-loop μ-loop
+    (λ c. let a = c .before .before .args in
+    (omega arith, refl, fill-first (stringRecord (a .bytes .now)) (a .count) (a .at) (a .strings .now))) (search needs) (search needs) (search needs)
+    (search needs) (search needs)
+    (λ c. let r = c .before .before .before in
     let l = r .before .before in
     let a = l .before .before .before .args in
     let e =
     fill-refused (reader l) (a .count) (a .at) (l .loop .i) (l .loop .cursor) (l .loop .strings) (l .loop .inv .2)
     (r .before .loop-test .taken)
-    (on-refused asRecord (told textOut (r .read-string .ensures) (k .enum-told .given .1)))
+    (on-refused asRecord (told textOut (r .read-string .ensures) (c .before .enum-told .given .1)))
     in
-    rw (e, c .text-refusal .ensures, k .enum-told .given .1) (refl, refl)
-
-loop-again : tie.Need-loop-again Inv-loop μ-loop
-loop-again c =
-    let k = c .before in
-    let r = k .before .before in
+    rw (e, c .text-refusal .ensures, c .before .enum-told .given .1) (refl, refl)) (search needs) (search needs) (search needs) (search needs)
+    (λ c. let r = c .before .before .before in
     let l = r .before .before in
     let a = l .before .before .before .args in
     let more = r .before .loop-test .taken in (
       omega arith,
       simp length-set (l .loop .inv .1),
       fill-on (reader l) (a .count) (a .at) (l .loop .i) (l .loop .cursor) (l .loop .strings) (l .loop .inv .2) more (omega arith)
-          (on-ok asRecord (told textOut (r .read-string .ensures) (k .answer .given .1))),
-    )
-
-returns-2 : tie.Need-returns-2 Inv-loop μ-loop
-returns-2 c =
-    let l = c .before in
+          (on-ok asRecord (told textOut (r .read-string .ensures) (c .before .answer .given .1))),
+    )) (search needs)
+    (λ c. let l = c .before in
     let a = l .before .before .before .args in
     let z : l .loop .i ≡ a .count = omega arith in
     let f = filled (reader l) (a .count) (a .at) (l .loop .cursor) (l .loop .strings) (rw z at (l .loop .inv .2)) (omega arith) in
-    (sym (f .0), f .1)
-
-pub fill-strings-spec : {M : Type 1} → statement M
-fill-strings-spec =
-    tie.close
-    (tie.spec Inv-loop μ-loop loop-holds (λ c κs. search needs) (λ c. search needs) (λ c. search needs) (λ c κs. search needs) (λ c. search needs)
-    returns (λ c. search needs) (λ c. search needs) (λ c. search needs) (λ c. search needs) loop-again (λ c. search needs) returns-2)
+    (sym (f .0), f .1)))

@@ -12,60 +12,41 @@ use Rattle.semcode_records.specs.Path.{Path}
 use Rattle.semcode_decode.specs.Block.{pathTable}
 use Rattle.semcode_decode.proofs.SectionLaws.{absent, found-tagged, found-starts}
 use borrow.Author.Needs.{needs}
-use Rattle.semcode_decode.proofs.table.ownership_section.Statement.{statement}
-use Rattle.semcode_decode.proofs.table.ownership_section.Tie as tie
+use Rattle.semcode_decode.proofs.table.ownership_section as f
+use f.Tie as tie
 
 -- where the tag was found: the table that follows it
 abbrev table : tie.Then1 → ℕ → Out (Table Path)
 table i =
-    let start = i .before .before .before .before .before in
-    let a = start .args in pathTable (a .header-rev) (a .bytes .now) (length (a .paths .now))
+    let a = i .before .before .before .before .before .args in pathTable (a .header-rev) (a .bytes .now) (length (a .paths .now))
 
 is-own0 : (i : tie.Then1) → tagAt own0 (i .before .before .before .before .before .args .bytes .now)
     (i .before .before .before .before .before .args .at) ≡ true
 is-own0 i = sym (i .before .tag-at .ensures) ∙ i .if1 .taken
 
-add-ownership-table : tie.Need-add-ownership-table
-add-ownership-table c =
-    let t = c .before in
-    let a = t .before .before .before .before .args in
-    let h = tag-there own0 (a .bytes .now) (a .at) (sym (t .tag-at .ensures) ∙ c .if1 .taken) in
-    record { fits = omega arith }
-
-returns : tie.Need-returns
-returns c =
-    let k = c .before in
-    let d = k .before .before .before .before in
+pub ownership-section-spec : {M : Type 1} → f.Statement.statement M
+ownership-section-spec =
+    tie.close (tie.spec (search needs) (search needs)
+    (λ c. let a = c .before .before .before .before .before .args in
+    let h = tag-there own0 (a .bytes .now) (a .at) (sym (c .before .tag-at .ensures) ∙ c .if1 .taken) in
+    record { fits = omega arith }) (search needs) (search needs) (search needs) (search needs) (search needs)
+    (λ c. let d = c .before .before .before .before .before in
     let i = d .before .before in
     let a = i .before .before .before .before .before .args in (
       rw (
         found-tagged own0 (table i) (a .bytes .now) (a .at) (is-own0 i),
         c .table-refusal .ensures,
         ← d .ownership-table .ensures .0,
-        k .enum-told .given .1,
+        c .before .enum-told .given .1,
       ),
       rw (found-starts own0 (table i) (a .bytes .now) (a .at) (is-own0 i)) (d .ownership-table .ensures .1),
-    )
-
-returns-2 : tie.Need-returns-2
-returns-2 c =
-    let k = c .before in
-    let d = k .before .before .before .before in
+    )) (search needs)
+    (λ c. let d = c .before .before .before .before .before in
     let i = d .before .before in
     let a = i .before .before .before .before .before .args in (
-      rw (found-tagged own0 (table i) (a .bytes .now) (a .at) (is-own0 i), ← d .ownership-table .ensures .0, k .table .given .1),
+      rw (found-tagged own0 (table i) (a .bytes .now) (a .at) (is-own0 i), ← d .ownership-table .ensures .0, c .before .table .given .1),
       rw (found-starts own0 (table i) (a .bytes .now) (a .at) (is-own0 i)) (d .ownership-table .ensures .1),
-    )
-
-returns-3 : tie.Need-returns-3
-returns-3 c =
-    let t = c .before in
-    let a = t .before .before .before .before .args in
+    ))
+    (λ c. let a = c .before .before .before .before .before .args in
     rw (absent own0 (pathTable (a .header-rev) (a .bytes .now) (length (a .paths .now))) (a .bytes .now) (a .at)
-    (sym (t .tag-at .ensures) ∙ c .if1 .left)) (refl, refl)
-
-pub ownership-section-spec : {M : Type 1} → statement M
-ownership-section-spec =
-    tie.close
-    (tie.spec (λ c. search needs) (λ c κs. search needs) add-ownership-table (λ c κs. search needs) (λ c. search needs) (λ c. search needs)
-    (λ c κs. search needs) (λ c. search needs) returns (λ c. search needs) returns-2 returns-3)
+    (sym (c .before .tag-at .ensures) ∙ c .if1 .left)) (refl, refl)))

@@ -10,8 +10,8 @@ use Rattle.semcode_records.specs.Records.{Taken, records, ends}
 use Rattle.semcode_records.specs.Component.{Component, componentAt}
 use Rattle.semcode_records.specs.Maps.{componentOut}
 use Rattle.semcode_records.proofs.RecordsLaws.{none-left, first-refused, ends-on}
-use Rattle.semcode_records.proofs.component.skip_components.Statement.{statement}
-use Rattle.semcode_records.proofs.component.skip_components.Tie as tie
+use Rattle.semcode_records.proofs.component.skip_components as f
+use f.Tie as tie
 
 abbrev Inv-loop : tie.InvT-loop
 Inv-loop bytes at component-count header-rev kind cursor₀ i₀ cursor i =
@@ -29,37 +29,22 @@ reader l = componentAt (l .before .before .args .header-rev) (l .before .before 
 abbrev count : tie.At-loop Inv-loop μ-loop → ℕ
 count l = l .before .before .args .component-count
 
-loop-holds : tie.Need-loop-holds Inv-loop μ-loop
-loop-holds c = (omega arith, rw sub-zero)
-
-returns : tie.Need-returns Inv-loop μ-loop
-returns c =
-    let k = c .before in
-    let r = k .before .before in
+pub skip-components-spec : {M : Type 1} → f.Statement.statement M
+skip-components-spec =
+    tie.close (tie.spec Inv-loop μ-loop
+    (λ c. (omega arith, rw sub-zero)) (search needs) (search needs) (search needs) (search needs)
+    (λ c. let r = c .before .before .before in
     let l = r .before .before in
     let e = first-refused (reader l) (count l) (l .loop .i) (l .loop .cursor) (r .before .loop-test .taken)
-    (told componentOut (r .read-component .ensures) (k .enum-told .given .1)) in
-    rw (l .loop .inv .1, e, c .component-refusal .ensures, k .enum-told .given .1)
-
-loop-again : tie.Need-loop-again Inv-loop μ-loop
-loop-again c =
-    let a = c .before in
-    let r = a .before .before in
+    (told componentOut (r .read-component .ensures) (c .before .enum-told .given .1)) in
+    rw (l .loop .inv .1, e, c .component-refusal .ensures, c .before .enum-told .given .1)) (search needs) (search needs)
+    (λ c. let r = c .before .before .before in
     let l = r .before .before in
     let more = r .before .loop-test .taken in (
       omega arith,
       l .loop .inv .1 ∙ ends-on (reader l) (count l) (l .loop .i) (l .loop .cursor) more
-          (told componentOut (r .read-component .ensures) (a .answer .given .1)),
-    )
-
-returns-2 : tie.Need-returns-2 Inv-loop μ-loop
-returns-2 c =
-    let l = c .before in
+          (told componentOut (r .read-component .ensures) (c .before .answer .given .1)),
+    ))
+    (λ c. let l = c .before in
     let z : count l - l .loop .i ≡ 0 = omega arith in
-    rw (l .loop .inv .1, z, none-left (reader l) (l .loop .cursor))
-
-pub skip-components-spec : {M : Type 1} → statement M
-skip-components-spec =
-    tie.close
-    (tie.spec Inv-loop μ-loop loop-holds (λ c κs. search needs) (λ c. search needs) (λ c. search needs) (λ c κs. search needs) returns
-    (λ c. search needs) (λ c. search needs) loop-again returns-2)
+    rw (l .loop .inv .1, z, none-left (reader l) (l .loop .cursor))))

@@ -2,21 +2,10 @@
 use mathlib.Core.Path.{sym}
 use lib.Seq.{length-take-le}
 use borrow.Author.Needs.{needs}
-use Rattle.test_replay.proofs.section.section.Statement.{statement}
-use Rattle.test_replay.proofs.section.section.Tie as tie
+use Rattle.test_replay.proofs.section.section as f
+use f.Tie as tie
 
-pub section-spec : {M : Type 1} → statement M
+pub section-spec : {M : Type 1} → f.Statement.statement M
 section-spec =
-    tie.close
-    (tie.spec
-    (λ c. search needs)
-    (λ c. sym (length-take-le _ _ (search needs)))
-    (λ c. search needs)
-    (λ c. sym (length-take-le _ _ (search needs)))
-    (λ c. search needs)
-    (λ c. sym (length-take-le _ _ (search needs)))
-    (λ c κs. search needs)
-    (λ c. search needs)
-    (λ c. search needs)
-    (λ c. search needs)
-    (λ c. search needs))
+    tie.close (tie.spec (search needs) (λ c. sym (length-take-le _ _ (search needs))) (search needs) (λ c. sym (length-take-le _ _ (search needs)))
+    (search needs) (λ c. sym (length-take-le _ _ (search needs))) (search needs) (search needs) (search needs) (search needs) (search needs))
