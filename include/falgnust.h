@@ -27,7 +27,7 @@ extern "C" {
 
 /* The version of this header: ten thousand times the first number, a hundred times the second, and the third. The first rises where a
  * struct, an argument or an answer changes, and the second where something is added. */
-#define FALGNUST_VERSION 20000
+#define FALGNUST_VERSION 20100
 
 /* Layouts: the size of each struct below is that of the struct in crates/falgnust/src. */
 #define FALGNUST_SIZE(type, size) FALGNUST_ASSERT(sizeof(type) == (size), #type " has another layout")
@@ -226,6 +226,19 @@ FalgnustParent falgnust_read_parent(const uint8_t *payload, size_t payload_len, 
 size_t falgnust_witness_place(size_t len, size_t witnesses, size_t parents, uint32_t number);
 size_t falgnust_parent_place(size_t len, size_t parents, uint32_t number);
 
+/* The fields of many records at once, as words of a lent table, for whoever copies all records of a section that was decoded once. Nothing is
+ * checked but that each record is there, so the starts have to be those of its records. Each record takes so many words, in the order of its
+ * struct above; a text stands there as its place and its length, a digest as its place. The answer is true where every record is there and
+ * all words fit, and the words past them are zeros; where it is false, all words are zeros. */
+bool falgnust_proposition_words( /* 5 words each */
+    const uint8_t *payload, size_t payload_len, const uint64_t *starts, size_t starts_len, uint64_t *words, size_t words_len);
+bool falgnust_proof_words( /* 10 words each */
+    const uint8_t *payload, size_t payload_len, const uint64_t *starts, size_t starts_len, uint64_t *words, size_t words_len);
+bool falgnust_witness_words( /* 7 words each: number, proposition, polarity, first digest, start, end, second digest */
+    const uint8_t *payload, size_t payload_len, const uint64_t *starts, size_t starts_len, uint64_t *words, size_t words_len);
+/* The parent cells from a place on, as many as there are words. */
+bool falgnust_parent_words(const uint8_t *payload, size_t payload_len, size_t at, uint64_t *words, size_t words_len);
+
 /* A record by its number. Each call decodes the section anew first, with the refusals and the tables of falgnust_decode_evr0_section, whose
  * offsets are places in the bytes; a number that is not below its count is then refused with 62 at 0. */
 FalgnustProposition falgnust_proposition_number(
@@ -422,6 +435,11 @@ FalgnustComponent falgnust_component_number(
 /* A text of a section (a 2-byte length and 1 to 4096 bytes of UTF-8 without control characters) at a place of these bytes; refusals 5 to 8,
  * whose offset is a place in these bytes and does not count from at. */
 FalgnustText falgnust_read_text(const uint8_t *bytes, size_t bytes_len, size_t at);
+
+/* The place and the length, 2 words, of each text of a section, or string of a block, that was accepted: by the place of its length. As
+ * falgnust_proof_words. */
+bool falgnust_text_words(
+    const uint8_t *bytes, size_t bytes_len, const uint64_t *starts, size_t starts_len, uint64_t *words, size_t words_len);
 
 /* The rest is there to compare the readers with the Rust's one by one; a caller needs none of it. */
 

@@ -22,8 +22,8 @@ def entries(page):
         told = start + u32(page, at + 17)
         data = page[start:told].hex()
         if decoder == SECTION:
-            counts = [u32(page, told + 16 + 4 * n) for n in range(2)]
-            end = told + (32 + 72 + 4 * (counts[0] + 2 * counts[1]) if u32(page, told) == 0 else 16 + 72)
+            counts = [u32(page, told + 24 + 4 * n) for n in range(2)]
+            end = told + (40 + 72 + 4 * (counts[0] + 2 * counts[1]) if u32(page, told) == 0 else 16 + 72)
             line = f"section {data} {origin}"
         else:
             strings, _, symbols, _, paths = [u32(page, told + 12 + 4 * n) for n in range(5)]

@@ -1,5 +1,5 @@
-//! Each C function of [`raw`](crate::raw) on slices. All unsafe code of this crate stands here: a slice is a pointer that is valid for its length,
-//! and tables that are lent as `&mut` overlap nothing.
+//! Each C function of [`raw`](crate::raw) on slices: a slice is a pointer that is valid for its length, and tables that are lent as `&mut` overlap
+//! nothing. The only other unsafe code of this crate is the copy of a text that a contract says is UTF-8.
 
 use crate::raw::*;
 
@@ -214,6 +214,57 @@ pub fn witness_place(len: usize, witnesses: usize, parents: usize, number: u32) 
 #[inline]
 pub fn parent_place(len: usize, parents: usize, number: u32) -> usize {
     unsafe { falgnust_parent_place(len, parents, number) }
+}
+
+fn of_starts(read: OfStarts, payload: &[u8], starts: &[u64], words: &mut [u64]) -> bool {
+    unsafe {
+        read(
+            payload.as_ptr(),
+            payload.len(),
+            starts.as_ptr(),
+            starts.len(),
+            words.as_mut_ptr(),
+            words.len(),
+        )
+    }
+}
+
+/// 5 words of each proposition of a payload that starts at one of these places.
+#[inline]
+pub fn proposition_words(payload: &[u8], starts: &[u64], words: &mut [u64]) -> bool {
+    of_starts(falgnust_proposition_words, payload, starts, words)
+}
+
+/// 10 words of each proof.
+#[inline]
+pub fn proof_words(payload: &[u8], starts: &[u64], words: &mut [u64]) -> bool {
+    of_starts(falgnust_proof_words, payload, starts, words)
+}
+
+/// 7 words of each witness.
+#[inline]
+pub fn witness_words(payload: &[u8], starts: &[u64], words: &mut [u64]) -> bool {
+    of_starts(falgnust_witness_words, payload, starts, words)
+}
+
+/// 2 words of each text of a section or string of a block.
+#[inline]
+pub fn text_words(bytes: &[u8], starts: &[u64], words: &mut [u64]) -> bool {
+    of_starts(falgnust_text_words, bytes, starts, words)
+}
+
+/// A word of each parent cell from a place on.
+#[inline]
+pub fn parent_words(payload: &[u8], at: usize, words: &mut [u64]) -> bool {
+    unsafe {
+        falgnust_parent_words(
+            payload.as_ptr(),
+            payload.len(),
+            at,
+            words.as_mut_ptr(),
+            words.len(),
+        )
+    }
 }
 
 /// A block. Its debug symbols go to a list that is lent, too.

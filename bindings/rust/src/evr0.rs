@@ -14,8 +14,7 @@ mod records;
 mod tables;
 
 pub use ask::*;
-use records::records;
-use tables::Tables;
+use tables::{Counted, Few};
 
 /// The longest payload.
 pub const MAX_EVR0_PAYLOAD: usize = 4 * 1024 * 1024;
@@ -172,14 +171,21 @@ pub struct DecodedEvr0 {
 /// assert_eq!((error.number(), error.offset), (Some(1), 0));
 /// ```
 pub fn decode_evr0_section(bytes: &[u8], cursor: &mut usize) -> Result<DecodedEvr0, Evr0Error> {
-    let mut tables = Tables::fitted(bytes, *cursor);
-    let section = calls::decode_evr0_section(bytes, *cursor, tables.lent());
+    let mut few = Few::default();
+    let mut section = calls::decode_evr0_section(bytes, *cursor, few.lent());
+    let (mut propositions, mut proofs) = (&few.propositions[..], &few.proofs[..]);
+    let mut counted;
+    if section.refusal.number == 61 {
+        counted = Counted::new(bytes, section.refusal);
+        section = calls::decode_evr0_section(bytes, *cursor, counted.lent());
+        (propositions, proofs) = (&counted.propositions, &counted.proofs);
+    }
     if !section.accepted {
         return Err(Evr0Error::new(section.refusal));
     }
     let payload = &bytes[*cursor + HEADER..section.cursor];
     *cursor = section.cursor;
-    Ok(records(payload, &section, &tables))
+    Ok(records::section(payload, &section, propositions, proofs))
 }
 
 /// The bytes of the tag and of the payload's length.

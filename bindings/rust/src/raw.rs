@@ -11,11 +11,13 @@ mod block;
 mod record;
 mod section;
 mod text;
+mod words;
 
 pub use block::*;
 pub use record::*;
 pub use section::*;
 pub use text::*;
+pub use words::*;
 
 /// A function that reads at a place of some bytes.
 pub type AtPlace<T> = unsafe extern "C" fn(bytes: *const u8, len: usize, at: usize) -> T;

@@ -1,21 +1,57 @@
-//! What the answers of the proved readers have in common.
+//! What the answers of the proved functions have in common.
 
 use crate::raw::Refusal;
 
 /// A record, or why there is none.
 pub type Read<T> = Result<T, Refusal>;
 
+#[inline]
 pub fn accepted(accepted: bool, refusal: Refusal) -> Read<()> {
     if accepted { Ok(()) } else { Err(refusal) }
 }
 
 /// A record of a section or block that was accepted.
+#[inline]
 pub fn there<T>(read: Read<T>) -> T {
     read.expect("each record of what was accepted")
 }
 
+/// Room for the words of some records, which are read at a time, so that they stay near.
+pub type Words = [u64; 80];
+
+/// The records that start at these places, of what was accepted: each by its `N` words, which `read` writes for some starts at a time.
+#[inline]
+pub fn records<const N: usize, T>(
+    words: &mut Words,
+    starts: &[u64],
+    read: impl Fn(&[u64], &mut [u64]) -> bool,
+    record: impl Fn([u64; N]) -> T,
+) -> Vec<T> {
+    let mut records = Vec::with_capacity(starts.len());
+    let (words, _) = words.as_chunks_mut::<N>();
+    for starts in starts.chunks(words.len()) {
+        let words = &mut words[..starts.len()];
+        whole(read(starts, words.as_flattened_mut()));
+        records.extend(words.iter().map(|words| record(*words)));
+    }
+    records
+}
+
+/// The answer of a function that writes words.
+#[inline]
+pub fn whole(there: bool) {
+    assert!(there, "each record of what was accepted is whole");
+}
+
 /// The text of so many bytes from a place on.
-pub fn string(bytes: &[u8], start: usize, len: usize) -> String {
-    let text = std::str::from_utf8(&bytes[start..start + len]);
-    text.expect("UTF-8 in what was accepted").to_owned()
+///
+/// # Safety
+///
+/// The bytes are UTF-8.
+#[inline]
+#[allow(unsafe_code)]
+pub unsafe fn text(bytes: &[u8], start: usize, len: usize) -> String {
+    let bytes = &bytes[start..][..len];
+    // SAFETY: as the caller says.
+    unsafe { String::from_utf8_unchecked(bytes.to_vec()) }
 }

@@ -6,6 +6,7 @@
 
 use crate::calls;
 use crate::raw;
+use crate::read::{Read, accepted};
 
 mod error;
 mod number;
@@ -14,7 +15,7 @@ mod tables;
 
 pub use error::DecodeError;
 pub use number::*;
-use tables::{Starts, lend};
+use tables::Lent;
 
 /// The most bytes of a string.
 pub const MAX_STRING_LEN: usize = 1024;
@@ -124,11 +125,12 @@ pub fn parse_string_table_debug_and_ownership(
     header_rev: u16,
 ) -> Result<StringTableDebugOwnershipParse, DecodeError> {
     let block = Block::new(base_offset, code, header_rev);
-    let decoded = block.decode();
-    if !decoded.answer.accepted {
-        return Err(block.error(decoded.answer.refusal));
-    }
-    Ok(block.records(&decoded))
+    block
+        .lend(|mut lent| {
+            let answer = block.decode(lent.again())?;
+            Ok(block.records(&answer, &lent))
+        })
+        .map_err(|refusal| block.error(refusal))
 }
 
 /// What is decoded.
@@ -147,30 +149,16 @@ impl<'a> Block<'a> {
         }
     }
 
-    fn decode(&self) -> Decoded {
-        lend(self.code, |rooms| {
-            let mut symbols = rooms.symbols();
-            let mut starts = rooms.starts();
-            let answer = calls::parse_string_table_debug_and_ownership(
-                self.base_offset,
-                self.code,
-                self.header_rev,
-                &mut symbols,
-                starts.lent(),
-            );
-            let decoded = Decoded {
-                answer,
-                symbols,
-                starts,
-            };
-            (decoded, answer.refusal)
-        })
+    #[inline]
+    fn decode(&self, lent: Lent) -> Read<raw::Block> {
+        let answer = calls::parse_string_table_debug_and_ownership(
+            self.base_offset,
+            self.code,
+            self.header_rev,
+            lent.symbols,
+            lent.starts,
+        );
+        accepted(answer.accepted, answer.refusal)?;
+        Ok(answer)
     }
-}
-
-/// The decoder's answer, and the tables after it.
-struct Decoded {
-    answer: raw::Block,
-    symbols: Vec<raw::DebugSymbol>,
-    starts: Starts,
 }

@@ -15,7 +15,7 @@ use Rattle.evr0_fields.specs.declared.check.Checked.{Checked}
 use Rattle.evr0_fields.specs.declared.check.Checked.the-variants as checked
 use Rattle.evr0_pass.specs.View as view
 use Rattle.evr0_pass.specs.declared.pass.Layout.{Layout}
-use Rattle.evr0_pass.specs.declared.pass.Proof.{Proof}
+use Rattle.evr0_pass.specs.declared.pass.SettledProof.{SettledProof}
 use Rattle.evr0_pass.specs.declared.pass.Depth.{Depth}
 use Rattle.evr0_pass.specs.declared.pass.Depth.the-variants as depth
 
@@ -26,7 +26,7 @@ layoutOut l = record { counts = countsOut (l .counts); witnessesAt = l .«witnes
 abbrev pub tablesIn : List ℕ → List ℕ → Layout → section.Section
 tablesIn payload starts l = view.view fourRules payload starts (layoutOut l)
 
-abbrev pub proofOut : Proof → section.Proof
+abbrev pub proofOut : SettledProof → section.Proof
 proofOut p =
     record {
       number = p .«proof_id» .0;

@@ -15,10 +15,10 @@ use evr0_fields::check::Checked;
 use evr0_fields::number::ProofNumber;
 use evr0_fields::number::PropositionIndex;
 use evr0_fields::number::WitnessNumber;
-use evr0_fields::number::u16_at;
-use evr0_fields::number::u32_at;
 use evr0_head::counts::Counts;
 use evr0_records::rule::Rule;
+use local_format::field::u16_at;
+use local_format::field::u32_at;
 use local_format::refusal::Refusal;
 
 // The counts of the tables, and where those of the witnesses and of the parents start.
@@ -29,7 +29,7 @@ pub struct Layout {
 }
 
 // A proof with its rule settled.
-pub struct Proof {
+pub struct SettledProof {
     pub proof_id: ProofNumber,
     pub proposition_index: PropositionIndex,
     pub rule: Rule,
@@ -68,7 +68,7 @@ fn after_name(payload: &[u8], start: usize) -> usize
 }
 
 // The proof at `start`, its rule settled.
-fn proof_at(payload: &[u8], start: usize) -> Proof
+fn proof_at(payload: &[u8], start: usize) -> SettledProof
     requires { ⌜ afterName (now payload) start + 24 ≤ length (now payload) ⌝ }
     requires { ⌜ Known fourRules (nameAt (now payload) start) ⌝ }
     ensures { λ r. ⌜ proofOut r ≡ proofView fourRules (now (payload .entry)) start ⌝ }
@@ -76,7 +76,7 @@ fn proof_at(payload: &[u8], start: usize) -> Proof
     let name = start + 10;
     let rest = after_name(payload, start);
     let rule = rule_of(&payload[name..rest]);
-    Proof {
+    SettledProof {
         proof_id: ProofNumber(u32_at(payload, start)),
         proposition_index: PropositionIndex(u32_at(payload, start + 4)),
         rule,
@@ -100,7 +100,7 @@ fn rises(parent: usize, number: usize, least: usize) -> bool
 }
 
 // Whether the proof at `start` has the proposition and the authority of `proof`.
-fn agrees(payload: &[u8], start: usize, proof: Proof) -> bool
+fn agrees(payload: &[u8], start: usize, proof: SettledProof) -> bool
     requires { ⌜ afterName (now payload) start + 24 ≤ length (now payload) ⌝ }
     ensures { λ r. ⌜ r ≡ (eqb (proofView fourRules (now (payload .entry)) start .proposition) (proofOut proof .proposition) && eqb
         (proofView fourRules (now (payload .entry)) start .authority) (proofOut proof .authority)) ⌝ }
@@ -125,7 +125,7 @@ fn parents_from(
     starts: &[u64],
     tables: Layout,
     depths: &[u64],
-    proof: Proof,
+    proof: SettledProof,
 ) -> Depth
     requires { ⌜ ProofDue fourRules (now payload) (now starts) (layoutOut tables) (now depths) (proofOut proof) ⌝ }
     ensures { λ r. ⌜ depthOut r ≡ of.parentsFrom (tables .«parents_at») (tablesIn (now (payload .entry)) (now (starts .entry)) tables)
@@ -169,7 +169,7 @@ fn suits(rule: Rule, own: PropositionIndex, found: PropositionIndex, polarity: u
 }
 
 // The witnesses of `proof`.
-fn witnesses_from(payload: &[u8], tables: Layout, proof: Proof) -> Checked
+fn witnesses_from(payload: &[u8], tables: Layout, proof: SettledProof) -> Checked
     requires { ⌜ tables .«witnesses_at» + 84 * tables .counts .witnesses ≤ length (now payload) ⌝ }
     requires { ⌜ proof .«witness_first» .0 + proof .«witness_count» ≤ tables .counts .witnesses ⌝ }
     ensures { λ r. ⌜ ((starts : List ℕ) → checkedOut r
@@ -197,7 +197,13 @@ fn witnesses_from(payload: &[u8], tables: Layout, proof: Proof) -> Checked
 }
 
 // One proof, after those whose depths are known.
-fn depth_of(payload: &[u8], starts: &[u64], tables: Layout, depths: &[u64], proof: Proof) -> Depth
+fn depth_of(
+    payload: &[u8],
+    starts: &[u64],
+    tables: Layout,
+    depths: &[u64],
+    proof: SettledProof,
+) -> Depth
     requires { ⌜ ProofDue fourRules (now payload) (now starts) (layoutOut tables) (now depths) (proofOut proof) ⌝ }
     ensures { λ r. ⌜ depthOut r ≡ of.depthOf (tables .«parents_at») (tablesIn (now (payload .entry)) (now (starts .entry)) tables) (proofOut proof)
         (take (proof .«proof_id» .0) (now (depths .entry))) ⌝ }

@@ -8,8 +8,7 @@ use Rattle.local_format.specs.Out.{ok, refuse, _>>=_}
 use Rattle.local_format.specs.Field.{le}
 use Rattle.local_format.specs.Text.{Span}
 use Rattle.local_format.proofs.FieldLaws.{field-there, le-1}
-use Rattle.evr0_section.specs.Proof.{ProofRecord, zerosAt}
-use Rattle.evr0_records.specs.Checks.{restOf}
+use Rattle.evr0_section.specs.Proof.{ProofRecord, restOf, zerosAt}
 use Rattle.evr0_records.proofs.ZerosLaws.{zeros-bad, zeros-good}
 
 module _ (s : List ℕ) (number proposition : ℕ) (rule : Span) (h : rule .next + 24 ≤ length s) where

@@ -1,41 +1,15 @@
--- What follows the rule of a proof; the tests of a proof, each by itself; and the numbers of a rule.
-use Prim.Native.Nat.{ℕ, _+_}
+-- The tests of a proof, each by itself; the numbers of a rule; and byte strings that are the same up to a place.
+use Prim.Native.Nat.{ℕ, _+_, _≤_}
 use mathlib.Core.Path.{_≡_}
 use mathlib.Core.List.{List}
 use mathlib.Core.Bool.{Bool, _&&_}
 use lib.Dec.{ltb, leb, eqb}
-use Rattle.local_format.specs.Out.{Out, ok, _>>=_}
-use Rattle.local_format.specs.Text.{Span, sectionField}
+use lib.ListN.{length, drop}
 use Rattle.derivation.specs.Rule as rules
-use Rattle.evr0_section.specs.Rows.{Sized}
 use Rattle.evr0_section.specs.Head.{Counts}
-use Rattle.evr0_section.specs.Proof.{ProofRecord, Unowned, zerosAt}
+use Rattle.evr0_section.specs.Proposition.{compareBytes}
+use Rattle.evr0_section.specs.Proof.{ProofRecord, Unowned}
 use Rattle.evr0_records.specs.declared.rule.Shape.{Shape}
-
--- what `proofOf` reads after the rule
-abbrev pub restOf : List ℕ → ℕ → ℕ → Span → Out (Sized ProofRecord)
-restOf s number proposition rule = do
-  authority ← sectionField 4 s (rule .next)
-  firstWitness ← sectionField 4 s (authority .next)
-  witnessCount ← sectionField 4 s (firstWitness .next)
-  firstParent ← sectionField 4 s (witnessCount .next)
-  parentCount ← sectionField 4 s (firstParent .next)
-  operation ← sectionField 1 s (parentCount .next)
-  next ← zerosAt s (operation .next)
-  ok (record {
-    item = record {
-      number = number;
-      proposition = proposition;
-      rule = rule;
-      authority = authority .value;
-      firstWitness = firstWitness .value;
-      witnessCount = witnessCount .value;
-      firstParent = firstParent .value;
-      parentCount = parentCount .value;
-      operation = operation .value;
-    };
-    size = next;
-  })
 
 -- 17
 abbrev pub isNext : Counts → Unowned → ProofRecord → Bool
@@ -55,3 +29,9 @@ pub record HasShape (rule : rules.Rule) (s : Shape) : Type 0 where
   pub witnesses : s .witnesses ≡ rule .witnesses
   pub parents : s .parents ≡ rule .parents
   pub operation : s .operation ≡ rule .operation
+
+-- the order of two byte strings is that of what follows a place
+pub record SameUpTo (a b : List ℕ) (i : ℕ) : Type 0 where
+  pub in-first : i ≤ length a
+  pub in-second : i ≤ length b
+  pub order : compareBytes a b ≡ compareBytes (drop i a) (drop i b)

@@ -3,11 +3,13 @@ ghost use mathlib.Core.Path.{_≡_};
 ghost use Prim.Native.Nat.{_+_, _≤_};
 ghost use lib.ListN.{length, getD};
 ghost use Rattle.local_format.specs.Out.{refuse};
+ghost use Rattle.local_format.specs.Text.{textAt};
+ghost use Rattle.local_format.specs.Maps.{textOut};
 ghost use Rattle.derivation.specs.Rule.{fourRules};
-ghost use Rattle.evr0_section.specs.Proof.{zerosAt, proofOf, hasNumbers, checkProof};
+ghost use Rattle.evr0_section.specs.Proof.{zerosAt, restOf, proofOf, hasNumbers, checkProof};
 ghost use Rattle.evr0_fields.specs.Maps.{placeOut, spanOut};
 ghost use Rattle.evr0_head.specs.Maps.{countsOut};
-ghost use Rattle.evr0_records.specs.Checks.{restOf, isNext, isContiguous, endsWithin};
+ghost use Rattle.evr0_records.specs.Checks.{isNext, isContiguous, endsWithin};
 ghost use Rattle.evr0_records.specs.Maps.{unownedOut, ruleOut, proofRecord, proofOut, settledOut};
 use crate::rule::Named;
 use crate::rule::Rule;
@@ -15,13 +17,14 @@ use evr0_fields::check::both;
 use evr0_fields::number::ProofNumber;
 use evr0_fields::number::PropositionIndex;
 use evr0_fields::number::WitnessNumber;
-use evr0_fields::number::u32_at;
 use evr0_fields::number::wide;
 use evr0_fields::place::Place;
 use evr0_fields::span::Span;
 use evr0_head::counts::Counts;
 use local_format::field::U8;
+use local_format::field::U16;
 use local_format::field::U32;
+use local_format::field::u32_at;
 use local_format::refusal::Refusal;
 use local_format::text::Text;
 
@@ -190,6 +193,31 @@ fn read_rest(
     }
 }
 
+// The text of a rule. The names of the rules are known to be texts of one byte a character, so that only another is scanned.
+fn read_rule(tail: &[u8], at: usize) -> Text
+    ensures { λ r. ⌜ textOut r ≡ textAt (now (tail .entry)) at ⌝ }
+{
+    let size = local_format::field::read_u16_le(tail, at);
+    let U16::Value { value, next: start } = size else {
+        return local_format::text::read_text(tail, at);
+    };
+    let len = value as usize;
+    if tail.len() - start < len {
+        return local_format::text::read_text(tail, at);
+    }
+    let next = start + len;
+    let named = crate::rule::rule_named(&tail[start..next]);
+    match named {
+        Named::Known(_) => Text::Whole {
+            start,
+            len,
+            chars: len,
+            next,
+        },
+        Named::Unknown => local_format::text::read_text(tail, at),
+    }
+}
+
 // The proof at the front of `tail`.
 pub fn read_proof(tail: &[u8]) -> ProofRead
     ensures { λ r. ⌜ proofOut r ≡ proofOf (now (tail .entry)) ⌝ }
@@ -210,7 +238,7 @@ pub fn read_proof(tail: &[u8]) -> ProofRead
     else {
         return cut(proposition_at);
     };
-    let rule = local_format::text::read_text(tail, rule_at);
+    let rule = read_rule(tail, rule_at);
     let Text::Whole {
         start,
         len,

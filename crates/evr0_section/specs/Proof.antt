@@ -28,12 +28,9 @@ pub record ProofRecord : Type 0 where
   pub parentCount : ℕ
   pub operation : ℕ
 
--- the proof at the front of s
-unfoldable pub proofOf : List ℕ → Out (Sized ProofRecord)
-proofOf s = do
-  number ← sectionField 4 s 0
-  proposition ← sectionField 4 s (number .next)
-  rule ← textAt s (proposition .next)
+-- what follows the rule's name
+abbrev pub restOf : List ℕ → ℕ → ℕ → Span → Out (Sized ProofRecord)
+restOf s number proposition rule = do
   authority ← sectionField 4 s (rule .next)
   firstWitness ← sectionField 4 s (authority .next)
   witnessCount ← sectionField 4 s (firstWitness .next)
@@ -43,8 +40,8 @@ proofOf s = do
   next ← zerosAt s (operation .next)
   ok (record {
     item = record {
-      number = number .value;
-      proposition = proposition .value;
+      number = number;
+      proposition = proposition;
       rule = rule;
       authority = authority .value;
       firstWitness = firstWitness .value;
@@ -55,6 +52,14 @@ proofOf s = do
     };
     size = next;
   })
+
+-- the proof at the front of s
+unfoldable pub proofOf : List ℕ → Out (Sized ProofRecord)
+proofOf s = do
+  number ← sectionField 4 s 0
+  proposition ← sectionField 4 s (number .next)
+  rule ← textAt s (proposition .next)
+  restOf s (number .value) (proposition .value) rule
 
 -- ---- The checks
 

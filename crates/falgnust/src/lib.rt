@@ -15,3 +15,4 @@ pub mod tag;
 pub mod text;
 pub mod way_down;
 pub mod witness;
+pub mod words;

@@ -38,6 +38,10 @@ module _ (s : List ℕ) (at : ℕ) where
   unfolding le
   le-4 = simp add-assoc (omega arith)
 
+  pub le-8 : le 4 s at + 4294967296 * le 4 s (at + 4) ≡ le 8 s at
+  unfolding le
+  le-8 = simp add-assoc (omega arith)
+
 -- ---- What an answer says
 -- a caller's `let else`: from what the reader ensures and the variant that was found
 pub field-told : {R : Type 0} (out : R → Field) {r x : R} {f : Field} (number at : ℕ)

@@ -1,7 +1,8 @@
 // Little-endian fields at a place of a slice. The place may be any number.
 ghost use mathlib.Core.Path.{_≡_};
-ghost use Prim.Native.Nat.{_+_, _-_, _*_};
-ghost use Rattle.local_format.specs.Field.{fieldAt};
+ghost use Prim.Native.Nat.{_+_, _-_, _*_, _≤_};
+ghost use lib.ListN.{length};
+ghost use Rattle.local_format.specs.Field.{le, fieldAt};
 ghost use Rattle.local_format.specs.Maps.{u8Out, u16Out, u32Out};
 
 pub enum U8 {
@@ -40,6 +41,35 @@ pub fn le32(a: u8, b: u8, c: u8, d: u8) -> u32
     (a as u32) + 256 * ((b as u32) + 256 * ((c as u32) + 256 * (d as u32)))
 }
 
+// The number of two numbers of four bytes, the low one first.
+fn le64(low: u32, high: u32) -> u64
+    ensures { λ r. ⌜ r ≡ low + 4294967296 * high ⌝ }
+{
+    (low as u64) + 4294967296 * (high as u64)
+}
+
+// The fields of two, four and eight bytes at a place where they are there.
+pub fn u16_at(bytes: &[u8], at: usize) -> u16
+    requires { ⌜ at + 2 ≤ length (now bytes) ⌝ }
+    ensures { λ r. ⌜ r ≡ le 2 (now (bytes .entry)) at ⌝ }
+{
+    le16(bytes[at], bytes[at + 1])
+}
+
+pub fn u32_at(bytes: &[u8], at: usize) -> u32
+    requires { ⌜ at + 4 ≤ length (now bytes) ⌝ }
+    ensures { λ r. ⌜ r ≡ le 4 (now (bytes .entry)) at ⌝ }
+{
+    le32(bytes[at], bytes[at + 1], bytes[at + 2], bytes[at + 3])
+}
+
+pub fn u64_at(bytes: &[u8], at: usize) -> u64
+    requires { ⌜ at + 8 ≤ length (now bytes) ⌝ }
+    ensures { λ r. ⌜ r ≡ le 8 (now (bytes .entry)) at ⌝ }
+{
+    le64(u32_at(bytes, at), u32_at(bytes, at + 4))
+}
+
 pub fn read_u8(bytes: &[u8], at: usize) -> U8
     ensures { λ r. ⌜ u8Out r ≡ fieldAt 1 (now (bytes .entry)) at ⌝ }
 {
@@ -59,7 +89,7 @@ pub fn read_u16_le(bytes: &[u8], at: usize) -> U16
         return U16::Cut;
     }
     U16::Value {
-        value: le16(bytes[at], bytes[at + 1]),
+        value: u16_at(bytes, at),
         next: at + 2,
     }
 }
@@ -71,7 +101,7 @@ pub fn read_u32_le(bytes: &[u8], at: usize) -> U32
         return U32::Cut;
     }
     U32::Value {
-        value: le32(bytes[at], bytes[at + 1], bytes[at + 2], bytes[at + 3]),
+        value: u32_at(bytes, at),
         next: at + 4,
     }
 }

@@ -2,7 +2,7 @@
 ghost use mathlib.Core.Path.{_≡_};
 ghost use Rattle.local_format.specs.Tag.{equal, tagAt};
 
-// Whether two slices hold the same bytes.
+// Whether two slices hold the same bytes: four at a time, then those that are left.
 pub fn same(a: &[u8], b: &[u8]) -> bool
     ensures { λ r. ⌜ r ≡ equal (now (a .entry)) (now (b .entry)) ⌝ }
 {
@@ -10,6 +10,12 @@ pub fn same(a: &[u8], b: &[u8]) -> bool
         return false;
     }
     let mut i: usize = 0;
+    while 4 <= a.len() - i {
+        if crate::field::u32_at(a, i) != crate::field::u32_at(b, i) {
+            return false;
+        }
+        i += 4;
+    }
     while i < a.len() {
         if a[i] != b[i] {
             return false;

@@ -80,12 +80,7 @@ module _ (s : List ℕ) (i : ℕ) where
 
 -- ---- The bits of a lead byte and of the second byte: a character with these on top is no control character
 module _ (b x low high : ℕ) (l : low ≤ x) (h : x ≤ high) where
-  pub large-3 : low ≡ cond (eqb b 0xE0) 0xA0 0x80 → high ≡ cond (eqb b 0xED) 0x9F 0xBF → 0xDF < b → b ≤ 0xEF → 2 < b % 16 * 64 + x % 64
-  large-3 el eh f g =
-      ⊎-elim (λ p. ⊎-elim (λ q. omega arith) (λ q. omega arith) (bounds b 0xED 0x9F 0xBF high eh)) (λ p. omega arith)
-      (bounds b 0xE0 0xA0 0x80 low el)
-
-  pub large-4 : low ≡ cond (eqb b 0xF0) 0x90 0x80 → high ≡ cond (eqb b 0xF4) 0x8F 0xBF → 0xEF < b → b ≤ 0xF4 → 2 < b % 8 * 64 + x % 64
+  pub large-4 : low ≡ cond (eqb b 0xF0) 0x90 0x80 → high ≡ cond (eqb b 0xF4) 0x8F 0xBF → 0xEF < b → b ≤ 0xF4 → 0 < b % 8 * 64 + x % 64
   large-4 el eh f g =
       ⊎-elim (λ p. ⊎-elim (λ q. omega arith) (λ q. omega arith) (bounds b 0xF4 0x8F 0xBF high eh)) (λ p. omega arith)
       (bounds b 0xF0 0x90 0x80 low el)

@@ -87,6 +87,14 @@ module _ (b : ℕ) where
   pub lead-plain : 0xE0 < b → b ≤ 0xEF → (b ≡ 0xED → ⊥) → leadOf table b ≡ more (part 2 0x80 0xBF (b % 16))
   lead-plain g h n = lead-3 0x80 0xBF (rw (ne-eqb b 0xE0 (omega arith))) (rw (ne-eqb b 0xED n)) (omega arith) h
 
+  pub lead-e0 : b ≡ 0xE0 → leadOf table b ≡ more (part 2 0xA0 0xBF (b % 16))
+  unfolding table
+  lead-e0 e = lead-has 2 table b (omega arith)
+
+  pub lead-ed : b ≡ 0xED → leadOf table b ≡ more (part 2 0x80 0x9F (b % 16))
+  unfolding table
+  lead-ed e = lead-has 4 table b (omega arith)
+
   pub lead-past : 0xF4 < b → leadOf table b ≡ bad
   unfolding table
   lead-past g = lead-lacks 9 table b (omega arith)

@@ -1,12 +1,11 @@
 // UTF-8: whether bytes are well-formed, their number of characters, and whether one is a control character.
 ghost use mathlib.Core.Path.{_≡_};
-ghost use mathlib.Core.Bool.{true, false, cond, _||_};
+ghost use mathlib.Core.Bool.{cond};
 ghost use Prim.Native.Nat.{ℕ, _+_, _<_, max};
 ghost use lib.ListN.{length};
 ghost use lib.Dec.{eqb, leb};
 ghost use Rattle.utf8.specs.Utf8.{fresh, decode, isControl};
 ghost use Rattle.utf8.specs.Scan.{scanOf, printable, allPrintable, laterAt, utf8At};
-ghost use Rattle.utf8.specs.declared.Char.the-variants.{Whole};
 ghost use Rattle.utf8.specs.Maps.{part, Reads, scannedOut, utf8Out};
 
 // A character: whether it is a control character, and the place after it.
@@ -64,7 +63,7 @@ fn last(bytes: &[u8], at: usize) -> Char
 
 // The last two bytes of a character above U+009F.
 fn last_two(bytes: &[u8], at: usize) -> Char
-    ensures { λ r. ⌜ ((p : ℕ) → 2 < p → Reads (now (bytes .entry)) at (part 2 0x80 0xBF p) r) ⌝ }
+    ensures { λ r. ⌜ ((p : ℕ) → 0 < p → Reads (now (bytes .entry)) at (part 2 0x80 0xBF p) r) ⌝ }
 {
     if !later(bytes, at, 0x80, 0xbf) {
         return Char::Ill;
@@ -78,6 +77,35 @@ fn char_at(bytes: &[u8], at: usize) -> Char
     ensures { λ r. ⌜ Reads (now (bytes .entry)) at fresh r ⌝ }
 {
     let lead = bytes[at];
+    if 0xe0 < lead {
+        if lead <= 0xef {
+            if lead != 0xed {
+                return last_two(bytes, at + 1);
+            }
+            if !later(bytes, at + 1, 0x80, 0x9f) {
+                return Char::Ill;
+            }
+            return last(bytes, at + 2);
+        }
+        if 0xf4 < lead {
+            return Char::Ill;
+        }
+        let low = bound(lead, 0xf0, 0x90, 0x80);
+        let high = bound(lead, 0xf4, 0x8f, 0xbf);
+        if !later(bytes, at + 1, low, high) {
+            return Char::Ill;
+        }
+        return last_two(bytes, at + 2);
+    }
+    if 0xc2 < lead {
+        if lead <= 0xdf {
+            return last(bytes, at + 1);
+        }
+        if !later(bytes, at + 1, 0xa0, 0xbf) {
+            return Char::Ill;
+        }
+        return last(bytes, at + 2);
+    }
     if lead <= 0x7f {
         return Char::Whole {
             control: is_control(lead),
@@ -87,57 +115,13 @@ fn char_at(bytes: &[u8], at: usize) -> Char
     if lead <= 0xc1 {
         return Char::Ill;
     }
-    if lead == 0xc2 {
-        if !later(bytes, at + 1, 0x80, 0xbf) {
-            return Char::Ill;
-        }
-        return Char::Whole {
-            control: is_control(bytes[at + 1]),
-            next: at + 2,
-        };
-    }
-    if lead <= 0xdf {
-        return last(bytes, at + 1);
-    }
-    if lead <= 0xef {
-        let low = bound(lead, 0xe0, 0xa0, 0x80);
-        let high = bound(lead, 0xed, 0x9f, 0xbf);
-        if !later(bytes, at + 1, low, high) {
-            return Char::Ill;
-        }
-        return last(bytes, at + 2);
-    }
-    if lead <= 0xf4 {
-        let low = bound(lead, 0xf0, 0x90, 0x80);
-        let high = bound(lead, 0xf4, 0x8f, 0xbf);
-        if !later(bytes, at + 1, low, high) {
-            return Char::Ill;
-        }
-        return last_two(bytes, at + 2);
-    }
-    Char::Ill
-}
-
-// Whether a character of three bytes stands at `at` whose second byte has the range of the third. It spares most texts of another script
-// the other rows.
-fn plain_three(bytes: &[u8], at: usize) -> bool
-    requires { ⌜ at < length (now bytes) ⌝ }
-    ensures { λ r. ⌜ (r ≡ true → Reads (now (bytes .entry)) at fresh (Whole false (at + 3))) ⌝ }
-{
-    let lead = bytes[at];
-    if lead < 0xe1 {
-        return false;
-    }
-    if 0xef < lead {
-        return false;
-    }
-    if lead == 0xed {
-        return false;
-    }
     if !later(bytes, at + 1, 0x80, 0xbf) {
-        return false;
+        return Char::Ill;
     }
-    later(bytes, at + 2, 0x80, 0xbf)
+    Char::Whole {
+        control: is_control(bytes[at + 1]),
+        next: at + 2,
+    }
 }
 
 // Whether a byte is a printable character of ASCII.
@@ -148,12 +132,6 @@ fn is_printable(b: u8) -> bool
         return false;
     }
     b <= 0x7e
-}
-
-fn either(a: bool, b: bool) -> bool
-    ensures { λ r. ⌜ r ≡ a || b ⌝ }
-{
-    if a { true } else { b }
 }
 
 pub enum Scanned {
@@ -172,16 +150,15 @@ fn scan_chars(bytes: &[u8]) -> Scanned
         if is_printable(bytes[i]) {
             i += 1;
             chars += 1;
-        } else if plain_three(bytes, i) {
-            i += 3;
-            chars += 1;
         } else {
             let c = char_at(bytes, i);
             match c {
                 Char::Whole { control: one, next } => {
                     i = next;
                     chars += 1;
-                    control = either(control, one);
+                    if one {
+                        control = true;
+                    }
                 }
                 Char::Ill => {
                     return Scanned::NotUtf8;

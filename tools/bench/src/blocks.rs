@@ -11,8 +11,8 @@ use port::block::DebugSymbol;
 use std::cell::RefCell;
 use std::hint::black_box;
 
-const REVISION: u16 = 22;
-const BASE: usize = 1000;
+pub const REVISION: u16 = 22;
+pub const BASE: usize = 1000;
 
 /// Room for strings, symbols and paths.
 type Rooms = [usize; 3];
@@ -64,7 +64,7 @@ fn of(name: &str, rooms: Rooms, blocks: fn() -> Vec<Block>) -> Plan {
 }
 
 /// Small valid blocks, all of one revision.
-fn smalls(r: &mut Random) -> Vec<Block> {
+pub fn smalls(r: &mut Random) -> Vec<Block> {
     let mut blocks = Vec::new();
     while blocks.len() < 100 {
         let block = small(r);
@@ -129,7 +129,7 @@ fn port(code: &[u8], tables: &mut Tables) -> Answer<Layout> {
 }
 
 /// Counts and places of a result; the offset of a refusal.
-fn rust_summary(code: &[u8]) -> u64 {
+pub fn rust_summary(code: &[u8]) -> u64 {
     match oracle::semcode_decode::block(BASE, code, REVISION) {
         Ok(b) => {
             let paths = b.borrowed_paths.len() + b.write_paths.len();

@@ -1,8 +1,10 @@
 //! Times the Rust and the port on the same inputs, in one run of one driver, and checks that their results are equal in it.
 
+mod asked;
 mod blocks;
 mod measure;
 mod rows;
+mod rust_crate;
 mod sections;
 mod texts;
 

@@ -50,5 +50,7 @@ pub fn all() -> Vec<Plan> {
     let mut rows = crate::texts::rows();
     rows.extend(crate::blocks::rows());
     rows.extend(crate::sections::rows());
+    rows.extend(crate::asked::rows());
+    rows.extend(crate::rust_crate::rows());
     rows
 }

@@ -15,9 +15,9 @@ const FULL: usize = 65_536;
 /// Proofs of a large section.
 const MANY: u32 = 40_000;
 
-type Make = fn(&mut Random) -> Section;
+pub type Make = fn(&mut Random) -> Section;
 
-const SHAPES: [(&str, Make); 3] = [
+pub const SHAPES: [(&str, Make); 3] = [
     ("joins in 250 layers", |r| shapes::layers(r, 250, 160)),
     ("witnesses and OPs", |r| shapes::witnesses_and_ops(r, MANY)),
     ("OPs on one witness", |r| shapes::ops_on_one(r, MANY)),
@@ -140,7 +140,7 @@ fn port(file: &[u8], tables: &mut [Vec<u64>; 3]) -> (Answer<Head>, usize) {
 }
 
 /// Counts, epoch and cursor of a result; the offset of a refusal.
-fn rust_summary(file: &[u8]) -> u64 {
+pub fn rust_summary(file: &[u8]) -> u64 {
     let mut cursor = 0;
     match decode_evr0_section(file, &mut cursor) {
         Ok(d) => {

@@ -2,7 +2,7 @@
 //! have the number (document 01's 62).
 
 use super::records;
-use super::tables::Tables;
+use super::tables::lend;
 use super::{Evr0Error, HEADER, Proof, Proposition, Witness};
 use crate::calls;
 use crate::read::Read;
@@ -30,16 +30,18 @@ pub fn proposition_number(
     cursor: usize,
     number: u32,
 ) -> Result<Option<Proposition>, Evr0Error> {
-    let mut tables = Tables::fitted(bytes, cursor);
-    let read = calls::proposition_number(bytes, cursor, number, tables.lent());
-    answer(records::proposition(payload(bytes, cursor), read))
+    answer(lend(bytes, |lent| {
+        let read = calls::proposition_number(bytes, cursor, number, lent);
+        records::proposition(payload(bytes, cursor), read)
+    }))
 }
 
 /// A proof by its number.
 pub fn proof_number(bytes: &[u8], cursor: usize, number: u32) -> Result<Option<Proof>, Evr0Error> {
-    let mut tables = Tables::fitted(bytes, cursor);
-    let read = calls::proof_number(bytes, cursor, number, tables.lent());
-    answer(records::proof(payload(bytes, cursor), read))
+    answer(lend(bytes, |lent| {
+        let read = calls::proof_number(bytes, cursor, number, lent);
+        records::proof(payload(bytes, cursor), read)
+    }))
 }
 
 /// A witness by its number.
@@ -48,16 +50,18 @@ pub fn witness_number(
     cursor: usize,
     number: u32,
 ) -> Result<Option<Witness>, Evr0Error> {
-    let mut tables = Tables::fitted(bytes, cursor);
-    let read = calls::witness_number(bytes, cursor, number, tables.lent());
-    answer(records::witness(read))
+    answer(lend(bytes, |lent| {
+        let read = calls::witness_number(bytes, cursor, number, lent);
+        records::witness(read)
+    }))
 }
 
 /// The proof's number in a parent cell, by the cell's number.
 pub fn parent_number(bytes: &[u8], cursor: usize, number: u32) -> Result<Option<u32>, Evr0Error> {
-    let mut tables = Tables::fitted(bytes, cursor);
-    let read = calls::parent_number(bytes, cursor, number, tables.lent());
-    answer(records::parent(read))
+    answer(lend(bytes, |lent| {
+        let read = calls::parent_number(bytes, cursor, number, lent);
+        records::parent(read)
+    }))
 }
 
 /// The way down from a proof: always the first parent, with at most `limit` moves.
@@ -73,9 +77,10 @@ pub fn way_down(
     from: u32,
     limit: u64,
 ) -> Result<Option<WayDown>, Evr0Error> {
-    let mut tables = Tables::fitted(bytes, cursor);
-    let read = calls::way_down(bytes, cursor, from, limit, tables.lent());
-    answer(records::way_down(read))
+    answer(lend(bytes, |lent| {
+        let read = calls::way_down(bytes, cursor, from, limit, lent);
+        records::way_down(read)
+    }))
 }
 
 /// Whether a proposition is authorised: some proof of it has operation 1.
@@ -84,9 +89,10 @@ pub fn authorised(
     cursor: usize,
     proposition: u32,
 ) -> Result<Option<bool>, Evr0Error> {
-    let mut tables = Tables::fitted(bytes, cursor);
-    let read = calls::authorised(bytes, cursor, proposition, tables.lent());
-    answer(records::authorised(read))
+    answer(lend(bytes, |lent| {
+        let read = calls::authorised(bytes, cursor, proposition, lent);
+        records::authorised(read)
+    }))
 }
 
 fn answer<T>(read: Read<T>) -> Result<Option<T>, Evr0Error> {

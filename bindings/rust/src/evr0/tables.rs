@@ -1,29 +1,44 @@
-//! The tables that are lent.
+//! The tables that are lent. Few entries are lent first; where a count is more, and the call refuses with 61, it is made again with as many as
+//! the counts say. So no answer is 61.
 
-use super::{HEADER, MAX_EVR0_PROOFS, MAX_EVR0_PROPOSITIONS};
 use crate::calls::{self, SectionTables};
+use crate::raw::Refusal;
+use crate::read::Read;
 
-pub struct Tables {
-    pub propositions: Vec<u64>,
-    pub proofs: Vec<u64>,
-    pub depths: Vec<u64>,
+/// Tables of a few entries.
+#[derive(Default)]
+pub struct Few {
+    pub propositions: [u64; 8],
+    pub proofs: [u64; 12],
+    depths: [u64; 12],
 }
 
-/// The least bytes before the first record of a payload: schema, flags, two digests, epoch, two texts of one byte, four counts.
-const HEAD: usize = 2 + 2 + 32 + 32 + 2 + 3 + 3 + 4 * 4;
+impl Few {
+    #[inline]
+    pub fn lent(&mut self) -> SectionTables<'_> {
+        SectionTables {
+            propositions: &mut self.propositions,
+            proofs: &mut self.proofs,
+            depths: &mut self.depths,
+        }
+    }
+}
 
-impl Tables {
-    /// Tables of the least length with which no section is refused for a short one. 12 and 13 are asked before 61: the counts are then at
-    /// most 65,536, and 15 times the propositions, as 35 times the proofs, are within the payload behind its head. Both bounds are
-    /// reached: by a section with texts of one byte that has propositions alone, or proofs alone. A section whose length is cut, or is
-    /// more than there is, is refused before.
-    pub fn fitted(bytes: &[u8], cursor: usize) -> Self {
-        let length = calls::read_u32_le(bytes, cursor.saturating_add(4)).value as usize;
-        let there = bytes.len().saturating_sub(cursor).saturating_sub(HEADER);
-        let records = length.min(there).saturating_sub(HEAD);
-        let proofs = MAX_EVR0_PROOFS.min(records / 35);
-        Tables {
-            propositions: vec![0; MAX_EVR0_PROPOSITIONS.min(records / 15)],
+/// Tables as long as the counts.
+pub struct Counted {
+    pub propositions: Vec<u64>,
+    pub proofs: Vec<u64>,
+    depths: Vec<u64>,
+}
+
+impl Counted {
+    /// The four counts, of 4 bytes each, end where 61 stands.
+    pub fn new(bytes: &[u8], refusal: Refusal) -> Self {
+        let count =
+            |before: usize| calls::read_u32_le(bytes, refusal.offset - before).value as usize;
+        let (propositions, proofs) = (count(16), count(12));
+        Counted {
+            propositions: vec![0; propositions],
             proofs: vec![0; proofs],
             depths: vec![0; proofs],
         }
@@ -35,5 +50,13 @@ impl Tables {
             proofs: &mut self.proofs,
             depths: &mut self.depths,
         }
+    }
+}
+
+/// The answer of a call that lends tables.
+pub fn lend<T>(bytes: &[u8], call: impl Fn(SectionTables) -> Read<T>) -> Read<T> {
+    match call(Few::default().lent()) {
+        Err(refusal) if refusal.number == 61 => call(Counted::new(bytes, refusal).lent()),
+        answer => answer,
     }
 }

@@ -1,7 +1,6 @@
 //! The original's errors.
 
 use super::{Block, MAX_DEBUG_SYMBOLS_PER_FUNCTION, MAX_STRINGS_PER_FUNCTION};
-use crate::calls;
 use crate::messages;
 use crate::raw::Refusal;
 use std::fmt;
@@ -86,12 +85,9 @@ impl Block<'_> {
     /// The count that was refused ends where the refusal stands. At base 0 this is its place in the block, at others it may be held at
     /// 2^64 - 1.
     fn limit(&self, offset: usize, msg: &str, max: usize) -> DecodeError {
-        let here = Block {
-            base_offset: 0,
-            ..*self
-        };
-        let end = here.decode().answer.refusal.offset;
-        let count = calls::read_u16_le(self.code, end - 2).value;
+        let here = Block::new(0, self.code, self.header_rev);
+        let refused = here.lend(|lent| here.decode(lent));
+        let count = refused.map_or_else(|refusal| here.count_before(refusal), |_| 0);
         DecodeError::ResourceLimit {
             offset,
             msg: format!("{msg}{count} (max {max})"),

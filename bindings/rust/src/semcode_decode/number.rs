@@ -2,7 +2,6 @@
 //! (document 01's 62).
 
 use super::records;
-use super::tables::lend;
 use super::{
     Block, DecodeError, DecodedAccessPath, DecodedAccessPathComponent, DecodedDebugSymbol,
 };
@@ -26,12 +25,10 @@ pub fn string_number(
     number: usize,
 ) -> Result<Option<String>, DecodeError> {
     let block = Block::new(base_offset, code, header_rev);
-    let read = lend(code, |rooms| {
-        let read =
-            calls::string_number(base_offset, code, header_rev, number, rooms.starts().lent());
-        (read, read.refusal)
-    });
-    block.answer(block.string(read))
+    block.answer(block.lend(|lent| {
+        let read = calls::string_number(base_offset, code, header_rev, number, lent.starts);
+        block.string(read)
+    }))
 }
 
 /// A debug symbol by its number.
@@ -42,12 +39,10 @@ pub fn symbol_number(
     number: usize,
 ) -> Result<Option<DecodedDebugSymbol>, DecodeError> {
     let block = Block::new(base_offset, code, header_rev);
-    let read = lend(code, |rooms| {
-        let read =
-            calls::symbol_number(base_offset, code, header_rev, number, rooms.starts().lent());
-        (read, read.refusal)
-    });
-    block.answer(records::symbol(read))
+    block.answer(block.lend(|lent| {
+        let read = calls::symbol_number(base_offset, code, header_rev, number, lent.starts);
+        records::symbol(read)
+    }))
 }
 
 /// A path by its number, in the block's order, in which borrows and writes are mixed.
@@ -69,11 +64,10 @@ pub fn path_number(
     number: usize,
 ) -> Result<Option<DecodedEvent>, DecodeError> {
     let block = Block::new(base_offset, code, header_rev);
-    let read = lend(code, |rooms| {
-        let read = calls::path_number(base_offset, code, header_rev, number, rooms.starts().lent());
-        (read, read.refusal)
-    });
-    block.answer(block.path(read))
+    block.answer(block.lend(|lent| {
+        let read = calls::path_number(base_offset, code, header_rev, number, lent.starts);
+        block.path(read)
+    }))
 }
 
 /// A component of a path, both by number.
@@ -85,13 +79,11 @@ pub fn component_number(
     component: usize,
 ) -> Result<Option<DecodedAccessPathComponent>, DecodeError> {
     let block = Block::new(base_offset, code, header_rev);
-    let read = lend(code, |rooms| {
-        let mut starts = rooms.starts();
-        let lent = starts.lent();
-        let read = calls::component_number(base_offset, code, header_rev, path, component, lent);
-        (read, read.refusal)
-    });
-    block.answer(records::component(read))
+    block.answer(block.lend(|lent| {
+        let starts = lent.starts;
+        let read = calls::component_number(base_offset, code, header_rev, path, component, starts);
+        records::component(read)
+    }))
 }
 
 impl Block<'_> {

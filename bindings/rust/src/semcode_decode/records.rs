@@ -1,25 +1,26 @@
-//! The records of a block, each as the proved reader gives it.
+//! The records of a block, as the proved functions give them.
+//!
+//! A string is copied without a second look at its bytes. That they are UTF-8 is in the contracts: a block is accepted, and a string read,
+//! only where each string is (`stringAt` in crates/local_format/specs/Text.antt, refusal 34), and the words of a string that was read are
+//! its place and length (`string-words` in crates/record_words/proofs/Read.antt).
 
+use super::tables::Lent;
 use super::{
-    Block, Decoded, DecodedAccessPath, DecodedAccessPathComponent, DecodedBorrowActivation,
+    Block, DecodedAccessPath, DecodedAccessPathComponent, DecodedBorrowActivation,
     DecodedDebugSymbol, DecodedEvent, DecodedWriteExecution, StringTableDebugOwnershipParse,
 };
 use crate::calls;
 use crate::raw;
-use crate::read::{self, Read, accepted, there};
+use crate::read::{Read, accepted, records, text, there};
 
 impl Block<'_> {
     /// An accepted block: every record is read at its place.
-    pub fn records(&self, decoded: &Decoded) -> StringTableDebugOwnershipParse {
-        let Decoded {
-            answer,
-            symbols,
-            starts,
-        } = decoded;
+    #[inline]
+    pub fn records(&self, answer: &raw::Block, lent: &Lent) -> StringTableDebugOwnershipParse {
         let code = self.code;
-        let mut borrowed_paths = Vec::new();
-        let mut write_paths = Vec::new();
-        for at in &starts.paths[..answer.path_count] {
+        let mut borrowed_paths = Vec::with_capacity(answer.path_count);
+        let mut write_paths = Vec::with_capacity(answer.path_count);
+        for at in &lent.starts.paths[..answer.path_count] {
             let read = calls::read_path(code, *at as usize, self.header_rev);
             match there(self.path(read)) {
                 DecodedEvent::Borrow(path) => borrowed_paths.push(path),
@@ -27,11 +28,13 @@ impl Block<'_> {
             }
         }
         StringTableDebugOwnershipParse {
-            strings: starts.strings[..answer.string_count]
-                .iter()
-                .map(|at| there(self.string(calls::read_string(code, *at as usize))))
-                .collect(),
-            debug_symbols: symbols[..answer.debug_symbol_count]
+            strings: records(
+                &mut [0; 80],
+                &lent.starts.strings[..answer.string_count],
+                |starts, words| calls::text_words(code, starts, words),
+                |[start, len]| accepted_text(code, start as usize, len as usize),
+            ),
+            debug_symbols: lent.symbols[..answer.debug_symbol_count]
                 .iter()
                 .map(|s| DecodedDebugSymbol {
                     pc: s.pc,
@@ -48,23 +51,23 @@ impl Block<'_> {
         }
     }
 
-    pub fn string(&self, text: raw::Text) -> Read<String> {
-        accepted(text.accepted, text.refusal)?;
-        Ok(read::string(self.code, text.start, text.len))
+    pub fn string(&self, read: raw::Text) -> Read<String> {
+        accepted(read.accepted, read.refusal)?;
+        Ok(accepted_text(self.code, read.start, read.len))
     }
 
     /// A path with its components, which are read one after the other.
+    #[inline]
     pub fn path(&self, read: raw::Path) -> Read<DecodedEvent> {
         accepted(read.accepted, read.refusal)?;
         let (kind, activation, write_execution) = event(read.event);
+        let mut components = Vec::with_capacity(read.component_count as usize);
         let mut at = read.components_start;
-        let components = (0..read.component_count)
-            .map(|_| {
-                let read = calls::read_component(self.code, at, self.header_rev, kind);
-                at = read.next;
-                there(component(read))
-            })
-            .collect();
+        for _ in 0..read.component_count {
+            let read = calls::read_component(self.code, at, self.header_rev, kind);
+            at = read.next;
+            components.push(there(component(read)));
+        }
         let path = DecodedAccessPath {
             root_symbol_id: read.root_symbol_id,
             components,
@@ -79,6 +82,7 @@ impl Block<'_> {
 }
 
 /// The kind byte, 0 for a borrow and 1 for a write, and what the event carries.
+#[inline]
 fn event(
     event: raw::Event,
 ) -> (
@@ -107,6 +111,7 @@ pub fn symbol(read: raw::Symbol) -> Read<DecodedDebugSymbol> {
     })
 }
 
+#[inline]
 pub fn component(read: raw::Component) -> Read<DecodedAccessPathComponent> {
     accepted(read.accepted, read.refusal)?;
     let raw::Parts {
@@ -124,4 +129,12 @@ pub fn component(read: raw::Component) -> Read<DecodedAccessPathComponent> {
         3 => DecodedAccessPathComponent::SequenceIndexStatic(first),
         other => panic!("no component is {other}"),
     })
+}
+
+/// A string of a block that was accepted.
+#[inline]
+#[allow(unsafe_code)]
+fn accepted_text(code: &[u8], start: usize, len: usize) -> String {
+    // SAFETY: place and length of a string that `falgnust_parse_string_table_debug_and_ownership` or `falgnust_string_number` accepted.
+    unsafe { text(code, start, len) }
 }

@@ -1,67 +1,89 @@
 //! The tables that are lent.
 
-use super::{MAX_DEBUG_SYMBOLS_PER_FUNCTION, MAX_STRINGS_PER_FUNCTION};
-use crate::calls::BlockTables;
+use super::{Block, MAX_DEBUG_SYMBOLS_PER_FUNCTION, MAX_STRINGS_PER_FUNCTION};
+use crate::calls::{self, BlockTables};
 use crate::raw::{DebugSymbol, Refusal};
+use crate::read::Read;
 
-/// How many strings, symbols and paths there is room for.
-#[derive(Clone, Copy)]
-pub struct Rooms {
-    strings: usize,
-    symbols: usize,
-    paths: usize,
+/// The list and the tables that are lent for a block.
+pub struct Lent<'a> {
+    pub symbols: &'a mut [DebugSymbol],
+    pub starts: BlockTables<'a>,
 }
 
-/// The largest counts: 31 and 36 refuse larger ones, and the count of paths has 2 bytes.
-const LARGEST: Rooms = Rooms {
-    strings: MAX_STRINGS_PER_FUNCTION,
-    symbols: MAX_DEBUG_SYMBOLS_PER_FUNCTION,
-    paths: u16::MAX as usize,
-};
-
-impl Rooms {
-    /// What an accepted block of this length has room for: a string takes 2 bytes at least, a symbol 10, a path 7.
-    fn fitted(length: usize) -> Self {
-        Rooms {
-            strings: LARGEST.strings.min(length / 2),
-            symbols: LARGEST.symbols.min(length / 10),
-            paths: LARGEST.paths.min(length / 7),
-        }
-    }
-
-    pub fn starts(self) -> Starts {
-        Starts {
-            strings: vec![0; self.strings],
-            paths: vec![0; self.paths],
-        }
-    }
-
-    pub fn symbols(self) -> Vec<DebugSymbol> {
-        vec![DebugSymbol::default(); self.symbols]
-    }
-}
-
-/// The starts of strings and paths.
-pub struct Starts {
-    pub strings: Vec<u64>,
-    pub paths: Vec<u64>,
-}
-
-impl Starts {
-    pub fn lent(&mut self) -> BlockTables<'_> {
-        BlockTables {
-            strings: &mut self.strings,
-            paths: &mut self.paths,
+impl Lent<'_> {
+    /// The same, for one call.
+    pub fn again(&mut self) -> Lent<'_> {
+        Lent {
+            symbols: self.symbols,
+            starts: BlockTables {
+                strings: self.starts.strings,
+                paths: self.starts.paths,
+            },
         }
     }
 }
 
-/// The answer of a call that lends tables with such room. No answer is 61: where a count is more than an accepted block of this length
-/// can have, and the call refuses with 61, it is made again with room for the largest counts.
-pub fn lend<T>(code: &[u8], call: impl Fn(Rooms) -> (T, Refusal)) -> T {
-    let (answer, refusal) = call(Rooms::fitted(code.len()));
-    match refusal.number {
-        61 => call(LARGEST).0,
-        _ => answer,
+/// How many strings, symbols and paths there is room for first.
+const FEW: usize = 16;
+
+impl Block<'_> {
+    /// The answer of a call that lends tables. Few entries are lent first; where a count is more, and the call refuses with 61, it is made
+    /// again with room for that count. So no answer is 61.
+    #[inline]
+    pub fn lend<T>(&self, call: impl Fn(Lent) -> Read<T>) -> Read<T> {
+        let (mut symbols, mut strings, mut paths) =
+            ([DebugSymbol::default(); FEW], [0; FEW], [0; FEW]);
+        let answer = call(Lent {
+            symbols: &mut symbols,
+            starts: BlockTables {
+                strings: &mut strings,
+                paths: &mut paths,
+            },
+        });
+        match answer {
+            Err(refusal) if refusal.number == 61 => self.lend_more(refusal, call),
+            answer => answer,
+        }
+    }
+
+    /// The count of the strings, which ends at place 2, or one of the others, which may be either; each refusal is of a later one.
+    fn lend_more<T>(&self, refused: Refusal, call: impl Fn(Lent) -> Read<T>) -> Read<T> {
+        let (mut refused, mut strings, mut others) = (refused, FEW, FEW);
+        loop {
+            let count = self.count_before(refused);
+            match self.place(refused) {
+                Some(2) => strings = count,
+                Some(_) => others = others.max(count),
+                None => (strings, others) = (count, count),
+            }
+            let answer = call(Lent {
+                symbols: &mut vec![
+                    DebugSymbol::default();
+                    others.min(MAX_DEBUG_SYMBOLS_PER_FUNCTION)
+                ],
+                starts: BlockTables {
+                    strings: &mut vec![0; strings.min(MAX_STRINGS_PER_FUNCTION)],
+                    paths: &mut vec![0; others],
+                },
+            });
+            match answer {
+                Err(refusal) if refusal.number == 61 => refused = refusal,
+                answer => return answer,
+            }
+        }
+    }
+
+    /// Where in the block a refusal stands; an offset that is held at 2^64 - 1 does not say.
+    fn place(&self, refusal: Refusal) -> Option<usize> {
+        let Refusal { offset, .. } = refusal;
+        (offset != usize::MAX).then(|| offset - self.base_offset)
+    }
+
+    /// The count that was refused ends where the refusal stands; the largest where that is not known.
+    pub fn count_before(&self, refusal: Refusal) -> usize {
+        self.place(refusal).map_or(u16::MAX as usize, |end| {
+            calls::read_u16_le(self.code, end - 2).value as usize
+        })
     }
 }

@@ -1,4 +1,4 @@
-//! Lent tables of the lengths that `evr0` fits to a section are just long enough: one entry less, and some section is refused for it.
+//! Lent tables of the lengths that follow from a section's own length are just long enough: one entry less, and some section is refused for it.
 
 use crate::written::framed;
 use falgnust::calls::{SectionTables, decode_evr0_section};

@@ -1,8 +1,9 @@
-//! The specimens of document 01 through the binding, and the lengths of the tables that it lends.
+//! The specimens of document 01 through the binding, the lengths of lent tables, and the words of records.
 
 mod blocks;
 mod characters;
 mod least_tables;
 mod readme;
 mod sections;
+mod words;
 mod written;

@@ -4,7 +4,7 @@ use Prim.Native.Nat.{_-_}
 use native.Mathlib.Omega.{arith}
 use borrow.Author.Needs.{needs}
 use lib.ListN.{length}
-use mathlib.Core.Bool.{or-false}
+use mathlib.Core.Bool.{or-true, or-false}
 use Rattle.utf8.proofs.ScanLaws.{Passed, printable-on, scan-start, scan-turn, scan-ill, scan-end}
 use Rattle.utf8.proofs.scan_chars as f
 use f.Tie as tie
@@ -22,18 +22,17 @@ scan-chars-spec =
     (λ c.
     scan-turn (c .before .before .before .before .loop .inv) (printable-on _ _ (omega arith) (sym (c .before .is-printable .ensures) ∙ c .if1 .taken))
     (sym (or-false (c .before .before .before .before .loop .control)))) (search needs) (search needs) (search needs)
-    (λ c. let within = c .before .plain-three .ensures (c .if2 .taken) .within in
-    omega arith)
-    (λ c. let at-if1 = c .before .before in
-    let at-loop = at-if1 .before .before .before .before in
-    scan-turn (at-loop .loop .inv) (c .before .plain-three .ensures (c .if2 .taken)) (sym (or-false (at-loop .loop .control)))) (search needs)
-    (search needs) (search needs) (search needs)
     (λ c. let within = rw (c .before .before .c .given .1) at (c .before .before .before .before .char-at .ensures .within) in
     omega arith)
-    (λ c. let at-char-at = c .before .before .before .before in
-    let at-if1 = at-char-at .before .before .before in
-    let at-loop = at-if1 .before .before .before .before in
-    scan-turn (at-loop .loop .inv) (rw (c .before .before .c .given .1) at (at-char-at .char-at .ensures)) (c .either .ensures)) (search needs)
-    (λ c. let at-if1 = c .before .before .before .before .before in
-    scan-ill (at-if1 .before .before .before .before .loop .inv) (rw (c .enum-told .given .1) at (c .before .before .char-at .ensures)))
+    (λ c. let read = c .before .before .before .before in
+    let l = read .before .before .before .before .before .loop in
+    scan-turn (l .inv) (rw (c .before .before .c .given .1) at (read .char-at .ensures)) (rw (c .if2 .taken) (sym (or-true (l .control)))))
+    (λ c. let within = rw (c .before .before .c .given .1) at (c .before .before .before .before .char-at .ensures .within) in
+    omega arith)
+    (λ c. let read = c .before .before .before .before in
+    let l = read .before .before .before .before .before .loop in
+    scan-turn (l .inv) (rw (c .before .before .c .given .1) at (read .char-at .ensures)) (rw (c .if2 .left) (sym (or-false (l .control)))))
+    (search needs)
+    (λ c. let read = c .before .before in
+    scan-ill (read .before .before .before .before .before .loop .inv) (rw (c .enum-told .given .1) at (read .char-at .ensures)))
     (λ c. scan-end (c .before .loop .inv) (omega arith)))

@@ -16,13 +16,13 @@ use Rattle.derivation.specs.Pass as pass
 use Rattle.derivation.proofs.Tests.{both}
 use Rattle.derivation.proofs.Laws.{parents-none, parents-25, parents-26, parents-turn}
 use Rattle.evr0_pass.specs.declared.pass.Layout.{Layout}
-use Rattle.evr0_pass.specs.declared.pass.Proof.{Proof}
+use Rattle.evr0_pass.specs.declared.pass.SettledProof.{SettledProof}
 use Rattle.evr0_pass.specs.Maps.{layoutOut, tablesIn, proofOut}
 use Rattle.evr0_pass.proofs.ViewLaws.{parent-at, agrees-at}
 use Rattle.evr0_pass.proofs.pass.parents_from.Statement.{statement}
 use Rattle.evr0_pass.proofs.pass.parents_from.Tie as tie
 
-abbrev from : List ℕ → List ℕ → Layout → List ℕ → Proof → ℕ → ℕ → ℕ → ℕ → Out ℕ
+abbrev from : List ℕ → List ℕ → Layout → List ℕ → SettledProof → ℕ → ℕ → ℕ → ℕ → Out ℕ
 from payload starts tables depths proof =
     pass.parentsFrom (tables .«parents_at») (tablesIn payload starts tables) (proofOut proof) (take (proof .«proof_id» .0) depths)
 

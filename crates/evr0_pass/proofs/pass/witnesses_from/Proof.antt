@@ -12,7 +12,7 @@ use Rattle.derivation.specs.Pass as pass
 use Rattle.derivation.proofs.Laws.{witnesses-none}
 use Rattle.evr0_fields.specs.Maps.{checkedOut}
 use Rattle.evr0_pass.specs.declared.pass.Layout.{Layout}
-use Rattle.evr0_pass.specs.declared.pass.Proof.{Proof}
+use Rattle.evr0_pass.specs.declared.pass.SettledProof.{SettledProof}
 use Rattle.evr0_pass.specs.View.{witnessView}
 use Rattle.evr0_pass.specs.Maps.{layoutOut, tablesIn, proofOut, suited}
 use Rattle.evr0_pass.proofs.ViewLaws.{witness-at}
@@ -20,7 +20,7 @@ use Rattle.evr0_pass.proofs.WitnessLaws.{suits-turn, suits-refused}
 use Rattle.evr0_pass.proofs.pass.witnesses_from as f
 use f.Tie as tie
 
-abbrev from : List ℕ → List ℕ → Layout → Proof → ℕ → ℕ → Out (Unit {0})
+abbrev from : List ℕ → List ℕ → Layout → SettledProof → ℕ → ℕ → Out (Unit {0})
 from payload starts tables proof = pass.witnessesFrom (tables .«parents_at») (tablesIn payload starts tables) (proofOut proof)
 
 abbrev Inv-loop : tie.InvT-loop

@@ -24,10 +24,10 @@ proposition c =
     let r = c .read-u32-le2 in
     then-field (number (c .before .before .before .before)) (c .before .before .number .given .1) u32Out (r .result) _ _ (r .ensures) refl
 
-abbrev rule : tie.After-read-text → Step Text (Out (Sized ProofRecord))
+abbrev rule : tie.After-read-rule → Step Text (Out (Sized ProofRecord))
 unfolding proofOf
 rule c =
-    let r = c .read-text in
+    let r = c .read-rule in
     then (proposition (c .before .before .before .before)) (c .before .before .proposition .given .1) textOut (r .result) _ (r .ensures) refl
 
 pub read-proof-spec : {M : Type 1} → f.Statement.statement M
@@ -39,6 +39,6 @@ read-proof-spec =
     (λ c. c .cut2 .ensures ∙ sym (told (proposition (c .before .before .before)) (c .before .enum-told2 .given .1))) (search needs) (search needs)
     (search needs) (search needs)
     (λ c. handed (rule (c .before .before .before)) (c .before .enum-told3 .given .1) textOut (c .text-refusal .ensures) refl)
-    (λ c. text-ok _ _ (answers.told textOut (c .before .before .before .read-text .ensures) (c .before .rule .given .1)) .4) (search needs)
+    (λ c. text-ok _ _ (answers.told textOut (c .before .before .before .read-rule .ensures) (c .before .rule .given .1)) .4) (search needs)
     (λ c. let k = c .before .before .before in c .read-rest .ensures ∙ sym (told (rule (k .before .before)) (k .rule .given .1))) (search needs)
     (λ c. let k = c .before .before .before in c .read-whole-rest .ensures ∙ sym (told (rule (k .before .before)) (k .rule .given .1))))

@@ -11,7 +11,7 @@ use Rattle.evr0_section.specs.Proof.{ProofRecord}
 use Rattle.evr0_fields.specs.Maps.{placeOut, spanOut}
 use Rattle.evr0_fields.specs.declared.place.Place.{Place}
 use Rattle.evr0_fields.proofs.Steps.{Step, told, reads-field, then, then-field, handed}
-use Rattle.evr0_records.specs.Checks.{restOf}
+use Rattle.evr0_section.specs.Proof.{restOf}
 use Rattle.evr0_records.proofs.proof.read_rest as f
 use f.Tie as tie
 

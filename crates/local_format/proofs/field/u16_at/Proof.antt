@@ -1,7 +1,8 @@
+-- The number of the bytes is the definition's.
 use mathlib.Core.Path.{_∙_}
 use borrow.Author.Needs.{needs}
 use Rattle.local_format.proofs.FieldLaws.{le-2}
-use Rattle.evr0_fields.proofs.number.u16_at as f
+use Rattle.local_format.proofs.field.u16_at as f
 use f.Tie as tie
 
 pub u16-at-spec : {M : Type 1} → f.Statement.statement M

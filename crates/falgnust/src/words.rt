@@ -1,0 +1,52 @@
+// The fields of records that start at given places, as words of a lent table: true where each record is there and all words fit; else zeros.
+ghost use Rattle.record_words.specs.Words.{textWhole, textWords, witnessWhole, witnessWords, Fills, Runs};
+
+// Of a proposition 5 words: the place and the length of its kind, owner, scope, type.
+#[no_mangle]
+pub extern "C" fn falgnust_proposition_words(
+    payload: &[u8],
+    starts: &[u64],
+    words: &mut [u64],
+) -> bool
+    ensures { λ r. ⌜ Fills (textWhole 0 3 (now (payload .entry))) (textWords 0 3 (now (payload .entry))) (now (starts .entry))
+        (now (words .entry)) (now (words .exit)) r ⌝ }
+{
+    record_words::read_propositions(payload, starts, words)
+}
+
+// Of a proof 10 words: number, proposition, the place and the length of its rule's name, authority, first witness, how many witnesses, first
+// parent, how many parents, operation.
+#[no_mangle]
+pub extern "C" fn falgnust_proof_words(payload: &[u8], starts: &[u64], words: &mut [u64]) -> bool
+    ensures { λ r. ⌜ Fills (textWhole 2 6 (now (payload .entry))) (textWords 2 6 (now (payload .entry))) (now (starts .entry))
+        (now (words .entry)) (now (words .exit)) r ⌝ }
+{
+    record_words::read_proofs(payload, starts, words)
+}
+
+// Of a witness 7 words: number, proposition, polarity, the place of its first digest, where its span starts and ends, the place of its second
+// digest.
+#[no_mangle]
+pub extern "C" fn falgnust_witness_words(payload: &[u8], starts: &[u64], words: &mut [u64]) -> bool
+    ensures { λ r. ⌜ Fills (witnessWhole (now (payload .entry))) (witnessWords (now (payload .entry))) (now (starts .entry))
+        (now (words .entry)) (now (words .exit)) r ⌝ }
+{
+    record_words::read_witnesses(payload, starts, words)
+}
+
+// The parent cells from a place on, a word each, as many as there are words.
+#[no_mangle]
+pub extern "C" fn falgnust_parent_words(payload: &[u8], at: usize, words: &mut [u64]) -> bool
+    ensures { λ r. ⌜ Runs (now (payload .entry)) at (now (words .entry)) (now (words .exit)) r ⌝ }
+{
+    record_words::read_parents(payload, at, words)
+}
+
+// Of a text of a section, or of a string of a block, 2 words: the place and the length of its bytes.
+#[no_mangle]
+pub extern "C" fn falgnust_text_words(bytes: &[u8], starts: &[u64], words: &mut [u64]) -> bool
+    ensures { λ r. ⌜ Fills (textWhole 0 0 (now (bytes .entry))) (textWords 0 0 (now (bytes .entry))) (now (starts .entry))
+        (now (words .entry)) (now (words .exit)) r ⌝ }
+{
+    record_words::read_strings(bytes, starts, words)
+}
