@@ -1,4 +1,4 @@
-/* Decoders of EVR0 evidence sections and of SemCode function blocks, proved, as C functions.
+/* Decoders of EVR0 evidence sections and of SemCode functions and their blocks, proved, as C functions.
  *
  * Link target/staticlib/libfalgnust.a, which `rt staticlib falgnust` writes (x86-64 Linux). The functions of crates/falgnust/src are
  * declared here in full; each has there, as its contract, the definition that its answer is proved to equal. They allocate nothing, keep
@@ -9,7 +9,7 @@
  *   - a lent table overlaps neither another lent table nor the bytes.
  *
  * What a caller gets: an answer that is accepted, with zeros in its refusal; or refused, with the kind, number and offset of document 01
- * (docs/01-scope.md) and zeros in the other fields, but for a section's cursor. After a refusal each table that was lent is zeros, whole;
+ * (docs/01-scope.md) and zeros in the other fields, but for a cursor. After a refusal each table that was lent is zeros, whole;
  * else the entries past a count are zeros. */
 #ifndef FALGNUST_H
 #define FALGNUST_H
@@ -36,25 +36,28 @@ FALGNUST_ASSERT(sizeof(size_t) == 8, "the library is for 64 bits");
 
 /* ---- Refusals ---- */
 
-/* The kinds, in document 01's order. */
+/* The kinds, in document 01's order, and after them those of the requests (docs/02-change-requests.md). */
 enum {
     FALGNUST_INVALID = 0,
     FALGNUST_LIMIT = 1,
     FALGNUST_STRINGS = 2,
     FALGNUST_DEBUG = 3,
     FALGNUST_OWNERSHIP = 4,
-    FALGNUST_ADDED = 5
+    FALGNUST_ADDED = 5,
+    FALGNUST_TRUNCATED = 6,
+    FALGNUST_NAME = 7
 };
 
 typedef struct FalgnustRefusal {
     uint8_t kind;
-    uint8_t number; /* 1 to 62; 0 in an accepted answer */
+    uint8_t number; /* 1 to 65; 0 in an accepted answer */
     size_t offset;
 } FalgnustRefusal;
 FALGNUST_SIZE(FalgnustRefusal, 16);
 
-/* The message of each number, in the Rust's words; after those of 31 and 36 the Rust writes the count. 0 stands for no refusal. */
-static const char *const FALGNUST_MESSAGES[63] = {
+/* The message of each number, in the Rust's words; after those of 31 and 36 the Rust writes the count, and 63 and 64 have three each there.
+ * 0 stands for no refusal. */
+static const char *const FALGNUST_MESSAGES[66] = {
     "accepted",
     "missing mandatory EVR0 section",
     "EVR0 length truncated",
@@ -117,7 +120,10 @@ static const char *const FALGNUST_MESSAGES[63] = {
     "unsupported ownership path component kind",
     "unsupported ownership event kind",
     "lent table shorter than its count",
-    "number not in the accepted table"
+    "number not in the accepted table",
+    "function's name length or code length cut, or its block past the end",
+    "function's name empty, too long, cut or not UTF-8",
+    "too many functions (>1024)"
 };
 
 /* ---- Evidence sections ----
@@ -427,6 +433,53 @@ FalgnustPath falgnust_path_number(
 /* Component `component` of path `number`. */
 FalgnustComponent falgnust_component_number(
     size_t base_offset, const uint8_t *code, size_t code_len, uint16_t header_rev, size_t number, size_t component,
+    uint64_t *strings, size_t strings_len,
+    uint64_t *paths, size_t paths_len);
+
+/* ---- All functions of a file ----
+ *
+ * From a cursor to the end of the bytes: each function's name, its code length and its block, decoded as above with its place in the bytes as
+ * base_offset. A lent table takes the place of each name's length. It has to have an entry for a function before that is read, else 61
+ * there; (bytes_len - cursor) / 9 + 1 entries are never too few, nor are 1024. The list and the two tables of a block end as the last
+ * function's; where there is no function they are zeros. All places are places in the bytes, but for those in `last`. */
+
+typedef struct FalgnustFunctions {
+    bool accepted;
+    FalgnustRefusal refusal;
+    size_t functions; /* how many */
+    size_t cursor;    /* the end; where there is no function, and after a refusal, the cursor that was brought */
+    size_t last_code; /* where the last function's block starts */
+    FalgnustBlock last; /* that block; not accepted and zeros where there is no function */
+} FalgnustFunctions;
+FALGNUST_SIZE(FalgnustFunctions, 128);
+
+/* Decodes all functions from a cursor on. A cursor at or past the end gives none. */
+FalgnustFunctions falgnust_decode_functions(
+    const uint8_t *bytes, size_t bytes_len, size_t cursor, uint16_t header_rev,
+    FalgnustDebugSymbol *symbols, size_t symbols_len,
+    uint64_t *functions, size_t functions_len,
+    uint64_t *strings, size_t strings_len,
+    uint64_t *paths, size_t paths_len);
+
+typedef struct FalgnustFunction {
+    bool accepted;
+    FalgnustRefusal refusal;
+    FalgnustSpan name; /* 1 to 1024 bytes of UTF-8; control characters may be among them */
+    size_t code_offset;
+    size_t code_len;
+    size_t next; /* after its block */
+} FalgnustFunction;
+FALGNUST_SIZE(FalgnustFunction, 80);
+
+/* The head of the function at a place, as an entry of the table of functions is; 63 or 64 where none stands there. The block is not
+ * decoded: its records are read by the functions above from bytes + code_offset, code_len of them, with base_offset code_offset. */
+FalgnustFunction falgnust_read_function(const uint8_t *bytes, size_t bytes_len, size_t at);
+
+/* The head of a function by its number. Decodes all functions anew, with the refusals and the tables of falgnust_decode_functions and room
+ * for 8192 symbols; a number that is not below the count is then refused with 62 at 0. */
+FalgnustFunction falgnust_function_number(
+    const uint8_t *bytes, size_t bytes_len, size_t cursor, uint16_t header_rev, size_t number,
+    uint64_t *functions, size_t functions_len,
     uint64_t *strings, size_t strings_len,
     uint64_t *paths, size_t paths_len);
 

@@ -1,4 +1,4 @@
-/* What both programs share: a whole file as bytes, lent tables, and how refusals and bytes are printed. */
+/* What the programs share: a whole file as bytes, lent tables, and how refusals and bytes are printed. */
 #ifndef INPUT_H
 #define INPUT_H
 

@@ -1,12 +1,13 @@
 """Writes a crate of theorems, each by computation: the definition gives the Rust's answer to one input.
 
-usage: theorems.py section|block REPOSITORY < the lines of tools/sample"""
+usage: theorems.py section|block|functions REPOSITORY < the lines of tools/sample"""
 import glob
 import os
 import re
 import sys
 
 import blocks
+import functions
 import sections
 
 
@@ -31,7 +32,7 @@ def with_dependencies(repository, crate):
 
 def main():
     kind, repository = sys.argv[1:]
-    form = {"section": sections, "block": blocks}[kind]
+    form = {"section": sections, "block": blocks, "functions": functions}[kind]
     uses, names = [], list(form.NAMES)
     crates = with_dependencies(repository, form.CRATE)
     for crate in crates:
@@ -55,7 +56,7 @@ def main():
             out.write(content)
     with open(f"{repository}/crates.txt", "a") as out:
         out.write(f"{kind}_cases: {' '.join(crates)}\n")
-    print(f"{len(cases)} {kind}s")
+    print(f"{len(cases)} of {kind}")
 
 
 main()

@@ -1,8 +1,8 @@
 //! Makes the oracle's modules from three Rust files that are not part of this repository.
 //!
 //! SEMANTIC_SRC names a checkout of skulmakov-oss/Semantic at commit a38c216cab. Its files must have the sums in sources.sha256. They are
-//! copied to OUT_DIR as they are, but for two mechanical changes: semcode_decode.rs' block function stops before its signature step, and
-//! the functions in reach/ are appended, since what they call is private.
+//! copied to OUT_DIR as they are, but for three mechanical changes: semcode_decode.rs' block function stops before its signature step, the
+//! functions in reach/ are appended, since what they call is private, and so is the loop of `decode_semcode` as a function of its own.
 
 use std::env;
 use std::fs;
@@ -35,6 +35,9 @@ fn main() {
             text.push_str(&read(&reach));
         }
         text = with_fault(module, text);
+        if module == "semcode_decode" {
+            text.push_str(&functions_from(&text));
+        }
         let copy = out.join(module).with_extension("rs");
         fs::write(&copy, text).expect("a writable OUT_DIR");
         root.push_str(&format!(
@@ -95,6 +98,19 @@ fn stopped_before_signature(text: &str) -> String {
         "{}    let signature = None;\n\n{}",
         &text[..step],
         &text[end..]
+    )
+}
+
+/// The loop over functions, as it stands in `decode_semcode`, from any cursor on and under any revision.
+fn functions_from(text: &str) -> String {
+    let start = once(text, "    let mut functions = Vec::new();\n");
+    let end = once(text, "    Ok(DecodedSemCode {\n");
+    let steps = &text[start..end];
+    once(steps, "header.rev");
+    format!(
+        "\npub fn functions_from(\n    bytes: &[u8],\n    mut cursor: usize,\n    rev: u16,\n\
+         ) -> Result<Vec<DecodedFunctionEnvelope<'_>>, DecodeError> {{\n{}    Ok(functions)\n}}\n",
+        steps.replace("header.rev", "rev")
     )
 }
 

@@ -1,6 +1,6 @@
 """The inputs of docs/REFUSALS.md, as the tables there have them.
 
-An input is a row's cell `WORDS` with what is asked after it (rev N, room A B C, string N, ..); docs/REFUSALS.md says how words are read.
+An input is a row's cell `WORDS` with what is asked after it (rev N, room A B C, string N, from N, ..); docs/REFUSALS.md says how words are read.
 """
 import dataclasses
 import os
@@ -8,21 +8,26 @@ import re
 
 TOP = os.path.dirname(os.path.dirname(os.path.dirname(os.path.abspath(__file__))))
 DOCUMENT = os.path.join(TOP, "docs", "REFUSALS.md")
-KINDS = ("Invalid", "Limit", "Strings", "Debug", "Ownership", "Added")
-LONGEST = {"section": (65536, 65536, 65536), "block": (256, 8192, 65535)}  # lent tables that are never too short
+KINDS = ("Invalid", "Limit", "Strings", "Debug", "Ownership", "Added", "Truncated", "Name")
+LONGEST = {"section": (65536, 65536, 65536), "block": (256, 8192, 65535), "functions": (1024, 256, 8192, 65535)}  # lent tables that are never too short
 
 
 @dataclasses.dataclass
 class Case:
     line: int  # of the document
-    form: str  # "section" (at cursor 0) or "block" (at base 0)
+    form: str  # "section" (at cursor 0), "block" (at base 0) or "functions" (from cursor 0)
     data: bytes
-    revision: int  # of a block
-    rooms: tuple  # lengths of the lent tables: propositions, proofs, depths; or strings, symbols, paths
+    revision: int  # of a block or file
+    rooms: tuple  # lengths of the lent tables: propositions, proofs, depths; or functions, of a file, strings, symbols, paths
     asked: tuple  # (what, number) of a record by number, or None
     number: int
     kind: str
     offset: int
+
+
+def replayed(case):
+    """The three lengths that an entry of the replayed list has: for a file those of functions, strings and paths."""
+    return case.rooms if len(case.rooms) == 3 else (*case.rooms[:2], case.rooms[3])
 
 
 def number(n):
@@ -64,6 +69,8 @@ def asked_of(text):
     revision, rooms, asked = 20, None, None
     for what, numbers in re.findall(r"([a-z]+)((?: \d+)+)", text):
         numbers = [int(n) for n in numbers.split()]
+        if what == "from":
+            continue
         if what == "rev":
             (revision,) = numbers
         elif what == "room":
@@ -98,7 +105,7 @@ def cases():
         text, rest = re.fullmatch(r"`([^`]*)`(.*)", row["Input"]).groups()
         revision, rooms, asked = asked_of(rest)
         refused, offset = (int(n) for n in row["Answer"].split(" at "))
-        form = "section" if refused <= 29 or text.startswith("EVR0") else "block"
+        form = "section" if refused <= 29 or text.startswith("EVR0") else "functions" if "from 0" in rest else "block"
         data = b"" if text == "-" else read(text, names)
         found.append(Case(at, form, data, revision, rooms or LONGEST[form], asked, refused, kinds[refused], offset))
     return found

@@ -9,7 +9,13 @@ import sys
 
 sys.dont_write_bytecode = True
 import make_list
-from make_list import END, PAGE, SECTION, TOP, u16, u32
+from make_list import BLOCK, END, PAGE, SECTION, TOP, u16, u32
+
+
+def block_end(page, at):
+    """After an accepted block's layout and tables."""
+    strings, _, symbols, _, paths = [u32(page, at + 12 + 4 * n) for n in range(5)]
+    return at + 36 + 4 * (strings + paths + 3 * symbols)
 
 
 def entries(page):
@@ -25,10 +31,14 @@ def entries(page):
             counts = [u32(page, told + 24 + 4 * n) for n in range(2)]
             end = told + (40 + 72 + 4 * (counts[0] + 2 * counts[1]) if u32(page, told) == 0 else 16 + 72)
             line = f"section {data} {origin}"
-        else:
-            strings, _, symbols, _, paths = [u32(page, told + 12 + 4 * n) for n in range(5)]
-            end = told + (36 + 4 * (strings + paths + 3 * symbols) if u32(page, told) == 0 else 16)
+        elif decoder == BLOCK:
+            end = block_end(page, told) if u32(page, told) == 0 else told + 16
             line = f"block {data} {origin} {u16(page, at + 1)}"
+        else:
+            count, end = u32(page, told + 4), told + 16
+            if u32(page, told) == 0 and count > 0:
+                end = block_end(page, told + 16 + 4 * count + 4)
+            line = f"functions {data} {origin} {u16(page, at + 1)}"
         yield page[at:end], line, rooms
         at = end
 

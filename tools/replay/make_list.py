@@ -3,13 +3,13 @@
 
     tools/replay/make_list.py RUST_FOLDER
 
-RUST_FOLDER is a checkout of skulmakov-oss/Semantic at commit a38c216cab. The inputs are those of sections.py and blocks.py beside this file,
+RUST_FOLDER is a checkout of skulmakov-oss/Semantic at commit a38c216cab. The inputs are those of sections.py, blocks.py and functions.py beside this file,
 those of docs/REFUSALS.md, and from tools/sample so many small ones for each refusal number and condition, accepted ones, and every cut and
-one change of each byte of a few. The answers are the Rust's, but for 61, which it does not have: short_section and short_block say where
-that is due. The seed is fixed, so that a second run writes the same list.
+one change of each byte of a few. The answers are the Rust's, but for 61, which it does not have: short_section, short_block and
+short_functions say where that is due. The seed is fixed, so that a second run writes the same list.
 
 Writes crates/test_replay/stdin and crates/test_replay/stdout. An entry of the list is what crates/test_replay/src/asked.rt reads, and then
-the answer in the order in which crates/test_replay/src/section.rt and block.rt hold it against theirs: numbers of 4 bytes (offsets and
+the answer in the order in which crates/test_replay/src/section.rt, block.rt and functions.rt hold it against theirs: numbers of 4 bytes (offsets and
 cursors of 8), digests as they are, and the entries of the lent tables, which are lent a few entries longer than they need to be where the
 input does not say. The list is one of pages of 262,144 bytes, each of whole entries, filled up with bytes 255.
 """
@@ -23,13 +23,14 @@ sys.dont_write_bytecode = True
 TOP = os.path.dirname(os.path.dirname(os.path.dirname(os.path.abspath(__file__))))
 sys.path.append(os.path.join(TOP, "tools", "refusals"))
 import blocks
+import functions
 import inputs
 import sections
 
-SAMPLES = ("section 1 5 480 120", "block 1 12 300 120", "fixed")
-KINDS = ("Invalid", "Limit", "Strings", "Debug", "Ownership", "Added")
-SECTION, BLOCK = 0, 1
-PAGE, PAGES, END = 262144, 15, b"\xff"
+SAMPLES = ("section 1 5 480 120", "block 1 12 300 120", "functions 1 3 400 30", "fixed")
+KINDS = ("Invalid", "Limit", "Strings", "Debug", "Ownership", "Added", "Truncated", "Name")
+SECTION, BLOCK, FUNCTIONS = 0, 1, 2
+PAGE, PAGES, END = 262144, 19, b"\xff"
 LARGEST = 2**64 - 1
 
 
@@ -113,6 +114,28 @@ def short_block(data, base, rooms, answer):
     return answer
 
 
+def short_functions(data, cursor, rooms, answer):
+    """Of functions, strings and paths; there is room for all symbols. The refusal of the head or block that it stands in goes by turns with 61."""
+    refused, offset = refusal_of(answer), int(answer.split(" ")[3]) if answer.startswith("refused") else 0
+    at = cursor
+    for number in range(1024):
+        if at >= len(data):
+            return answer
+        if number >= rooms[0]:
+            return f"refused Added 61 {at}"
+        name = at + 2 + u16(data, at)
+        code = name + 4
+        if refused in (63, 64) and offset in (at, at + 2, name, code):
+            return answer
+        end = code + u32(data, name)
+        block = answer if 30 <= refused <= 60 and code <= offset <= end else "ok"
+        told = short_block(data[code:end], code, (rooms[1], 8192, rooms[2]), block)
+        if told != "ok":
+            return told
+        at = end
+    return answer
+
+
 # ---- Entries of the list
 
 
@@ -152,6 +175,24 @@ def path_count(data):
     return u16(data, at + 4) if data[at : at + 4] == b"OWN0" else 0
 
 
+def layout(f):
+    """Number 0, both tags, counts and places of a block."""
+    strings, symbols, paths = listed(f["counts"])
+    told = numbers(0, f["debug"] == "true", f["ownership"] == "true", strings, int(f["strings_end"]))
+    return told + numbers(symbols, int(f["symbols_start"]), paths, int(f["instructions"]))
+
+
+def tables(f):
+    """The starts of strings and paths, and the symbols."""
+    told = numbers(*(int(s.split(":")[0]) for s in f["strings"].split(",") if s))
+    told += numbers(*(int(p.split(":")[0]) for p in re.findall(r"[^,\[]+\[[^\]]*\]", f["paths"])))
+    return told + numbers(*(int(n) for symbol in f["symbols"].split(",") if symbol for n in symbol.split(":")))
+
+
+def fields(answer):
+    return dict(re.findall(r"(\w+)=(.*?)(?= \w+=|$)", answer.strip()))
+
+
 def block(data, base, revision, rooms, answer):
     if rooms:
         answer = short_block(data, base, rooms, answer)
@@ -162,21 +203,42 @@ def block(data, base, revision, rooms, answer):
     if refusal_of(answer):
         told = refused(answer)
     else:
-        f = dict(re.findall(r"(\w+)=(.*?)(?= \w+=|$)", answer))
-        strings, symbols, paths = listed(f["counts"])
-        told = numbers(0, f["debug"] == "true", f["ownership"] == "true", strings, int(f["strings_end"]))
-        told += numbers(symbols, int(f["symbols_start"]), paths, int(f["instructions"]))
-        told += numbers(*(int(s.split(":")[0]) for s in f["strings"].split(",") if s))
-        told += numbers(*(int(p.split(":")[0]) for p in re.findall(r"[^,\[]+\[[^\]]*\]", f["paths"])))
-        told += numbers(*(int(n) for symbol in f["symbols"].split(",") if symbol for n in symbol.split(":")))
+        f = fields(answer)
+        told = layout(f) + tables(f)
     return asked(BLOCK, revision, base, rooms, data) + told
+
+
+def most_paths(data, cursor):
+    """The largest count of paths that a block of the file has, as far as heads are whole."""
+    at, most = cursor, 0
+    while at + 2 <= len(data) and at + 6 + u16(data, at) <= len(data):
+        code = at + 6 + u16(data, at)
+        at = code + u32(data, code - 4)
+        most = max(most, path_count(data[code:at]))
+    return most
+
+
+def all_functions(data, cursor, revision, rooms, answer):
+    if rooms is None:
+        more = len(data) % 3
+        rooms = (min(max(0, len(data) - cursor) // 9 + 1, 1024), 256 + more, min(most_paths(data, cursor) + more, 65535))
+    answer = short_functions(data, cursor, rooms, answer)
+    if refusal_of(answer):
+        told = refused(answer)
+    else:
+        f = fields(answer)
+        heads = [[int(head.split(":")[n]) for n in (0, 3)] for head in f["functions"].split(",") if head]
+        told = numbers(0, len(heads)) + struct.pack("<Q", int(f["cursor"])) + numbers(*(start for start, _ in heads))
+        if heads:
+            told += numbers(heads[-1][1]) + layout(f) + tables(f)
+    return asked(FUNCTIONS, revision, cursor, rooms, data) + told
 
 
 def entry(line, rooms=None):
     question, answer = line.split("\t")
     kind, text, *origin = question.split(" ")
     data, origin = bytes.fromhex(text), [int(n) for n in origin]
-    return section(data, *origin, rooms, answer) if kind == "section" else block(data, *origin, rooms, answer)
+    return {"section": section, "block": block, "functions": all_functions}[kind](data, *origin, rooms, answer)
 
 
 # ---- The inputs
@@ -186,14 +248,14 @@ def of_refusals():
     """The inputs of docs/REFUSALS.md that no record is asked of by its number."""
     for case in inputs.cases():
         if not case.asked:
-            rooms = None if case.rooms == inputs.LONGEST[case.form] else case.rooms
-            yield (case.form, case.data, 0, *((case.revision,) if case.form == "block" else ()), rooms)
+            rooms = None if case.rooms == inputs.LONGEST[case.form] else inputs.replayed(case)
+            yield (case.form, case.data, 0, *((case.revision,) if case.form != "section" else ()), rooms)
 
 
 def given():
     """Each input once, with the lengths that it is lent."""
-    found = [("section", *i) for i in sections.inputs()] + [("block", *i) for i in blocks.inputs()] + list(of_refusals())
-    found = list(dict.fromkeys(found))
+    found = [(form, *i) for form, of in (("section", sections), ("block", blocks), ("functions", functions)) for i in of.inputs()]
+    found = list(dict.fromkeys(found + list(of_refusals())))
     lines = [" ".join([form, data.hex(), *map(str, origin)]) for form, data, *origin, _ in found]
     answers = sample("given", "\n".join(lines) + "\n")
     assert len(answers) == len(found)

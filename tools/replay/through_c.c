@@ -64,19 +64,16 @@ static void section(const uint8_t *input, size_t len, size_t cursor, size_t a, s
     table(third, c, s.proofs);
 }
 
-static void block(const uint8_t *input, size_t len, size_t base, uint16_t revision, size_t a, size_t b, size_t c) {
-    FalgnustBlock k =
-        falgnust_parse_string_table_debug_and_ownership(base, input, len, revision, symbols, b, first, a, third, c);
+/* A block's answer, its tables and the list. */
+static void told_block(FalgnustBlock k, const uint64_t *strings, size_t a, size_t b, const uint64_t *paths, size_t c) {
     if (k.accepted) {
         const uint64_t told[] = {0, k.has_debug_section, k.has_ownership_section, k.string_count, k.string_table_end_offset,
             k.debug_symbol_count, k.debug_symbols_start, k.path_count, k.instr_start_offset};
         for (size_t i = 0; i < 9; i++)
             number(told[i], 4);
-    } else {
-        refusal(k.refusal);
     }
-    table(first, a, k.string_count);
-    table(third, c, k.path_count);
+    table(strings, a, k.string_count);
+    table(paths, c, k.path_count);
     for (size_t i = 0; i < b; i++) {
         if (i < k.debug_symbol_count) {
             number(symbols[i].pc, 4);
@@ -88,11 +85,38 @@ static void block(const uint8_t *input, size_t len, size_t base, uint16_t revisi
     }
 }
 
+static void block(const uint8_t *input, size_t len, size_t base, uint16_t revision, size_t a, size_t b, size_t c) {
+    FalgnustBlock k =
+        falgnust_parse_string_table_debug_and_ownership(base, input, len, revision, symbols, b, first, a, third, c);
+    if (!k.accepted)
+        refusal(k.refusal);
+    told_block(k, first, a, b, third, c);
+}
+
+/* The list is lent with room for 8,192 symbols; the three lengths are those of functions, strings and paths. */
+static void functions(const uint8_t *input, size_t len, size_t cursor, uint16_t revision, size_t a, size_t b, size_t c) {
+    memset(symbols, OLD, 8192 * sizeof *symbols);
+    FalgnustFunctions f =
+        falgnust_decode_functions(input, len, cursor, revision, symbols, 8192, first, a, second, b, third, c);
+    if (f.accepted) {
+        number(0, 4);
+        number(f.functions, 4);
+        number(f.cursor, 8);
+    } else {
+        refusal(f.refusal);
+    }
+    table(first, a, f.functions);
+    if (f.functions > 0)
+        number(f.last_code, 4);
+    same = same && f.last.accepted == (f.functions > 0);
+    told_block(f.last, second, b, 8192, third, c);
+}
+
 /* The entry at `at`. */
 static void entry(void) {
     size_t start = at + 21, len = little(at + 17, 4), origin = little(at + 3, 8);
     size_t a = little(at + 11, 2), b = little(at + 13, 2), c = little(at + 15, 2);
-    bool is_section = page[at] == 0;
+    uint8_t decoder = page[at];
     uint16_t revision = (uint16_t)little(at + 1, 2);
     same = start + len <= page_len;
     at = start + len;
@@ -102,8 +126,10 @@ static void entry(void) {
     memset(second, OLD, b * sizeof *second);
     memset(third, OLD, c * sizeof *third);
     memset(symbols, OLD, b * sizeof *symbols);
-    if (is_section)
+    if (decoder == 0)
         section(page + start, len, origin, a, b, c);
+    else if (decoder == 2)
+        functions(page + start, len, origin, revision, a, b, c);
     else
         block(page + start, len, origin, revision, a, b, c);
 }

@@ -3,6 +3,9 @@
 
 use crate::raw::*;
 
+mod functions;
+pub use functions::*;
+
 /// The tables that are lent for a section: the start of each proposition and of each proof in the payload, and each proof's depth.
 pub struct SectionTables<'a> {
     /// One entry for each proposition.

@@ -1,8 +1,8 @@
 //! Evidence sections and function tables of SemCode, decoded by functions that are proved to give the answers of their definitions.
 //!
 //! The module [`evr0`] takes the place of the one of that name in skulmakov-oss/Semantic, whole: the same functions, types, fields and
-//! messages, so that a caller changes a path and nothing else. [`semcode_decode`] has the part of that module that reads a function's
-//! block, which is private there; `decode_semcode` and what belongs to it are missing. Behind both stands the static library that
+//! messages, so that a caller changes a path and nothing else. [`semcode_decode`] has the parts of that module that read a file's functions
+//! and a function's block, which is private there; `decode_semcode` itself is missing. Behind both stands the static library that
 //! `rt staticlib falgnust` writes; nothing here parses a byte.
 //!
 //! ```

@@ -1,7 +1,7 @@
 //! Document 01's numbers and the messages of skulmakov-oss/Semantic.
 
-/// Those of 31 and 36 go on with the count.
-const MESSAGES: [(u8, &str); 60] = [
+/// Those of 31 and 36 go on with the count; 63 and 64 have three each.
+const MESSAGES: [(u8, &str); 67] = [
     (1, "missing mandatory EVR0 section"),
     (2, "EVR0 length truncated"),
     (3, "EVR0 payload exceeds bounded section budget or is empty"),
@@ -71,9 +71,23 @@ const MESSAGES: [(u8, &str); 60] = [
     (58, "missing ownership sequence index"),
     (59, "unsupported ownership path component kind"),
     (60, "unsupported ownership event kind"),
+    (63, NAME_LENGTH_CUT),
+    (63, CODE_LENGTH_CUT),
+    (63, CODE_OUT_OF_BOUNDS),
+    (64, NAME_EMPTY),
+    (64, NAME_TOO_LONG),
+    (64, NAME_NOT_UTF8),
+    (65, "too many functions (>1024)"),
 ];
 
-/// The message of a number; that of 31 and 36 up to the count.
+pub const NAME_LENGTH_CUT: &str = "missing function name length";
+pub const CODE_LENGTH_CUT: &str = "missing function code length";
+pub const CODE_OUT_OF_BOUNDS: &str = "function code out of bounds";
+pub const NAME_EMPTY: &str = "empty function name";
+pub const NAME_TOO_LONG: &str = "function name too long";
+pub const NAME_NOT_UTF8: &str = "invalid utf8 in function name";
+
+/// The message of a number that has one; that of 31 and 36 up to the count.
 pub fn message(number: u8) -> &'static str {
     MESSAGES
         .iter()

@@ -8,12 +8,14 @@
 //! [`calls`](crate::calls) has the same functions on slices, without `unsafe`.
 
 mod block;
+mod functions;
 mod record;
 mod section;
 mod text;
 mod words;
 
 pub use block::*;
+pub use functions::*;
 pub use record::*;
 pub use section::*;
 pub use text::*;

@@ -1,23 +1,28 @@
-//! Function tables, in the place of the original's `semcode_decode`: the strings, DBG0 and OWN0 of a function's block, without its
-//! signature.
+//! Function tables, in the place of the original's `semcode_decode`: the functions of a file, and the strings, DBG0 and OWN0 of a function's
+//! block, without its signature.
 //!
-//! Added beside the original: [`DecodeError::number`], [`DecodeError::offset`], `Display` and `Error` for [`DecodeError`], and the
-//! records by number: [`string_number`], [`symbol_number`], [`path_number`], [`component_number`].
+//! Added beside the original: [`decode_functions`], which is the loop of its `decode_semcode`, [`DecodeError::number`],
+//! [`DecodeError::offset`], `Display` and `Error` for [`DecodeError`], and records by number: [`function_number`], [`string_number`],
+//! [`symbol_number`], [`path_number`], [`component_number`].
 
 use crate::calls;
 use crate::raw;
 use crate::read::{Read, accepted};
 
 mod error;
+mod functions;
 mod number;
 mod records;
 mod tables;
 
 pub use error::DecodeError;
+pub use functions::*;
 pub use number::*;
 use tables::Lent;
 
-/// The most bytes of a string.
+/// The most functions of a file.
+pub const MAX_FUNCTIONS: usize = 1024;
+/// The most bytes of a string, and of a function's name.
 pub const MAX_STRING_LEN: usize = 1024;
 /// The most strings of a block.
 pub const MAX_STRINGS_PER_FUNCTION: usize = 256;

@@ -7,12 +7,29 @@ use Rattle.semcode_records.specs.Component as components
 use Rattle.semcode_records.specs.Path as paths
 use Rattle.semcode_decode.specs.Layout.{Layout}
 use Rattle.falgnust.specs.Maps.{flatRefusal, noRefusal}
+use Rattle.falgnust.specs.declared.refusal.Refusal.{Refusal}
 use Rattle.falgnust.specs.declared.block.Block.{Block}
 use Rattle.falgnust.specs.declared.record.Symbol.{Symbol}
 use Rattle.falgnust.specs.declared.record.Event.{Event}
 use Rattle.falgnust.specs.declared.record.Path.{Path}
 use Rattle.falgnust.specs.declared.record.Parts.{Parts}
 use Rattle.falgnust.specs.declared.record.Component.{Component}
+
+-- no block: zeros beside a refusal
+abbrev pub noBlock : Refusal → Block
+noBlock r =
+    record {
+      accepted = false;
+      refusal = r;
+      «has_debug_section» = false;
+      «has_ownership_section» = false;
+      «string_count» = 0;
+      «string_table_end_offset» = 0;
+      «debug_symbol_count» = 0;
+      «debug_symbols_start» = 0;
+      «path_count» = 0;
+      «instr_start_offset» = 0;
+    }
 
 abbrev pub flatBlock : Out Layout → Block
 flatBlock (ok l) =
@@ -28,19 +45,7 @@ flatBlock (ok l) =
       «path_count» = l .paths;
       «instr_start_offset» = l .instructions;
     }
-flatBlock (refused r) =
-    record {
-      accepted = false;
-      refusal = flatRefusal r;
-      «has_debug_section» = false;
-      «has_ownership_section» = false;
-      «string_count» = 0;
-      «string_table_end_offset» = 0;
-      «debug_symbol_count» = 0;
-      «debug_symbols_start» = 0;
-      «path_count» = 0;
-      «instr_start_offset» = 0;
-    }
+flatBlock (refused r) = noBlock (flatRefusal r)
 
 -- ---- Records
 

@@ -2,3 +2,4 @@ pub mod Maps
 pub mod BlockMaps
 pub mod SectionMaps
 pub mod EntryMaps
+pub mod FunctionMaps

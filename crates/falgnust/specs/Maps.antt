@@ -1,7 +1,7 @@
 -- The flat structs in C's layout that hold what the definitions answer: refusals, fields, scans and texts.
 use Prim.Native.Nat.{ℕ}
 use mathlib.Core.Bool.{true, false, cond}
-use Rattle.local_format.specs.Refusal.{Kind, invalid, limit, strings, debug, ownership, added, Refusal}
+use Rattle.local_format.specs.Refusal.{Kind, invalid, limit, strings, debug, ownership, added, truncated, name, Refusal}
 use Rattle.local_format.specs.Out.{Out, ok, refused}
 use Rattle.local_format.specs.Field.{Field, whole, cut}
 use Rattle.utf8.specs.Scan.{Scanned, Utf8}
@@ -13,7 +13,7 @@ use Rattle.falgnust.specs.declared.scan.Scanned as scanned
 use Rattle.falgnust.specs.declared.scan.Utf8 as utf8
 use Rattle.falgnust.specs.declared.text.Text as text
 
--- the kinds in document 01's order
+-- the kinds in document 01's order, then those of document 02
 abbrev pub kindNumber : Kind → ℕ
 kindNumber invalid = 0
 kindNumber limit = 1
@@ -21,6 +21,8 @@ kindNumber strings = 2
 kindNumber debug = 3
 kindNumber ownership = 4
 kindNumber added = 5
+kindNumber truncated = 6
+kindNumber name = 7
 
 abbrev pub flatRefusal : Refusal → refusal.Refusal
 flatRefusal r = record { kind = kindNumber (r .kind); number = r .number; offset = r .offset }

@@ -4,7 +4,7 @@ ghost use Rattle.semcode_records.specs.Maps.{symbolIs};
 ghost use Rattle.semcode_decode.specs.Layout.{layout};
 ghost use Rattle.semcode_decode.specs.Maps.{parseOut};
 ghost use Rattle.semcode_symbols.specs.Symbols.{lists, Fills};
-ghost use Rattle.falgnust.specs.BlockMaps.{flatBlock};
+ghost use Rattle.falgnust.specs.BlockMaps.{noBlock, flatBlock};
 use crate::refusal::Refusal;
 use crate::refusal::flat_refusal;
 use crate::refusal::no_refusal;
@@ -27,7 +27,25 @@ pub struct Block {
     pub instr_start_offset: usize,
 }
 
-fn flat_block(parse: Parse) -> Block
+// No block: zeros beside a refusal.
+pub fn no_block(refusal: Refusal) -> Block
+    ensures { λ r. ⌜ r ≡ noBlock refusal ⌝ }
+{
+    Block {
+        accepted: false,
+        refusal,
+        has_debug_section: false,
+        has_ownership_section: false,
+        string_count: 0,
+        string_table_end_offset: 0,
+        debug_symbol_count: 0,
+        debug_symbols_start: 0,
+        path_count: 0,
+        instr_start_offset: 0,
+    }
+}
+
+pub fn flat_block(parse: Parse) -> Block
     ensures { λ r. ⌜ r ≡ flatBlock (parseOut parse) ⌝ }
 {
     match parse {
@@ -43,18 +61,7 @@ fn flat_block(parse: Parse) -> Block
             path_count: parsed.path_count,
             instr_start_offset: parsed.instr_start_offset,
         },
-        Parse::Refused(refused) => Block {
-            accepted: false,
-            refusal: flat_refusal(refused),
-            has_debug_section: false,
-            has_ownership_section: false,
-            string_count: 0,
-            string_table_end_offset: 0,
-            debug_symbol_count: 0,
-            debug_symbols_start: 0,
-            path_count: 0,
-            instr_start_offset: 0,
-        },
+        Parse::Refused(refused) => no_block(flat_refusal(refused)),
     }
 }
 

@@ -2,6 +2,8 @@
 pub mod authorised;
 pub mod block;
 pub mod field;
+pub mod function;
+pub mod functions;
 pub mod number;
 pub mod parent;
 pub mod proof;

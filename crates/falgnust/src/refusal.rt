@@ -4,7 +4,8 @@ ghost use Rattle.local_format.specs.Maps.{kindOut, refusalOut};
 ghost use Rattle.falgnust.specs.Maps.{kindNumber, flatRefusal, noRefusal};
 use local_format::refusal::Kind;
 
-// The kinds are numbered in document 01's order: 0 Invalid, 1 Limit, 2 Strings, 3 Debug, 4 Ownership, 5 Added.
+// The kinds are numbered in document 01's order: 0 Invalid, 1 Limit, 2 Strings, 3 Debug, 4 Ownership, 5 Added; then those of
+// document 02: 6 Truncated, 7 Name.
 #[repr(C)]
 pub struct Refusal {
     pub kind: u8,
@@ -22,6 +23,8 @@ fn kind_number(kind: Kind) -> u8
         Kind::Debug => 3,
         Kind::Ownership => 4,
         Kind::Added => 5,
+        Kind::Truncated => 6,
+        Kind::Name => 7,
     }
 }
 

@@ -1,10 +1,10 @@
 -- Laws of a lent table: what zeros from an index on make of it, and what a table with some front and then zeros is.
-use Prim.Native.Nat.{ℕ, _-_, _≤_}
+use Prim.Native.Nat.{ℕ, _-_, _≤_, _<_}
 use mathlib.Core.Path.{_≡_}
 use mathlib.Core.List.{List, [], _++_, append-nil}
 use native.Mathlib.Omega.{arith}
 use native.Mathlib.Nat.{sub-zero}
-use lib.ListN.{length, take, drop, replicate, length-take, length-drop, drop-of-length-le}
+use lib.ListN.{length, take, drop, replicate, getD, length-take, length-drop, length-append, drop-of-length-le, List·getD-append}
 use lib.Seq.{take-all}
 use Rattle.lent_table.specs.Lent.{lent, Front}
 
@@ -30,3 +30,7 @@ module _ (n : ℕ) (xs : List ℕ) where
 -- a table that begins with some numbers and is cleared after them
 pub front-lent : (n entries : ℕ) (t vs : List ℕ) → length t ≡ entries → length vs ≡ n → Front vs t → lent (length t) (take n t) ≡ lent entries vs
 front-lent n entries t vs l m e = let f : take n t ≡ vs = rw m at e in rw (f, l)
+
+-- an entry of a lent table
+pub lent-entry : (n i : ℕ) (xs : List ℕ) → i < length xs → (i < length (lent n xs)) × (getD (lent n xs) i 0 ≡ getD xs i 0)
+lent-entry n i xs h = (simp length-append (omega arith), List·getD-append xs (replicate (n - length xs) 0) 0 i h)

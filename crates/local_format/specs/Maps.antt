@@ -5,7 +5,7 @@ use Rattle.local_format.specs.Out.{Out, ok, refused}
 use Rattle.local_format.specs.Field.{Field, whole, cut}
 use Rattle.local_format.specs.Text.{Span}
 use Rattle.local_format.specs.declared.refusal.Kind as kind
-use Rattle.local_format.specs.declared.refusal.Kind.the-variants.{Invalid, Limit, Strings, Debug, Ownership, Added}
+use Rattle.local_format.specs.declared.refusal.Kind.the-variants.{Invalid, Limit, Strings, Debug, Ownership, Added, Truncated, Name}
 use Rattle.local_format.specs.declared.refusal.Refusal as code
 use Rattle.local_format.specs.declared.field.U8.{U8}
 use Rattle.local_format.specs.declared.field.U8.the-variants as u8
@@ -24,6 +24,8 @@ kindOut Strings = of.strings
 kindOut Debug = of.debug
 kindOut Ownership = of.ownership
 kindOut Added = of.added
+kindOut Truncated = of.truncated
+kindOut Name = of.name
 
 abbrev pub refusalOut : code.Refusal → Refusal
 refusalOut r = record { kind = kindOut (r .kind); number = r .number; offset = r .offset }

@@ -1,11 +1,11 @@
--- A refusal: its kind, number and offset. Document 01, "What the desk calls back".
+-- A refusal: its kind, number and offset. Document 01, "What the desk calls back"; from 63 on, document 02.
 use Prim.Native.Nat.{ℕ}
 use mathlib.Core.List.{List, [], _∷_}
 use mathlib.Core.Bool.{Bool, false, cond, _||_}
 use lib.Dec.{leb, eqb}
 
 pub data Kind : Type 0 where
-  invalid limit strings debug ownership added : Kind
+  invalid limit strings debug ownership added truncated name : Kind
 
 -- whether a number is among these
 unfoldable pub among : List ℕ → ℕ → Bool
@@ -14,7 +14,7 @@ among (m ∷ ms) n = eqb n m || among ms n
 
 -- the numbers that are limits
 abbrev pub limits : List ℕ
-limits = 3 ∷ 12 ∷ 14 ∷ 15 ∷ 27 ∷ 31 ∷ 36 ∷ []
+limits = 3 ∷ 12 ∷ 14 ∷ 15 ∷ 27 ∷ 31 ∷ 36 ∷ 65 ∷ []
 
 -- the kind of each number: the limits, and the others by the part of the format that they speak of
 unfoldable pub kindOf : ℕ → Kind
@@ -23,7 +23,10 @@ kindOf n =
     (cond (leb n 29) invalid
     (cond (leb n 34) strings
     (cond (leb n 39) debug
-    (cond (leb n 60) ownership added))))
+    (cond (leb n 60) ownership
+    (cond (leb n 62) added
+    (cond (leb n 63) truncated
+    (cond (leb n 64) name added)))))))
 
 pub record Refusal : Type 0 where
   pub kind : Kind

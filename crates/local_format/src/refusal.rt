@@ -11,6 +11,8 @@ pub enum Kind {
     Debug,
     Ownership,
     Added,
+    Truncated,
+    Name,
 }
 
 pub struct Refusal {
@@ -24,7 +26,7 @@ fn is_limit(number: u8) -> bool
     ensures { λ r. ⌜ r ≡ among limits number ⌝ }
 {
     match number {
-        3 | 12 | 14 | 15 | 27 | 31 | 36 => true,
+        3 | 12 | 14 | 15 | 27 | 31 | 36 | 65 => true,
         _ => false,
     }
 }
@@ -47,6 +49,15 @@ pub fn kind_of(number: u8) -> Kind
     }
     if number <= 60 {
         return Kind::Ownership;
+    }
+    if number <= 62 {
+        return Kind::Added;
+    }
+    if number <= 63 {
+        return Kind::Truncated;
+    }
+    if number <= 64 {
+        return Kind::Name;
     }
     Kind::Added
 }

@@ -43,8 +43,8 @@ pub fn parse_refusal(answer: Parse) -> Refusal
     }
 }
 
-// The starts stand at the front of the tables; a refusal's offset is a place in the block.
-fn parse_tables(
+// The starts stand at the front of the tables, and what stands past them is left; a refusal's offset is a place in the block.
+pub fn parse_tables(
     code: &[u8],
     header_rev: u16,
     symbols: usize,

@@ -11,13 +11,14 @@ use Rattle.local_format.specs.Number.{numbered, choose}
 use Rattle.local_format.proofs.OutLaws.{based-ok}
 use Rattle.local_format.proofs.NumberLaws.{not-there}
 use Rattle.lent_table.specs.Lent.{lent}
+use Rattle.lent_table.proofs.Laws.{lent-entry}
 use Rattle.semcode_records.specs.Records.{Taken, Entry}
 use Rattle.semcode_records.specs.Symbol.{Symbol, symbolAt}
 use Rattle.semcode_records.specs.Path.{Head, headAt}
 use Rattle.semcode_decode.specs.Block.{Rooms, Block, blockOf}
 use Rattle.semcode_decode.specs.Layout.{Layout, layoutOf, layout, stringStarts, pathStarts, Lent, roomsOf, Leaves, Decodes}
 use Rattle.semcode_decode.specs.Number.{decodeAnew, Asked, blockIn, stringNumber, symbolNumber, pathNumber, takenIn, textIn, headIn}
-use Rattle.semcode_read.proofs.NumberLaws.{lent-entry, block-refused, not-picked, layout-ok, string-found, symbol-found, path-found}
+use Rattle.semcode_read.proofs.NumberLaws.{block-refused, not-picked, layout-ok, string-found, symbol-found, path-found}
 
 module _ {A B : Type 0} (tell : Out (Asked A) → B) (asked : Out (Asked A)) (before : Lent) {answer : B} where
   -- the tables are the block's

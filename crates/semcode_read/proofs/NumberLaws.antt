@@ -1,15 +1,14 @@
 -- A record by its number: the block's answer where it is refused, the record read again at its start, or 62.
 use mathlib.Core.Path.{_≡_, refl, ap, sym, _∙_}
-use Prim.Native.Nat.{ℕ, _+_, _-_, _*_, _≤_, _<_}
+use Prim.Native.Nat.{ℕ, _+_, _*_, _≤_, _<_}
 use native.Mathlib.Omega.{arith}
 use mathlib.Core.List.{List}
-use lib.ListN.{length, getD, replicate, length-append, length-map, List·getD-append}
+use lib.ListN.{length, getD, length-map}
 use Rattle.local_format.specs.Refusal.{Refusal}
 use Rattle.local_format.specs.Out.{Out, ok, refused, refuse}
 use Rattle.local_format.specs.Text.{Span, stringAt}
 use Rattle.local_format.specs.Number.{numbered, choose}
 use Rattle.local_format.proofs.OutLaws.{never, ok-same, bind-ok}
-use Rattle.lent_table.specs.Lent.{lent}
 use Rattle.semcode_records.specs.Records.{Taken, taken, Entry}
 use Rattle.semcode_records.specs.Symbol.{symbolAt}
 use Rattle.semcode_records.specs.Path.{pathAt, headAt}
@@ -20,10 +19,6 @@ use Rattle.semcode_decode.specs.Layout.{Layout, layoutOf, layout, stringStarts,
 use Rattle.semcode_decode.specs.Number.{stringNumber, symbolNumber, pathNumber, blockIn, takenIn, textIn, headIn}
 use Rattle.semcode_decode.proofs.BlockLaws.{layout-refused}
 use Rattle.semcode_decode.proofs.ReadLaws.{there, tables-read, symbol-start}
-
--- an entry of a lent table
-pub lent-entry : (n i : ℕ) (xs : List ℕ) → i < length xs → (i < length (lent n xs)) × (getD (lent n xs) i 0 ≡ getD xs i 0)
-lent-entry n i xs h = (simp length-append (omega arith), List·getD-append xs (replicate (n - length xs) 0) 0 i h)
 
 -- ---- A choice
 module _ {A : Type 0} (pick : Block → Out (Entry A)) (x : Out Block) where

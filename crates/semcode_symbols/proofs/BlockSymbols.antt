@@ -18,7 +18,7 @@ use Rattle.semcode_records.proofs.RecordsLaws.{none-left, as-many}
 use Rattle.semcode_decode.specs.Block.{Rooms, stringTable, symbolTable, pathTable, Section, sectionAt, Block, blockOf, decodeBlock}
 use Rattle.semcode_decode.specs.Layout.{Layout, layout}
 use Rattle.semcode_decode.proofs.ReadLaws.{tables-read, symbol-start}
-use Rattle.semcode_symbols.specs.Symbols.{symbolsIn, blockSymbols, symbolCount, symbolsStart}
+use Rattle.semcode_symbols.specs.Symbols.{blockSymbols, symbolCount, symbolsStart, Lies}
 
 -- ---- The symbols fit the lent list, or else 61
 module _ (s : List ℕ) (entries at : ℕ) where
@@ -59,13 +59,9 @@ module _ (revision : ℕ) (rooms : Rooms) (s : List ℕ) where
   within zero at h = zero-le
   within (suc count) at h = let last = symbol-start s (suc count) at count h (omega arith) in omega (arith, last)
 
-  pub record AsTold (base count start : ℕ) : Type 0 where
-    pub inside : 10 * count ≤ length s - start
-    pub room : count ≤ rooms .symbols
-    pub are : symbolsIn (records (symbolAt s) count start) ≡ blockSymbols (decodeBlock base revision rooms s)
-
   told-of : (base : ℕ) (x : Out Block) → blockOf revision rooms s ≡ x
-      → AsTold base (symbolCount (layout (based base x))) (symbolsStart (layout (based base x)))
+      → Lies s (rooms .symbols) (symbolsStart (layout (based base x))) (symbolCount (layout (based base x)))
+      (blockSymbols (decodeBlock base revision rooms s))
   told-of base (ok b) h =
       let r = tables-read revision rooms s h .1 in
       let t = b .debug .table in
@@ -73,10 +69,11 @@ module _ (revision : ℕ) (rooms : Rooms) (s : List ℕ) where
       let read : records (symbolAt s) (length (t .entries)) (t .start) ≡ ok t = rw many (r .1) in
       record {
         inside = within (length (t .entries)) (t .start) read;
-        room = block-room h;
+        fit = block-room h;
         are = rw (read, h);
       }
-  told-of base (refused r) h = record { inside = zero-le; room = zero-le; are = rw (none-left (symbolAt s) 0, h) }
+  told-of base (refused r) h = record { inside = zero-le; fit = zero-le; are = rw (none-left (symbolAt s) 0, h) }
 
-  pub as-told : (base : ℕ) {l : Out Layout} → l ≡ layout (decodeBlock base revision rooms s) → AsTold base (symbolCount l) (symbolsStart l)
+  pub as-told : (base : ℕ) {l : Out Layout} → l ≡ layout (decodeBlock base revision rooms s)
+      → Lies s (rooms .symbols) (symbolsStart l) (symbolCount l) (blockSymbols (decodeBlock base revision rooms s))
   as-told base e = rw e (told-of base (blockOf revision rooms s) refl)

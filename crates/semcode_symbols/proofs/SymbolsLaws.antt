@@ -38,7 +38,7 @@ module _ (s : List ℕ) (p : ℕ) where
       rw (a, b) (le-2 s (p + 4 + 4))
 
 module _ (s : List ℕ) (at count : ℕ) (inside : 10 * count ≤ length s - at) where
-  all-read : (t : Table Symbol) × (records (symbolAt s) count at ≡ ok t)
+  pub all-read : (t : Table Symbol) × (records (symbolAt s) count at ≡ ok t)
   all-read = let w = bind-ok (records (symbolAt s) count at) _ (symbols-whole s count at inside) in (w .0, w .1)
 
   pub how-many : length (symbolsIn (records (symbolAt s) count at)) ≡ count

@@ -1,1 +1,2 @@
 pub mod Symbols
+pub mod FileSymbols

@@ -38,24 +38,27 @@ symbolsStart (refused r) = 0
 -- ---- What a call leaves
 
 -- the lent list of records and the lent tables, as brought or as left
-pub record Lists (S : Type 0) : Type 0 where
+pub record Lists (S T : Type 0) : Type 0 where
   pub symbols : List S
-  pub tables : Lent
+  pub tables : T
 
-abbrev pub lists : {S : Type 0} → List S → List ℕ → List ℕ → Lists S
+abbrev pub lists : {S : Type 0} → List S → List ℕ → List ℕ → Lists S Lent
 lists symbols strings paths = record { symbols = symbols; tables = tables strings paths }
 
 -- the block is decoded, and the list has its symbols and then zeros; `is` carries the list's records over
-pub record Fills {S A : Type 0} (is : S → Symbol) (told : Out Block → A) (base revision : ℕ) (code : List ℕ) (before after : Lists S)
-    (answer : A) : Type 0 where
+pub record Fills {S A : Type 0} (is : S → Symbol) (told : Out Block → A) (base revision : ℕ) (code : List ℕ)
+    (before after : Lists S Lent) (answer : A) : Type 0 where
   pub decoded : Decodes told base revision (length (before .symbols)) code (before .tables) (after .tables) answer
   pub symbols :
       let entries = length (before .symbols) in
       map is (after .symbols) ≡ lentSymbols entries (blockSymbols (decodeBlock base revision (roomsOf (before .tables) entries) code))
 
--- before the list is filled: the symbols lie in the block from that place on, and fit the list
+-- before the list is filled: so many symbols lie in the bytes from a place on, fit a list of so many entries, and are these
+pub record Lies (bytes : List ℕ) (entries start count : ℕ) (xs : List Symbol) : Type 0 where
+  pub inside : 10 * count ≤ length bytes - start
+  pub fit : count ≤ entries
+  pub are : symbolsIn (records (symbolAt bytes) count start) ≡ xs
+
 pub record Placed (base revision symbols : ℕ) (code : List ℕ) (before after : Lent) (answer : Out Layout) (start count : ℕ) : Type 0 where
   pub decoded : Decodes layout base revision symbols code before after answer
-  pub inside : 10 * count ≤ length code - start
-  pub room : count ≤ symbols
-  pub are : symbolsIn (records (symbolAt code) count start) ≡ blockSymbols (decodeBlock base revision (roomsOf before symbols) code)
+  pub lies : Lies code symbols start count (blockSymbols (decodeBlock base revision (roomsOf before symbols) code))

@@ -1,5 +1,5 @@
-// The debug symbols of a block in a lent list of records. Three functions take the list: one stores a record, one fills the list,
-// and the top decodes the block and fills it.
+// Debug symbols in a lent list of records. Four functions take the list: one stores a record, one fills the list, and the two tops decode
+// a block, or all functions of a file, and fill it.
 use local_format::field::le16;
 use local_format::field::le32;
 use semcode_decode::decode::Parse;
@@ -24,6 +24,8 @@ ghost use Rattle.semcode_symbols.specs.Symbols.{
   lists,
   Fills,
 };
+
+pub mod functions;
 
 // ---- What the core says of the symbols
 

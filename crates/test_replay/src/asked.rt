@@ -3,7 +3,8 @@ use local_format::field::le16;
 use local_format::field::le32;
 use local_format::refusal::diag_offset;
 
-// 0 is a section, whose tables are those of propositions, proofs and depths; 1 is a block, with strings, symbols and paths.
+// 0 is a section, whose tables are those of propositions, proofs and depths; 1 is a block, with strings, symbols and paths; 2 is a file, with
+// functions, strings and paths.
 pub struct Asked {
     pub decoder: u8,
     pub revision: u16,

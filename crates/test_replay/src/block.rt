@@ -17,7 +17,7 @@ fn flag(value: bool) -> usize {
 }
 
 // Number 0, both tags, the counts and the places.
-fn layout(list: &[u8], held: Held, block: StringTableDebugOwnershipParse) -> Held {
+pub fn layout(list: &[u8], held: Held, block: StringTableDebugOwnershipParse) -> Held {
     crate::held::numbers(
         list,
         held,
@@ -48,7 +48,7 @@ fn symbol(list: &[u8], held: Held, code: &[u8], at: usize) -> Held {
 }
 
 // So many symbols, one after the other from `start` on.
-fn symbols(list: &[u8], held: Held, code: &[u8], start: usize, count: usize) -> Held {
+pub fn symbols(list: &[u8], held: Held, code: &[u8], start: usize, count: usize) -> Held {
     let mut so_far = held;
     let mut at = start;
     let mut i: usize = 0;
@@ -60,7 +60,7 @@ fn symbols(list: &[u8], held: Held, code: &[u8], start: usize, count: usize) -> 
     so_far
 }
 
-fn strings_and_paths(
+pub fn strings_and_paths(
     list: &[u8],
     held: Held,
     string_count: usize,

@@ -84,6 +84,8 @@ fn kind_number(kind: Kind) -> usize {
         Kind::Debug => 3,
         Kind::Ownership => 4,
         Kind::Added => 5,
+        Kind::Truncated => 6,
+        Kind::Name => 7,
     }
 }
 

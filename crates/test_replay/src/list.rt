@@ -30,7 +30,10 @@ fn entry(list: &[u8], at: usize) -> Held {
     if asked.decoder == 0 {
         return crate::section::section(list, told_at, input(list, asked), asked);
     }
-    crate::block::block(list, told_at, input(list, asked), asked)
+    if asked.decoder == 1 {
+        return crate::block::block(list, told_at, input(list, asked), asked);
+    }
+    crate::functions::functions(list, told_at, input(list, asked), asked)
 }
 
 // Whether an entry stands at `at`.

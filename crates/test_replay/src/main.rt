@@ -6,6 +6,7 @@ use libc::STDOUT_FILENO;
 
 mod asked;
 mod block;
+mod functions;
 mod held;
 mod list;
 mod section;
@@ -19,10 +20,10 @@ fn page() -> Tally {
     crate::list::replay(&list[..n])
 }
 
-// Up to 16 pages; those past the end of the list are empty.
+// Up to 20 pages; those past the end of the list are empty.
 fn pages() -> Tally {
     let mut same: usize = 0;
-    let mut turns: usize = 16;
+    let mut turns: usize = 20;
     while turns > 0 {
         turns -= 1;
         let tally = page();

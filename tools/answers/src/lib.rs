@@ -1,6 +1,7 @@
 //! What both decoders answer, in document 01's terms, so that answers can be compared.
 
 pub mod block;
+pub mod functions;
 pub mod refusal;
 pub mod section;
 pub mod text;

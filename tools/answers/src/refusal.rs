@@ -10,16 +10,20 @@ pub enum Kind {
     Debug,
     Ownership,
     Added,
+    Truncated,
+    Name,
 }
 
 impl Kind {
-    pub const ALL: [Kind; 6] = [
+    pub const ALL: [Kind; 8] = [
         Kind::Invalid,
         Kind::Limit,
         Kind::Strings,
         Kind::Debug,
         Kind::Ownership,
         Kind::Added,
+        Kind::Truncated,
+        Kind::Name,
     ];
 }
 

@@ -2,6 +2,7 @@
 
 mod asked;
 mod blocks;
+mod functions;
 mod measure;
 mod rows;
 mod rust_crate;

@@ -49,6 +49,7 @@ pub fn plan(name: &str, make: impl FnOnce(String) -> Row + 'static) -> Plan {
 pub fn all() -> Vec<Plan> {
     let mut rows = crate::texts::rows();
     rows.extend(crate::blocks::rows());
+    rows.extend(crate::functions::rows());
     rows.extend(crate::sections::rows());
     rows.extend(crate::asked::rows());
     rows.extend(crate::rust_crate::rows());

@@ -37,7 +37,13 @@ fn rust_error(error: port::DecodeError) -> rust::DecodeError {
         port::DecodeError::ResourceLimit { offset, msg } => {
             rust::DecodeError::ResourceLimit { offset, msg }
         }
-        other => panic!("not an error of a block: {other:?}"),
+        port::DecodeError::TruncatedFunction { offset, msg } => {
+            rust::DecodeError::TruncatedFunction { offset, msg }
+        }
+        port::DecodeError::InvalidFunctionName { offset, msg } => {
+            rust::DecodeError::InvalidFunctionName { offset, msg }
+        }
+        other => panic!("not an error of functions: {other:?}"),
     }
 }
 
@@ -78,12 +84,12 @@ pub fn compare(tally: &mut Tally, case: &BlockCase) {
     tally.same(&rust, &port, || format!("the binding, {}", what(case)));
 }
 
-fn symbol(s: port::DecodedDebugSymbol) -> rust::DecodedDebugSymbol {
+pub fn symbol(s: port::DecodedDebugSymbol) -> rust::DecodedDebugSymbol {
     let port::DecodedDebugSymbol { pc, line, col } = s;
     rust::DecodedDebugSymbol { pc, line, col }
 }
 
-fn path(p: port::DecodedAccessPath) -> rust::DecodedAccessPath {
+pub fn path(p: port::DecodedAccessPath) -> rust::DecodedAccessPath {
     let port::DecodedAccessPath {
         root_symbol_id,
         components,

@@ -18,14 +18,14 @@ use port::text::read_string;
 pub const OLD: u64 = 0xA5A5_A5A5_A5A5_A5A5;
 
 /// What a lent list of symbols holds before a call.
-const OLD_SYMBOL: DebugSymbol = DebugSymbol {
+pub const OLD_SYMBOL: DebugSymbol = DebugSymbol {
     pc: OLD as usize,
     line: OLD as u32,
     col: OLD as u16,
 };
 
 /// The most strings, symbols and paths that a block may have.
-const MOST: [usize; 3] = [256, 8192, 65_535];
+pub const MOST: [usize; 3] = [256, 8192, 65_535];
 
 pub fn compare(tally: &mut Tally, case: &BlockCase) {
     let rust = oracle::block::block(&case.code, case.base, case.revision);
@@ -98,7 +98,7 @@ fn refused(refusal: Refusal, rooms: [usize; 3]) -> Called {
 }
 
 /// Symbols, and zeros past them.
-fn listed(symbols: &[Symbol], room: usize) -> Vec<DebugSymbol> {
+pub fn listed(symbols: &[Symbol], room: usize) -> Vec<DebugSymbol> {
     let mut list: Vec<DebugSymbol> = symbols
         .iter()
         .map(|s| DebugSymbol {
@@ -203,6 +203,6 @@ fn short_tables(tally: &mut Tally, case: &BlockCase, layout: &Layout) {
 }
 
 /// The place after the path count of a block that has paths.
-fn paths_start(layout: &Layout) -> usize {
+pub fn paths_start(layout: &Layout) -> usize {
     layout.symbols_start + 10 * layout.symbols + 4 + 2
 }

@@ -11,8 +11,10 @@ pub type Outcome = (u8, &'static str);
 /// How many inputs of each condition a whole run has at least.
 pub const LEAST: u64 = 1000;
 
-/// 61 and the numbers above it are not in the Rust.
-const ADDED: u8 = 61;
+/// Whether the Rust has a number: all of document 01's but 61 and 62, and Slip 1's.
+fn has_rust_side(number: u8) -> bool {
+    matches!(number, 0..=60 | 63..=65)
+}
 
 pub struct Tally {
     part: &'static str,
@@ -133,7 +135,7 @@ impl Tally {
             let found = self.outcomes.iter().filter(|((n, _), _)| wanted(*n));
             found.map(|(_, count)| count).sum()
         };
-        (of(|number| number < ADDED), of(|number| number == 0))
+        (of(has_rust_side), of(|number| number == 0))
     }
 
     pub fn print(&self) {

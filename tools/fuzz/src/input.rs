@@ -1,14 +1,15 @@
 //! What a fuzzed input means: two bytes that choose, then the file or the block.
 //!
-//! The first byte: 0 a section in a file, 1 a payload, whose tag and length are put before it, 2 a block, 3 nothing. The second: in its
-//! low two bits a cursor or a base (0; 1; 1,000; 20 below 2^64), and above them a revision.
+//! The first byte: 0 a section in a file, 1 a payload, whose tag and length are put before it, 2 a block, 3 a file of functions. The second:
+//! in its low two bits a cursor or a base (0; 1; 1,000; 20 below 2^64), and above them a revision.
 
 use inputs::block::REVISIONS;
-use inputs::cases::{BlockCase, SectionCase};
+use inputs::cases::{BlockCase, FileCase, SectionCase};
 
 pub enum Case {
     Section(SectionCase),
     Block(BlockCase),
+    Functions(FileCase),
 }
 
 const PLACES: [usize; 4] = [0, 1, 1000, usize::MAX - 20];
@@ -19,6 +20,7 @@ pub fn case(data: &[u8]) -> Option<Case> {
         return None;
     };
     let place = PLACES[(choice & 3) as usize];
+    let revision = REVISIONS[(choice >> 2) as usize % REVISIONS.len()];
     match kind % 4 {
         0 => Some(Case::Section(SectionCase {
             file: rest.to_vec(),
@@ -38,9 +40,13 @@ pub fn case(data: &[u8]) -> Option<Case> {
         2 => Some(Case::Block(BlockCase {
             code: rest.to_vec(),
             base: place,
-            revision: REVISIONS[(choice >> 2) as usize % REVISIONS.len()],
+            revision,
         })),
-        _ => None,
+        _ => Some(Case::Functions(FileCase {
+            file: rest.to_vec(),
+            cursor: place,
+            revision,
+        })),
     }
 }
 
@@ -51,11 +57,22 @@ pub fn bytes(case: &Case) -> Vec<u8> {
             Some([b'E', b'V', b'R', b'0', _, _, _, _, payload @ ..]) => joined([1, 0], payload),
             _ => joined([0, 0], file),
         },
-        Case::Block(BlockCase { code, revision, .. }) => {
-            let place = REVISIONS.iter().position(|known| known == revision);
-            joined([2, (place.unwrap_or(0) as u8) << 2], code)
-        }
+        Case::Block(BlockCase { code, revision, .. }) => joined([2, choice(*revision)], code),
+        Case::Functions(FileCase {
+            file,
+            cursor,
+            revision,
+        }) => joined(
+            [3, choice(*revision)],
+            file.get(*cursor..).unwrap_or_default(),
+        ),
     }
+}
+
+/// The second byte for a revision.
+fn choice(revision: u16) -> u8 {
+    let place = REVISIONS.iter().position(|known| *known == revision);
+    (place.unwrap_or(0) as u8) << 2
 }
 
 fn joined(choice: [u8; 2], rest: &[u8]) -> Vec<u8> {

@@ -7,6 +7,7 @@ pub use input::{Case, bytes, case};
 
 use differential::tally::Tally;
 use differential::{block_compare, block_numbers, section_compare, section_numbers};
+use differential::{function_compare, function_numbers};
 
 /// Tries one input.
 ///
@@ -37,6 +38,11 @@ fn compare(case: &Case) {
             let rust = oracle::block::block(&case.code, case.base, case.revision);
             block_compare::compare(&mut tally, case);
             block_numbers::compare(&mut tally, case, &rust, block_compare::rooms(case));
+        }
+        Case::Functions(case) => {
+            let rust = oracle::functions::functions(&case.file, case.cursor, case.revision);
+            function_compare::compare(&mut tally, case);
+            function_numbers::compare(&mut tally, case, &rust, function_compare::rooms(case));
         }
     }
     assert_eq!(tally.differences(), 0, "differences from the Rust");

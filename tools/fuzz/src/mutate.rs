@@ -1,4 +1,4 @@
-//! Mutation: libFuzzer's own, and now and then a new section or block with a fault or two, which changes of bytes would not find.
+//! Mutation: libFuzzer's own, and now and then a new section, block or file of functions with a fault or two, which changes of bytes would not find.
 
 use crate::input::{Case, bytes};
 use inputs::cases;
@@ -25,9 +25,10 @@ pub unsafe extern "C" fn LLVMFuzzerCustomMutator(
 ) -> usize {
     let mut r = Random::new(seed.into());
     if r.one_in(NEW) {
-        let case = match r.below(2) {
+        let case = match r.below(3) {
             0 => Case::Section(cases::section(&mut r)),
-            _ => Case::Block(cases::block(&mut r)),
+            1 => Case::Block(cases::block(&mut r)),
+            _ => Case::Functions(cases::functions(&mut r)),
         };
         let new = bytes(&case);
         if new.len() <= max_size {

@@ -98,6 +98,10 @@ fn count(out: &mut Vec<u8>, written: Option<u16>, length: usize) {
 /// A block of a few records.
 pub fn small(r: &mut Random) -> Block {
     let revision = r.pick(&REVISIONS);
+    small_at(r, revision)
+}
+
+pub fn small_at(r: &mut Random, revision: u16) -> Block {
     let strings = (0..r.below(5)).map(|_| string(r)).collect();
     let debug =
         (!r.one_in(3)).then(|| table(*b"DBG0", (0..r.below(4)).map(|_| symbol(r)).collect()));

@@ -1,9 +1,9 @@
-//! What a decoder is called with: sections and blocks at random, valid or damaged.
+//! What a decoder is called with: sections, blocks and files of functions at random, valid or damaged.
 
 use crate::block::{self, Block, REVISIONS};
 use crate::random::Random;
 use crate::section::Section;
-use crate::{block_faults, section_faults, shapes};
+use crate::{block_faults, function_faults, functions, section_faults, shapes};
 
 pub struct SectionCase {
     pub file: Vec<u8>,
@@ -13,6 +13,12 @@ pub struct SectionCase {
 pub struct BlockCase {
     pub code: Vec<u8>,
     pub base: usize,
+    pub revision: u16,
+}
+
+pub struct FileCase {
+    pub file: Vec<u8>,
+    pub cursor: usize,
     pub revision: u16,
 }
 
@@ -85,5 +91,49 @@ fn at_base(r: &mut Random, mut block: Block) -> BlockCase {
         code,
         base,
         revision: block.revision,
+    }
+}
+
+/// A file of a few functions.
+pub fn functions(r: &mut Random) -> FileCase {
+    let file = functions::small(r);
+    of_file(r, file)
+}
+
+/// A file of 1,023 to 1,025 functions.
+pub fn many_functions(r: &mut Random) -> FileCase {
+    let count = r.within(1023, 1025);
+    let file = functions::many(r, count);
+    if r.one_in(2) {
+        let (cursor, revision) = (file.before.len(), file.revision);
+        return FileCase {
+            file: file.bytes(),
+            cursor,
+            revision,
+        };
+    }
+    of_file(r, file)
+}
+
+fn of_file(r: &mut Random, mut file: functions::File) -> FileCase {
+    let (cursor, revision) = (file.before.len(), file.revision);
+    let bytes = match r.below(8) {
+        0 | 1 => file.bytes(),
+        2 => section_faults::scrambled(r, file.bytes()),
+        _ => {
+            file = function_faults::damaged(r, file);
+            file.bytes()
+        }
+    };
+    let cursor = match r.below(60) {
+        0 => usize::MAX - r.below(12),
+        1 => bytes.len() + r.below(3),
+        2 => r.below(bytes.len() + 12),
+        _ => cursor,
+    };
+    FileCase {
+        file: bytes,
+        cursor,
+        revision,
     }
 }

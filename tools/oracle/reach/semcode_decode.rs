@@ -24,3 +24,17 @@ pub fn block(base_offset: usize, code: &[u8], header_rev: u16) -> Result<Block, 
         instr_start_offset: parsed.instr_start_offset,
     })
 }
+
+/// The tables of a function's block.
+pub fn block_of(function: DecodedFunctionEnvelope) -> Block {
+    Block {
+        strings: function.strings,
+        debug_symbols: function.debug_symbols,
+        borrowed_paths: function.borrowed_paths,
+        write_paths: function.write_paths,
+        has_debug_section: function.has_debug_section,
+        has_ownership_section: function.has_ownership_section,
+        string_table_end_offset: function.string_table_end_offset,
+        instr_start_offset: function.instr_start_offset,
+    }
+}

@@ -11,6 +11,11 @@ use answers::block::{Activation, Block, Component, Event, Execution, Layout, Pat
 
 pub fn block(code: &[u8], base: usize, revision: u16) -> Answer<Block> {
     let parsed = semcode_decode::block(base, code, revision).map_err(of_block)?;
+    Ok(answer(code, parsed))
+}
+
+/// The Rust's result for a block.
+pub(crate) fn answer(code: &[u8], parsed: semcode_decode::Block) -> Block {
     let (string_starts, strings_end) = starts(2, parsed.strings.iter().map(|text| 2 + text.len()));
     let symbols_start = strings_end + if parsed.has_debug_section { 4 + 2 } else { 0 };
     let debug_end = symbols_start + 10 * parsed.debug_symbols.len();
@@ -27,7 +32,7 @@ pub fn block(code: &[u8], base: usize, revision: u16) -> Answer<Block> {
         &parsed.write_paths,
     );
     let symbols: Vec<Symbol> = parsed.debug_symbols.iter().map(symbol).collect();
-    Ok(Block {
+    Block {
         layout: Layout {
             strings: parsed.strings.len(),
             strings_end: parsed.string_table_end_offset,
@@ -43,7 +48,7 @@ pub fn block(code: &[u8], base: usize, revision: u16) -> Answer<Block> {
         symbols,
         path_starts,
         paths,
-    })
+    }
 }
 
 fn symbol(s: &DecodedDebugSymbol) -> Symbol {

@@ -4,6 +4,7 @@
 include!(concat!(env!("OUT_DIR"), "/modules.rs"));
 
 pub mod block;
+pub mod functions;
 pub mod lines;
 pub mod messages;
 pub mod section;

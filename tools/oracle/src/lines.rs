@@ -1,9 +1,10 @@
 //! Answers as lines of text.
 
 use crate::block::block;
+use crate::functions::functions;
 use crate::section::section;
 use answers::Answer;
-use answers::block::{Activation, Component, Event, Execution, Path};
+use answers::block::{Activation, Block, Component, Event, Execution, Path};
 use answers::text::Span;
 use std::fmt::Display;
 
@@ -45,10 +46,13 @@ pub fn section_line(bytes: &[u8], cursor: usize) -> Answer<String> {
 }
 
 pub fn block_line(bytes: &[u8], base: usize, revision: u16) -> Answer<String> {
-    let b = block(bytes, base, revision)?;
+    block(bytes, base, revision).map(|b| block_fields(&b))
+}
+
+fn block_fields(b: &Block) -> String {
     let strings = b.strings.iter().zip(&b.string_starts);
     let paths = b.paths.iter().zip(&b.path_starts);
-    Ok(format!(
+    format!(
         "counts={},{},{} debug={} ownership={} strings_end={} symbols_start={} instructions={} \
          strings={} symbols={} paths={}",
         b.layout.strings,
@@ -66,6 +70,26 @@ pub fn block_line(bytes: &[u8], base: usize, revision: u16) -> Answer<String> {
                 .map(|s| format!("{}:{}:{}", s.pc, s.line, s.column))
         ),
         list(paths.map(|(path, start)| format!("{start}:{}", path_item(path)))),
+    )
+}
+
+/// start:name:characters:block:length of each function, and the last one's block.
+pub fn functions_line(bytes: &[u8], cursor: usize, revision: u16) -> Answer<String> {
+    let file = functions(bytes, cursor, revision)?;
+    let heads = file.functions.iter().map(|f| {
+        let head = f.head;
+        let name = hex(f.name.as_bytes());
+        format!(
+            "{}:{name}:{}:{}:{}",
+            f.start, head.name.chars, head.code, head.size
+        )
+    });
+    let last = file.functions.last().map(|f| block_fields(&f.block));
+    Ok(format!(
+        "cursor={} functions={} {}",
+        file.cursor,
+        list(heads),
+        last.unwrap_or_default()
     ))
 }
 

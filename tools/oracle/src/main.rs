@@ -1,12 +1,13 @@
 //! Prints the Rust's answer to an input. A HEX of `-` is read from standard input; spaces and newlines in it are skipped.
 
-use oracle::lines::{block_line, section_line, span_line};
+use oracle::lines::{block_line, functions_line, section_line, span_line};
 use oracle::messages;
 use oracle::text::{string, text};
 use std::io::Read;
 
 const USAGE: &str = "usage: oracle section HEX CURSOR
        oracle block HEX BASE REVISION
+       oracle functions HEX CURSOR REVISION
        oracle text HEX AT      a text of a section
        oracle string HEX AT    a string of a function
        oracle messages         that every message of the sources has a number";
@@ -17,8 +18,10 @@ fn main() {
     let answer = match args[..] {
         ["section", hex, cursor] => section_line(&bytes(hex), number(cursor)),
         ["block", hex, base, revision] => {
-            let revision = u16::try_from(number(revision)).expect("a revision of 16 bits");
-            block_line(&bytes(hex), number(base), revision)
+            block_line(&bytes(hex), number(base), revision_of(revision))
+        }
+        ["functions", hex, cursor, revision] => {
+            functions_line(&bytes(hex), number(cursor), revision_of(revision))
         }
         ["text", hex, at] => text(&bytes(hex), number(at)).map(span_line),
         ["string", hex, at] => string(&bytes(hex), number(at)).map(span_line),
@@ -40,6 +43,10 @@ fn main() {
 
 fn number(text: &str) -> usize {
     text.parse().expect("a decimal number of 64 bits")
+}
+
+fn revision_of(text: &str) -> u16 {
+    u16::try_from(number(text)).expect("a revision of 16 bits")
 }
 
 fn bytes(hex: &str) -> Vec<u8> {

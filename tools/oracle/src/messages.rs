@@ -106,10 +106,27 @@ const BLOCK: &[Message] = &[
     ("unsupported ownership event kind", 60),
 ];
 
-fn number(map: &[Message], message: &str) -> u8 {
-    let found = map
+/// Those of the loop over functions, in its order.
+const FUNCTIONS: &[Message] = &[
+    ("too many functions (>", 65),
+    ("missing function name length", 63),
+    ("empty function name", 64),
+    ("function name too long", 64),
+    ("invalid utf8 in function name", 64),
+    ("missing function code length", 63),
+    ("function code out of bounds", 63),
+];
+
+/// Whether a message is a format's text, to which values are added.
+fn goes_on(text: &str) -> bool {
+    text.ends_with(": ") || text.ends_with("(>")
+}
+
+fn number(maps: &[&[Message]], message: &str) -> u8 {
+    let found = maps
         .iter()
-        .find(|(text, _)| message == *text || text.ends_with(": ") && message.starts_with(text));
+        .flat_map(|map| map.iter())
+        .find(|(text, _)| message == *text || goes_on(text) && message.starts_with(text));
     match found {
         Some((_, number)) if *number != 0 => *number,
         _ => panic!("a message without a number: {message:?}"),
@@ -123,22 +140,25 @@ pub fn of_section(error: Evr0Error) -> Refusal {
     };
     Refusal {
         kind,
-        number: number(SECTION, error.message),
+        number: number(&[SECTION], error.message),
         offset: error.offset,
     }
 }
 
+/// Of the block function or of the loop over functions.
 pub fn of_block(error: DecodeError) -> Refusal {
     let (kind, offset, message) = match &error {
         DecodeError::InvalidStringTable { offset, msg } => (Kind::Strings, *offset, *msg),
         DecodeError::InvalidDebugSection { offset, msg } => (Kind::Debug, *offset, *msg),
         DecodeError::InvalidOwnershipSection { offset, msg } => (Kind::Ownership, *offset, *msg),
         DecodeError::ResourceLimit { offset, msg } => (Kind::Limit, *offset, msg.as_str()),
-        _ => panic!("not an error of the block function: {error:?}"),
+        DecodeError::TruncatedFunction { offset, msg } => (Kind::Truncated, *offset, *msg),
+        DecodeError::InvalidFunctionName { offset, msg } => (Kind::Name, *offset, *msg),
+        _ => panic!("not an error of functions: {error:?}"),
     };
     Refusal {
         kind,
-        number: number(BLOCK, message),
+        number: number(&[BLOCK, FUNCTIONS], message),
         offset,
     }
 }

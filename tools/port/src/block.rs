@@ -24,7 +24,11 @@ pub fn parse_string_table_debug_and_ownership(
     if !b.accepted {
         return Err(refusal::answer(b.refusal));
     }
-    Ok(Layout {
+    Ok(layout(b))
+}
+
+pub(crate) fn layout(b: raw::Block) -> Layout {
+    Layout {
         strings: b.string_count,
         strings_end: b.string_table_end_offset,
         has_debug: b.has_debug_section,
@@ -33,7 +37,7 @@ pub fn parse_string_table_debug_and_ownership(
         has_ownership: b.has_ownership_section,
         paths: b.path_count,
         instructions: b.instr_start_offset,
-    })
+    }
 }
 
 /// The symbol at a place, and the place after it.

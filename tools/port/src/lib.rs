@@ -2,6 +2,7 @@
 
 pub mod block;
 pub mod field;
+pub mod functions;
 pub mod number;
 pub mod refusal;
 pub mod section;

@@ -2,19 +2,20 @@
 //!
 //!     section HEX CURSOR TAB ANSWER
 //!     block HEX BASE REVISION TAB ANSWER
+//!     functions HEX CURSOR REVISION TAB ANSWER
 //!
 //! Either so many for each refusal number and condition that random inputs reach, or the inputs of fixed.rs, or those that standard input
 //! has, a line each, as they are printed.
 
 mod fixed;
 
-use inputs::cases::{self, BlockCase, SectionCase};
+use inputs::cases::{self, BlockCase, FileCase, SectionCase};
 use inputs::random::Random;
-use inputs::{block_conditions, section_conditions};
-use oracle::lines::{block_line, hex, section_line};
+use inputs::{block_conditions, function_conditions, section_conditions};
+use oracle::lines::{block_line, functions_line, hex, section_line};
 use std::collections::BTreeMap;
 
-const USAGE: &str = "usage: sample section|block SEED EACH LONGEST [ACCEPTED]
+const USAGE: &str = "usage: sample section|block|functions SEED EACH LONGEST [ACCEPTED]
        sample fixed
        sample given";
 
@@ -31,19 +32,26 @@ fn main() {
     match (what, &numbers[..]) {
         (Some("fixed"), []) => fixed::print(),
         (Some("given"), []) => given(),
-        (Some("section"), &[seed, each, longest]) => sections(seed, picked(each, each), longest),
-        (Some("block"), &[seed, each, longest]) => blocks(seed, picked(each, each), longest),
-        (Some("section"), &[seed, each, longest, accepted]) => {
-            sections(seed, picked(each, accepted), longest)
+        (Some(form), &[seed, each, longest]) => random(form, seed, picked(each, each), longest),
+        (Some(form), &[seed, each, longest, accepted]) => {
+            random(form, seed, picked(each, accepted), longest)
         }
-        (Some("block"), &[seed, each, longest, accepted]) => {
-            blocks(seed, picked(each, accepted), longest)
-        }
-        _ => {
-            eprintln!("{USAGE}");
-            std::process::exit(2);
-        }
+        _ => usage(),
     }
+}
+
+fn random(form: &str, seed: usize, picked: Picked, longest: usize) {
+    match form {
+        "section" => sections(seed, picked, longest),
+        "block" => blocks(seed, picked, longest),
+        "functions" => files(seed, picked, longest),
+        _ => usage(),
+    }
+}
+
+fn usage() {
+    eprintln!("{USAGE}");
+    std::process::exit(2);
 }
 
 /// Counts inputs by what they led to.
@@ -114,6 +122,31 @@ fn blocks(seed: usize, mut picked: Picked, longest: usize) {
     }
 }
 
+fn files(seed: usize, mut picked: Picked, longest: usize) {
+    let mut r = Random::new(seed as u64);
+    for _ in 0..TRIES {
+        let case = cases::functions(&mut r);
+        let FileCase {
+            ref file,
+            cursor,
+            revision,
+        } = case;
+        if file.len() > longest {
+            continue;
+        }
+        let (number, condition) = match oracle::functions::functions(file, cursor, revision) {
+            Ok(found) => (0, function_conditions::accepted(found.functions.len())),
+            Err(refusal) => {
+                let condition = function_conditions::condition(file, cursor, &refusal);
+                (refusal.number, condition)
+            }
+        };
+        if picked.wants(number, condition) {
+            functions(&case);
+        }
+    }
+}
+
 fn given() {
     for line in std::io::stdin().lines() {
         let line = line.expect("text");
@@ -123,6 +156,11 @@ fn given() {
             ["section", hex, _] => section(&SectionCase {
                 file: bytes(hex),
                 cursor: number(2),
+            }),
+            ["functions", hex, _, revision] => functions(&FileCase {
+                file: bytes(hex),
+                cursor: number(2),
+                revision: revision.parse().expect("a decimal number of 16 bits"),
             }),
             ["block", hex, _, revision] => block(&BlockCase {
                 code: bytes(hex),
@@ -155,6 +193,17 @@ fn block(case: &BlockCase) {
     println!(
         "block {code} {} {}\t{}",
         case.base,
+        case.revision,
+        told(answer)
+    );
+}
+
+fn functions(case: &FileCase) {
+    let answer = functions_line(&case.file, case.cursor, case.revision);
+    let file = hex(&case.file);
+    println!(
+        "functions {file} {} {}\t{}",
+        case.cursor,
         case.revision,
         told(answer)
     );

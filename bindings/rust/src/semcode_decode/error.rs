@@ -6,7 +6,7 @@ use crate::raw::Refusal;
 use std::fmt;
 
 /// A refusal. The variants are all of the original's; a block is refused with `InvalidStringTable`, `InvalidDebugSection`,
-/// `InvalidOwnershipSection` and `ResourceLimit`.
+/// `InvalidOwnershipSection` and `ResourceLimit`, a file of functions with `TruncatedFunction` and `InvalidFunctionName` too.
 #[derive(Debug, Clone, PartialEq, Eq)]
 #[allow(missing_docs)]
 pub enum DecodeError {

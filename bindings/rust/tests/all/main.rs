@@ -1,7 +1,8 @@
-//! The specimens of document 01 through the binding, the lengths of lent tables, and the words of records.
+//! The specimens of document 01 and files of functions through the binding, the lengths of lent tables, and the words of records.
 
 mod blocks;
 mod characters;
+mod functions;
 mod least_tables;
 mod readme;
 mod sections;

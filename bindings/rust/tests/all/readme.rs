@@ -1,12 +1,13 @@
-//! README.md shows the example proofs.rs as it stands.
+//! README.md shows the examples as they stand.
+
+fn shown(example: &str) -> bool {
+    let readme = include_str!("../../../../README.md");
+    let lines = example.lines().map(|line| format!("    {line}\n"));
+    readme.contains(&lines.collect::<String>().replace("    \n", "\n"))
+}
 
 #[test]
-fn readme_shows_the_example() {
-    let readme = include_str!("../../../../README.md");
-    let example = include_str!("../../examples/proofs.rs");
-    let shown: String = example
-        .lines()
-        .map(|line| format!("    {line}\n"))
-        .collect();
-    assert!(readme.contains(&shown.replace("    \n", "\n")));
+fn readme_shows_the_examples() {
+    assert!(shown(include_str!("../../examples/proofs.rs")));
+    assert!(shown(include_str!("../../examples/functions.rs")));
 }

@@ -194,9 +194,7 @@ module _ {M : Type 1} (𝓤 : URA M) (H : Heap 𝓤) (A : Atoms 𝓤) (W : Given
           rewrite ! 10 (λ (y : Bool). ‵ (fat fullShare tyBool l₈ 0 (vbool y))) (le-ltb (t .i) n over) refl $
           leaves-loop ! (local ! 10 refl) $ exec ! C Λ En body.t-3 (atRet En Post) $
           assigns ! (of-opd ! (unit-lit !)) (from ! (stop !)) (init ! 26 refl (tt, tt)) $
-          returns ! (look ! 26 refl) $ forget ! 10 refl $ forget ! 12 refl $ forget ! 16 refl $ forget ! 18 refl $ forget ! 20 refl $ forget ! 22 refl
-          $ forget ! 24 refl $ forget ! 26 refl $
-          freed ! 26 refl $ keep ! (0 ∷ 1 ∷ 2 ∷ []) $
+          returns ! (look ! 26 refl) $ freed ! 26 (6 ∷ 9 ∷ 10 ∷ 11 ∷ []) _ refl $ keep ! (0 ∷ 1 ∷ 2 ∷ []) $
           by ! (exits (t .l) (t .long) (filled goal none n goal-long t over))
 
       -- a turn that fills one record

@@ -14,4 +14,4 @@ parse-placed-spec =
     let brought = tables (a .strings .now) (a .paths .now) in
     let told = as-told (a .header-rev) (roomsOf brought (a .symbols)) (a .code .now) (a .base-offset) (block .parse-block .ensures .answer) in
     rw (at .symbols-start .ensures, c .symbol-count .ensures)
-    (record { decoded = block .parse-block .ensures; inside = told .inside; room = told .room; are = told .are })))
+    (record { decoded = block .parse-block .ensures; lies = told })))

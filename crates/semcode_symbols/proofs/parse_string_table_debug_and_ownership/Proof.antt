@@ -10,10 +10,10 @@ use Rattle.semcode_symbols.specs.Symbols.{lentSymbols}
 use Rattle.semcode_symbols.proofs.Walk as walks
 use walks.{refl, ap, _∙_, ℕ, _<_, _^_, [], _∷_, List, length, URA, fullShare, named, w16, w64, Val, vint, SProp, ent, id⊢, emp, Fml, fat, Memory, Routine}
 use walks.{Heap, WpFn, Tables, Atoms, Fun, factI, givenOf, tables, tablesOf, Lfts, Shares, AllOutlive, Given, ‵, raw, _⊛_, ⋆, _$_, _∵_, !, qed, by, move}
-use walks.{keep, use1, split, rewrite, look, init, forget, stop, hop, fld, from, load, addr, of-opd, and-then, no-more, assigns, land, returns, enter}
-use walks.{alloc1, alloc0, params1, pass1, pass0, whole, sub, look-in, agg, fmOf, Is, Are, Ises, Spells, valss, shows, uint-vals, uint-tells}
+use walks.{keep, use1, split, rewrite, look, init, stop, fld, from, load, of-opd, and-then, no-more, assigns, land, returns, enter}
+use walks.{alloc1, alloc0, params1, pass1, pass0, whole, sub, look-in, fmOf, Is, Are, Ises, Spells, valss, shows, uint-vals, uint-tells}
 use walks.{nothing-lawful, u8, u64, unit, RefT, typesAt, sliceVal, ShrSlice, slice-vals, mut-slice-tells, shr-slice-tells, shr-slice-copy, only, facts}
-use walks.{heard, owned, Args, Vals, Meets, tripleOf, Triple, entered, cited, had, Met, number, called, leaves, freed, by-walk, local}
+use walks.{heard, owned, Args, Vals, Meets, tripleOf, Triple, entered, cited, had, Met, number, lent-on, called, leaves, freed, by-walk, local}
 use Rattle.semcode_symbols.proofs.PlacedParse as P
 use P.Laws as P′
 use Rattle.semcode_symbols.proofs.parse_placed as core
@@ -111,14 +111,7 @@ module _ {M : Type 1} (𝓤 : URA M) (H : Heap 𝓤) (A : Atoms 𝓤) (W : Given
         -- [the locals, _15 at 0; the tokens 0 to 3; base, code, rev, symbols, strings, paths; nothing]
         assigns ! (of-opd ! (load ! (from ! (fld ! refl (stop !))) (look-in ! 22 (sub ! 1 refl (whole !))))) (from ! (stop !))
         (init ! 14 refl (tt, record { fits = n-fits })) $
-        assigns ! (addr ! (from ! (fld ! refl (hop ! (look-in ! 20 (sub ! 0 refl (whole !))) (stop !))))) (from ! (stop !)) (init ! 12 refl (tt, tt)) $
-        assigns ! (agg ! (and-then ! (local ! 12 refl)
-        (and-then ! (load ! (from ! (fld ! refl (stop !))) (look-in ! 20 (sub ! 1 refl (whole !)))) (no-more !)))) (from ! (stop !))
-        (init ! 10 refl (tt, (tt, (record { fits = are .1 .1 .1 .1 .0 .0 .1 .0 }, tt)))) $
-        assigns ! (addr ! (from ! (fld ! refl (hop ! (look-in ! 18 (sub ! 0 refl (whole !))) (stop !))))) (from ! (stop !)) (init ! 8 refl (tt, tt)) $
-        assigns ! (agg ! (and-then ! (local ! 8 refl)
-        (and-then ! (load ! (from ! (fld ! refl (stop !))) (look-in ! 18 (sub ! 1 refl (whole !)))) (no-more !)))) (from ! (stop !))
-        (init ! 6 refl (tt, (tt, (record { fits = are .1 .1 .1 .1 .1 .0 .0 .1 .0 }, tt)))) $
+        lent-on ! 20 12 (are .1 .1 .1 .1 .0 .0 .1 .0) refl refl $ lent-on ! 18 8 (are .1 .1 .1 .1 .1 .0 .0 .1 .0) refl refl $
         -- the core
         number ! w64 n n-fits $ move ! (38 ∷ []) $ use1 W (‵ O ⊛ ‵ O) (shr-slice-copy 𝓤 H A W (named 0) (κs .0) u8 .twice z (vals .1 .0)) $ split ! $
         move ! (35 ∷ 37 ∷ 38 ∷ 39 ∷ 0 ∷ 40 ∷ 2 ∷ 42 ∷ 43 ∷ []) $
@@ -130,15 +123,12 @@ module _ {M : Type 1} (𝓤 : URA M) (H : Heap 𝓤) (A : Atoms 𝓤) (W : Given
         -- [strings and paths at last; the tokens 0, 2, 3; code; the locals, _15 at 6; the token 1; symbols; nothing]
         land ! (from ! (stop !)) (init ! 22 refl (LL.lawful P.the-type P′.the-laws 𝓤 H A W .typed r _ is .0)) $
         rewrite ! 22 (λ (u : Val). ‵ (fat fullShare P′.mir l₇ 0 u)) (ap only (LL.tells P.the-type P′.the-laws r _ is)) refl $
-        assigns ! (addr ! (from ! (fld ! refl (hop ! (look-in ! 28 (sub ! 0 refl (whole !))) (stop !))))) (from ! (stop !)) (init ! 8 refl (tt, tt)) $
-        assigns ! (agg ! (and-then ! (local ! 8 refl)
-        (and-then ! (load ! (from ! (fld ! refl (stop !))) (look-in ! 28 (sub ! 1 refl (whole !)))) (no-more !)))) (from ! (stop !))
-        (init ! 6 refl (tt, (tt, (record { fits = n-fits }, tt)))) $
+        lent-on ! 28 8 n-fits refl refl $
         -- the list is filled
         number ! w64 (r .count) (LL.owed P.the-type P′.the-laws r _ is .1 .1 .0 .1) $ number ! w64 (r .at)
         (LL.owed P.the-type P′.the-laws r _ is .1 .0 .1) $ move ! (40 ∷ 4 ∷ 41 ∷ 7 ∷ 0 ∷ 1 ∷ []) $
         called ! (fmOf 𝓤 H (W .laws) 𝓣) fill.ended (fill.clauses 𝓤 H A mem run) known-fill (to-fill (r .at) (r .count))
-        (factI 𝓤 _ (emp 𝓤) (e .inside, e .room))
+        (factI 𝓤 _ (emp 𝓤) (e .lies .inside, e .lies .fit))
         (and-then ! (local ! 5 refl) (and-then ! (local ! 31 refl)
         (and-then ! (load ! (from ! (fld ! refl (stop !))) (look-in ! 21 (sub ! 1 refl (whole !))))
         (and-then ! (load ! (from ! (fld ! refl (stop !))) (look-in ! 21 (sub ! 2 refl (whole !)))) (no-more !))))) (λ u r′ ws′.
@@ -147,14 +137,12 @@ module _ {M : Type 1} (𝓤 : URA M) (H : Heap 𝓤) (A : Atoms 𝓤) (W : Given
         land ! (from ! (stop !)) (init ! 11 refl (nothing-lawful 𝓤 H A W .typed r′ _ is′ .0)) $
         assigns ! (of-opd ! (load ! (from ! (fld ! refl (stop !))) (look-in ! 23 (sub ! 0 refl (whole !))))) (from ! (stop !))
         (init ! 37 refl (EL.lawful D.the-type D′.the-laws 𝓤 H A W tt .typed (r .answer) _ (LL.owed P.the-type P′.the-laws r _ is .0) .0)) $
-        returns ! (look ! 37 refl) $ forget ! 7 refl $ forget ! 9 refl $ forget ! 11 refl $ forget ! 13 refl $ forget ! 15 refl $ forget ! 17 refl $
-        forget ! 19 refl $ forget ! 21 refl $ forget ! 23 refl $ forget ! 25 refl $ forget ! 27 refl $ forget ! 29 refl $ forget ! 31 refl $
-        forget ! 33 refl $ forget ! 35 refl $ forget ! 37 refl $ freed ! 37 refl $
+        returns ! (look ! 37 refl) $ freed ! 37 [] _ refl $
         owned ! D.the-row (Is D.the-row) (EL.makes D.the-type D′.the-plain 𝓤 H A) (r .answer) _ (LL.owed P.the-type P′.the-laws r _ is .0) $
         keep ! (1 ∷ 4 ∷ 5 ∷ 3 ∷ 2 ∷ 6 ∷ 7 ∷ 0 ∷ []) $
         by ! (leaves 𝓤 H A f.ended (f.clauses 𝓤 H A mem run) bound W _ (r .answer)
         (tt, (tt, (tt, (ws′ .0, (ws .1 .1 .1 .1 .0, (ws .1 .1 .1 .1 .1 .0, tt))))))
-        (factI 𝓤 _ (emp 𝓤) (record { decoded = e .decoded; symbols = e′ ∙ ap (lentSymbols n) (e .are) })))))))))))))))))))))))))
+        (factI 𝓤 _ (emp 𝓤) (record { decoded = e .decoded; symbols = e′ ∙ ap (lentSymbols n) (e .lies .are) })))))))))))))))))))))))))
 
   meets : Meets 𝓤 H A f.signature (WpFn 𝓤 H (𝓣 .C) (𝓣 .Λ) code.function) (f.spec 𝓤 H A mem run)
   meets =

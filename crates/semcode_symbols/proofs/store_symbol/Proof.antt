@@ -114,8 +114,7 @@ module _ {M : Type 1} (𝓤 : URA M) (H : Heap 𝓤) (A : Atoms 𝓤) (W : Given
         ys i y (mach ∷ []) b o within $
         closes-slice ! tt R ys zs (length-set ys i y) b o $
         assigns ! (of-opd ! (unit-lit !)) (from ! (stop !)) (init ! 20 refl (tt, tt)) $
-        returns ! (look ! 20 refl) $ forget ! 4 refl $ forget ! 6 refl $ forget ! 8 refl $ forget ! 10 refl $ forget ! 12 refl $ forget ! 14 refl $
-        forget ! 16 refl $ forget ! 18 refl $ forget ! 20 refl $ freed ! 20 refl $
+        returns ! (look ! 20 refl) $ freed ! 20 [] _ refl $
         keep ! (0 ∷ 1 ∷ 2 ∷ []) $ by ! (exits room)))))))))))
 
 module _ {M : Type 1} (𝓤 : URA M) (H : Heap 𝓤) (A : Atoms 𝓤) (W : Given 𝓤 H A) (mem : Memory → SProp 𝓤) (run : Routine → Fun 𝓤) (𝓣 : Tables 𝓤 H) where

@@ -23,11 +23,11 @@ use Rattle.semcode_symbols.proofs.Walk.{_≡_, refl, sym, ℕ, _<_, _*_, _^_, [
 use Rattle.semcode_symbols.proofs.Walk.{vptr, SProp, ent, id⊢, emp, GName, fat, Memory, Routine, Heap, WpFn, Tables, Atoms, Fun, fact, givenOf}
 use Rattle.semcode_symbols.proofs.Walk.{tables, tablesOf, Lfts, Shares, AllOutlive, Given, ‵, raw, some, later, _⊛_, ⋆, _$_, _∵_, !, qed, by, move}
 use Rattle.semcode_symbols.proofs.Walk.{keep, drop, use1, use2, use3, split, pick, rewrite, fsplit, fjoin, feqL, feqI, await, look, init, store}
-use Rattle.semcode_symbols.proofs.Walk.{forget, stop, hop, fld, from, load, lit, addr, of-opd, bin, and-then, no-more, assigns, land, returns, enter}
-use Rattle.semcode_symbols.proofs.Walk.{alloc1, alloc0, params1, pass1, pass0, whole, sub, look-in, agg, fmOf, RattleType, flat, Is, Are, Ises}
+use Rattle.semcode_symbols.proofs.Walk.{stop, hop, from, load, lit, addr, of-opd, bin, and-then, no-more, assigns, land, returns, enter}
+use Rattle.semcode_symbols.proofs.Walk.{alloc1, alloc0, params1, pass1, pass0, agg, fmOf, RattleType, flat, Is, Are, Ises}
 use Rattle.semcode_symbols.proofs.Walk.{Spells, valss, shows, uint-vals, uint-tells, u8, u64, RefT, typesAt, sliceVal, MutSlice, Room, slice-vals}
 use Rattle.semcode_symbols.proofs.Walk.{mut-slice-tells, shr-slice-tells, owned, peeks, facts, heard, Args, Vals, Meets, tripleOf, Triple, entered}
-use Rattle.semcode_symbols.proofs.Walk.{cited, had, Met, number, called, leaves, freed, by-walk}
+use Rattle.semcode_symbols.proofs.Walk.{cited, had, Met, number, local, lent-on, called, leaves, freed, by-walk}
 use Rattle.semcode_symbols.proofs.parse_string_table_debug_and_ownership as top
 use Rattle.semcode_symbols.proofs.parse_string_table_debug_and_ownership.Symbol as top-def
 use Rattle.semcode_symbols.proofs.parse_string_table_debug_and_ownership.Symbol.{name as #top}
@@ -113,31 +113,24 @@ module _ {M : Type 1} (𝓤 : URA M) (H : Heap 𝓤) (A : Atoms 𝓤) (W : Given
         owned ! R (Is R) ((LL.makes T.the-type T′.the-plain) 𝓤 H A) old (mach ∷ []) made $
         use1 W (‵ (Array R 4 .own ys (arrayVal (replicate 4 mach) ∷ []))) (array-repeat 𝓤 H A W R ((LL.copy T.the-type T′.the-copy) 𝓤 H A W) 4 old mach) $
         peeks ! (Array R 4) (Is (Array R 4)) (shows 𝓤 H A (Array R 4)) ys (arrayVal (replicate 4 mach) ∷ []) (λ are₀.
-        assigns ! (rep ! 4 (load ! (from ! (stop !)) (look ! 21 refl))) (from ! (stop !))
+        assigns ! (rep ! 4 (local ! 21 refl)) (from ! (stop !))
         (init ! 23 refl (array-lawful 𝓤 H A W R (LL.lawful T.the-type T′.the-laws 𝓤 H A W) 4 .typed ys _ are₀ .0)) $
         -- the array is its elements
         move ! (23 ∷ 0 ∷ []) $ use2 W (‵ (cells (mem R) ys l₅ 0)) (in-cells 𝓤 H A W 4 ys (arrayVal (replicate 4 mach)) l₅) $
         -- [the elements; the locals, _16 at 1, with _5's cell gone; the tokens; what the parameters own]
         assigns ! (addr ! (from ! (stop !))) (from ! (stop !)) (init ! 17 refl (tt, tt)) $
-        assigns ! (agg ! (and-then ! (load ! (from ! (stop !)) (look ! 17 refl)) (and-then ! (lit ! tt) (no-more !)))) (from ! (stop !))
+        assigns ! (agg ! (and-then ! (local ! 17 refl) (and-then ! (lit ! tt) (no-more !)))) (from ! (stop !))
         (init ! 15 refl (tt, (tt, (record { fits = lit< tt }, tt)))) $
-        assigns ! (addr ! (from ! (fld ! refl (hop ! (look-in ! 28 (sub ! 0 refl (whole !))) (stop !))))) (from ! (stop !)) (init ! 13 refl (tt, tt)) $
-        assigns ! (agg ! (and-then ! (load ! (from ! (stop !)) (look ! 13 refl))
-        (and-then ! (load ! (from ! (fld ! refl (stop !))) (look-in ! 28 (sub ! 1 refl (whole !)))) (no-more !)))) (from ! (stop !))
-        (init ! 11 refl (tt, (tt, (record { fits = are .1 .0 .0 .1 .0 }, tt)))) $
-        assigns ! (addr ! (from ! (fld ! refl (hop ! (look-in ! 26 (sub ! 0 refl (whole !))) (stop !))))) (from ! (stop !)) (init ! 9 refl (tt, tt)) $
-        assigns ! (agg ! (and-then ! (load ! (from ! (stop !)) (look ! 9 refl))
-        (and-then ! (load ! (from ! (fld ! refl (stop !))) (look-in ! 26 (sub ! 1 refl (whole !)))) (no-more !)))) (from ! (stop !))
-        (init ! 7 refl (tt, (tt, (record { fits = are .1 .1 .0 .0 .1 .0 }, tt)))) $
+        lent-on ! 28 13 (are .1 .0 .0 .1 .0) refl refl $ lent-on ! 26 9 (are .1 .1 .0 .0 .1 .0) refl refl $
         -- they are lent
         lft-new ! tt (λ ν. move ! (1 ∷ []) $
         use1 W (later (some (λ (δ : GName). ‵ (MutSlice (named 1) (ν ∷ []) R .own (list l₅ δ) (sliceVal (l₅, 0) 4 ∷ [])) ⊛ ‵
         (flent (ν ∷ []) (Held R 4 l₅ 0 δ))))) (lends-slice 𝓤 H A W R (named 1) (ν ∷ []) ys l₅ 0 room) $ await ! tt $ pick ! (λ δ. split ! $
         number ! w16 22 (lit< tt) $ number ! w64 0 (lit< tt) $ move ! (38 ∷ 4 ∷ 39 ∷ 40 ∷ 0 ∷ 41 ∷ 1 ∷ 2 ∷ 42 ∷ 43 ∷ []) $
         called ! (fmOf 𝓤 H (W .laws) 𝓣) top.ended (top.clauses 𝓤 H A at-mem run) known (to-top l₅ ν δ) (id⊢ 𝓤 (emp 𝓤))
-        (and-then ! (lit ! tt) (and-then ! (load ! (from ! (stop !)) (look ! 31 refl))
-        (and-then ! (lit ! tt) (and-then ! (load ! (from ! (stop !)) (look ! 16 refl))
-        (and-then ! (load ! (from ! (stop !)) (look ! 12 refl)) (and-then ! (load ! (from ! (stop !)) (look ! 8 refl)) (no-more !))))))) (λ w r ws.
+        (and-then ! (lit ! tt) (and-then ! (local ! 31 refl)
+        (and-then ! (lit ! tt) (and-then ! (local ! 16 refl)
+        (and-then ! (local ! 12 refl) (and-then ! (local ! 8 refl) (no-more !))))))) (λ w r ws.
         let zs = ws .1 .1 .1 .0 in
         drop ! $ move ! (7 ∷ []) $ facts ! D.the-row (Is D.the-row) (shows 𝓤 H A D.the-row) r (w ∷ []) (λ is.
         -- [the array, strings and paths at last; the tokens 0, ν, 1, 2; the lender's part; the locals, _16 at 8; i]
@@ -147,10 +140,10 @@ module _ {M : Type 1} (𝓤 : URA M) (H : Heap 𝓤) (A : Atoms 𝓤) (W : Given
         use3 W (later (‵ (Arr (mem R) 4 .lies zs l₅ 0))) (slice-back 𝓤 H A W R (ν ∷ []) δ zs 4 l₅ 0) $ await ! tt $ fsplit ! $ feqL ! (λ len.
         use1 W (‵ (row R fullShare zs l₅ 0)) (whole-out 𝓤 H A W R zs l₅ 0) $
         -- [the row; strings and paths at last; the tokens 0, 1, 2; the locals, _16 at 6; i]
-        assigns ! (bin ! (load ! (from ! (stop !)) (look ! 29 refl)) (lit ! tt) (record { fits = place-fits small })) (from ! (stop !))
+        assigns ! (bin ! (local ! 29 refl) (lit ! tt) (record { fits = place-fits small })) (from ! (stop !))
         (init ! 10 refl (tt, record { fits = place-fits small })) $
         assigns ! (addr ! (from ! (stop !))) (from ! (stop !)) (init ! 8 refl (tt, tt)) $
-        assigns ! (bin ! (load ! (from ! (stop !)) (look ! 8 refl)) (load ! (from ! (stop !)) (look ! 10 refl)) tt) (from ! (stop !))
+        assigns ! (bin ! (local ! 8 refl) (local ! 10 refl) tt) (from ! (stop !))
         (init ! 6 refl (tt, tt)) $
         rewrite ! 6 (λ (p : ℕ). ‵ (fat fullShare tyPtr l₁₆ 0 (vptr l₅ p))) (sym (place-is 16 0 i)) refl $
         elem-out ! R (Is R) (shows 𝓤 H A R) (LL.vals T.the-type T′.the-laws) (LL.tells T.the-type T′.the-laws) fullShare zs i old l₅ 0
@@ -158,15 +151,13 @@ module _ {M : Type 1} (𝓤 : URA M) (H : Heap 𝓤) (A : Atoms 𝓤) (W : Given
         assigns ! (of-opd ! (load ! (from ! (hop ! (look ! 8 refl) (stop !))) (look-raw ! 0 refl))) (from ! (stop !))
         (store ! 28 refl (LL.lawful T.the-type T′.the-laws 𝓤 H A W .typed _ _ p .0)) $
         elem-back ! R fullShare zs i old (LL.vals T.the-type T′.the-laws (getD zs i old)) l₅ 0 (within small zs len) $
-        assigns ! (of-opd ! (load ! (from ! (stop !)) (look ! 26 refl))) (from ! (stop !))
+        assigns ! (of-opd ! (local ! 26 refl)) (from ! (stop !))
         (init ! 37 refl (LL.lawful T.the-type T′.the-laws 𝓤 H A W .typed _ _ p .0)) $
         -- the array is one cell again, in its place
         feqI ! ℕ (length zs) 4 len $ fjoin ! $ use1 W (some (λ (v : Val). ‵ (fat fullShare (arrTy 4) l₅ 0 v))) (one-cell 𝓤 H A W 4 zs l₅) $ pick ! (λ v.
-        returns ! (look ! 37 refl) $ forget ! 0 refl $ forget ! 6 refl $ forget ! 8 refl $ forget ! 10 refl $ forget ! 12 refl $ forget ! 14 refl $
-        forget ! 16 refl $ forget ! 18 refl $ forget ! 20 refl $ forget ! 22 refl $ forget ! 24 refl $ forget ! 26 refl $ forget ! 29 refl $
-        forget ! 31 refl $ forget ! 33 refl $ forget ! 35 refl $ forget ! 37 refl $
+        returns ! (look ! 37 refl) $
         move ! (1 ∷ 2 ∷ 3 ∷ 4 ∷ 5 ∷ 6 ∷ 7 ∷ 8 ∷ 9 ∷ 10 ∷ 11 ∷ 12 ∷ 13 ∷ 14 ∷ 15 ∷ 16 ∷ 17 ∷ 18 ∷ 19 ∷ 20 ∷ 21 ∷ 22 ∷ 23 ∷ 24 ∷ 25 ∷ 26 ∷ 27 ∷ 0 ∷ [])
-        $ freed ! 37 refl $
+        $ freed ! 37 [] _ refl $
         owned ! R (Is R) ((LL.makes T.the-type T′.the-plain) 𝓤 H A) (getD zs i old) _ p $ keep ! (1 ∷ 2 ∷ 3 ∷ 4 ∷ 5 ∷ 0 ∷ []) $
         by ! (leaves 𝓤 H A f.ended (f.clauses 𝓤 H A at-mem run) bound W _ (getD zs i old) (tt, (ws .1 .1 .1 .1 .0, (ws .1 .1 .1 .1 .1 .0, (tt, tt))))
         (id⊢ 𝓤 (emp 𝓤)))))))))))))))))))))))))))))

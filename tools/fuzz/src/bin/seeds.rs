@@ -1,4 +1,4 @@
-//! Writes a corpus to start from: the specimens' shapes, and small sections and blocks of which most have a fault.
+//! Writes a corpus to start from: the specimens' shapes, and small sections, blocks and files of functions of which most have a fault.
 
 use fuzz::{Case, bytes};
 use inputs::block::{self, REVISIONS};
@@ -7,7 +7,7 @@ use inputs::random::Random;
 use inputs::shapes;
 use std::path::Path;
 
-/// So many random sections, and as many blocks.
+/// So many random sections, and as many blocks and files of functions.
 const EACH: usize = 300;
 
 fn main() -> std::io::Result<()> {
@@ -33,6 +33,7 @@ fn main() -> std::io::Result<()> {
     for _ in 0..EACH {
         all.push(Case::Section(cases::section(r)));
         all.push(Case::Block(cases::block(r)));
+        all.push(Case::Functions(cases::functions(r)));
     }
     for (number, case) in all.iter().enumerate() {
         std::fs::write(Path::new(&folder).join(number.to_string()), bytes(case))?;

@@ -1,6 +1,6 @@
 //! That the maps have every message of the sources, and no other: the string literals are taken from the sources' text.
 
-use super::{BLOCK, Message, SECTION};
+use super::{BLOCK, FUNCTIONS, Message, SECTION};
 use std::collections::BTreeSet;
 
 const EVR0: &str = include_str!(concat!(env!("OUT_DIR"), "/evr0.rs"));
@@ -26,7 +26,11 @@ pub fn check() -> Result<usize, String> {
         .and_then(|(_, rest)| rest.split_once("    let signature = None;\n"))
         .ok_or("the block function is not found")?
         .0;
-    Ok(same(EVR0, SECTION)? + same(body, BLOCK)?)
+    let steps = SEMCODE_DECODE
+        .split_once("\npub fn functions_from(")
+        .ok_or("the loop over functions is not found")?
+        .1;
+    Ok(same(EVR0, SECTION)? + same(body, BLOCK)? + same(steps, FUNCTIONS)?)
 }
 
 fn same(source: &str, map: &[Message]) -> Result<usize, String> {

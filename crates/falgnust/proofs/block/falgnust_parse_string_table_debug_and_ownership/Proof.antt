@@ -9,10 +9,10 @@ use Rattle.semcode_decode.proofs.LentLaws.{mapped}
 use Rattle.semcode_records.proofs.symbol.DecodedDebugSymbol as T
 use Rattle.semcode_symbols.proofs.Walk.{refl, [], _∷_, URA, named, w16, w64, SProp, ent, id⊢, emp, Memory, Routine, Heap, WpFn, Tables, Atoms, Fun}
 use Rattle.semcode_symbols.proofs.Walk.{factI, givenOf, tables, tablesOf, Lfts, Shares, AllOutlive, Given, raw, ⋆, _$_, _∵_, !, qed, by, move, keep}
-use Rattle.semcode_symbols.proofs.Walk.{look, init, forget, stop, hop, fld, from, load, addr, and-then, no-more, assigns, land, returns, enter}
-use Rattle.semcode_symbols.proofs.Walk.{alloc1, alloc0, params1, pass1, pass0, whole, sub, look-in, agg, fmOf, Is, Are, Ises, Spells, valss, shows}
+use Rattle.semcode_symbols.proofs.Walk.{look, init, stop, from, and-then, no-more, land, returns, enter}
+use Rattle.semcode_symbols.proofs.Walk.{alloc1, alloc0, params1, pass1, pass0, fmOf, Is, Are, Ises, Spells, valss, shows}
 use Rattle.semcode_symbols.proofs.Walk.{uint-vals, uint-tells, u8, u64, typesAt, slice-vals, mut-slice-tells, shr-slice-tells, owned, peeks, facts}
-use Rattle.semcode_symbols.proofs.Walk.{heard, Args, Vals, Meets, tripleOf, Triple, entered, cited, had, Met, called, leaves, freed, by-walk}
+use Rattle.semcode_symbols.proofs.Walk.{heard, Args, Vals, Meets, tripleOf, Triple, entered, cited, had, Met, local, lent-on, called, leaves, freed, by-walk}
 use Rattle.semcode_symbols.proofs.parse_string_table_debug_and_ownership as top
 use Rattle.semcode_symbols.proofs.parse_string_table_debug_and_ownership.Symbol as top-def
 use Rattle.semcode_symbols.proofs.parse_string_table_debug_and_ownership.Symbol.{name as #top}
@@ -56,36 +56,24 @@ module _ {M : Type 1} (𝓤 : URA M) (H : Heap 𝓤) (A : Atoms 𝓤) (W : Given
         pass1 ! (init ! 16 refl (tt, (tt, (record { fits = are .1 .1 .1 .1 .0 .0 .1 .0 }, tt)))) $
         pass1 ! (init ! 14 refl (tt, (tt, (record { fits = are .1 .1 .1 .1 .1 .0 .0 .1 .0 }, tt)))) $ pass0 ! $
         -- [the locals, _13 at 0; the tokens 0 to 3; base, code, rev, symbols, strings, paths; nothing]
-        assigns ! (addr ! (from ! (fld ! refl (hop ! (look-in ! 18 (sub ! 0 refl (whole !))) (stop !))))) (from ! (stop !)) (init ! 10 refl (tt, tt)) $
-        assigns ! (agg ! (and-then ! (load ! (from ! (stop !)) (look ! 10 refl))
-        (and-then ! (load ! (from ! (fld ! refl (stop !))) (look-in ! 18 (sub ! 1 refl (whole !)))) (no-more !)))) (from ! (stop !))
-        (init ! 8 refl (tt, (tt, (record { fits = are .1 .1 .1 .0 .0 .1 .0 }, tt)))) $
-        assigns ! (addr ! (from ! (fld ! refl (hop ! (look-in ! 16 (sub ! 0 refl (whole !))) (stop !))))) (from ! (stop !)) (init ! 6 refl (tt, tt)) $
-        assigns ! (agg ! (and-then ! (load ! (from ! (stop !)) (look ! 6 refl))
-        (and-then ! (load ! (from ! (fld ! refl (stop !))) (look-in ! 16 (sub ! 1 refl (whole !)))) (no-more !)))) (from ! (stop !))
-        (init ! 4 refl (tt, (tt, (record { fits = are .1 .1 .1 .1 .0 .0 .1 .0 }, tt)))) $
-        assigns ! (addr ! (from ! (fld ! refl (hop ! (look-in ! 14 (sub ! 0 refl (whole !))) (stop !))))) (from ! (stop !)) (init ! 2 refl (tt, tt)) $
-        assigns ! (agg ! (and-then ! (load ! (from ! (stop !)) (look ! 2 refl))
-        (and-then ! (load ! (from ! (fld ! refl (stop !))) (look-in ! 14 (sub ! 1 refl (whole !)))) (no-more !)))) (from ! (stop !))
-        (init ! 0 refl (tt, (tt, (record { fits = are .1 .1 .1 .1 .1 .0 .0 .1 .0 }, tt)))) $
+        lent-on ! 18 10 (are .1 .1 .1 .0 .0 .1 .0) refl refl $ lent-on ! 16 6 (are .1 .1 .1 .1 .0 .0 .1 .0) refl refl $
+        lent-on ! 14 2 (are .1 .1 .1 .1 .1 .0 .0 .1 .0) refl refl $
         -- the decoder
         move ! (28 ∷ 29 ∷ 30 ∷ 31 ∷ 32 ∷ 33 ∷ 34 ∷ 35 ∷ 36 ∷ 37 ∷ []) $
         called ! (fmOf 𝓤 H (W .laws) 𝓣) top.ended (top.clauses 𝓤 H A mem run) known-top ((κs, qs, tt, a, vals), tt) (id⊢ 𝓤 (emp 𝓤))
-        (and-then ! (load ! (from ! (stop !)) (look ! 25 refl)) (and-then ! (load ! (from ! (stop !)) (look ! 23 refl))
-        (and-then ! (load ! (from ! (stop !)) (look ! 21 refl)) (and-then ! (load ! (from ! (stop !)) (look ! 9 refl))
-        (and-then ! (load ! (from ! (stop !)) (look ! 5 refl)) (and-then ! (load ! (from ! (stop !)) (look ! 1 refl)) (no-more !))))))) (λ w r ws.
+        (and-then ! (local ! 25 refl) (and-then ! (local ! 23 refl)
+        (and-then ! (local ! 21 refl) (and-then ! (local ! 9 refl)
+        (and-then ! (local ! 5 refl) (and-then ! (local ! 1 refl) (no-more !))))))) (λ w r ws.
         heard ! _ (λ e. move ! (7 ∷ []) $ facts ! D.the-row (Is D.the-row) (shows 𝓤 H A D.the-row) r (w ∷ []) (λ is.
         -- [symbols, strings and paths at last; the tokens; the locals, _13 at 7; nothing]
         land ! (from ! (stop !)) (init ! 19 refl (EL.lawful D.the-type D′.the-laws 𝓤 H A W tt .typed r _ is .0)) $
         -- the flat struct
         owned ! D.the-row (Is D.the-row) (EL.makes D.the-type D′.the-plain 𝓤 H A) r (w ∷ []) is $
         called ! (fmOf 𝓤 H (W .laws) 𝓣) flat.ended (flat.clauses 𝓤 H A mem run) known-flat ((tt, tt, tt, (r, tt), (w ∷ [], tt)), tt) (id⊢ 𝓤 (emp 𝓤))
-        (and-then ! (load ! (from ! (stop !)) (look ! 20 refl)) (no-more !)) (λ w₁ b none.
+        (and-then ! (local ! 20 refl) (no-more !)) (λ w₁ b none.
         heard ! _ (λ e₁. peeks ! B.the-row (Is B.the-row) (shows 𝓤 H A B.the-row) b (w₁ ∷ []) (λ is₁.
         land ! (from ! (stop !)) (init ! 34 refl (LL.lawful B.the-type B′.the-laws 𝓤 H A W .typed b _ is₁ .0)) $
-        returns ! (look ! 34 refl) $ forget ! 8 refl $ forget ! 10 refl $ forget ! 12 refl $ forget ! 14 refl $ forget ! 16 refl $ forget ! 18 refl $
-        forget ! 20 refl $ forget ! 22 refl $ forget ! 24 refl $ forget ! 26 refl $ forget ! 28 refl $ forget ! 30 refl $ forget ! 32 refl $
-        forget ! 34 refl $ freed ! 34 refl $
+        returns ! (look ! 34 refl) $ freed ! 34 [] _ refl $
         keep ! (1 ∷ 2 ∷ 3 ∷ 4 ∷ 5 ∷ 6 ∷ 7 ∷ 0 ∷ []) $
         by ! (leaves 𝓤 H A f.ended (f.clauses 𝓤 H A mem run) bound W w₁ b ws
         (factI 𝓤 _ (emp 𝓤) (record { decoded = mapped flatBlock (e .decoded) e₁; symbols = e .symbols })))))))))))))))))))))))
