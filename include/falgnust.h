@@ -27,7 +27,7 @@ extern "C" {
 
 /* The version of this header: ten thousand times the first number, a hundred times the second, and the third. The first rises where a
  * struct, an argument or an answer changes, and the second where something is added. */
-#define FALGNUST_VERSION 20100
+#define FALGNUST_VERSION 30000
 
 /* Layouts: the size of each struct below is that of the struct in crates/falgnust/src. */
 #define FALGNUST_SIZE(type, size) FALGNUST_ASSERT(sizeof(type) == (size), #type " has another layout")
@@ -128,9 +128,9 @@ static const char *const FALGNUST_MESSAGES[66] = {
 
 /* ---- Evidence sections ----
  *
- * The three lent tables take the start of each proposition record in the payload, the start of each proof record, and each proof's depth.
- * A table that is shorter than its count is refused with 61. Tables of (bytes_len - cursor) / 15 propositions and (bytes_len - cursor) / 35
- * proofs and depths are never too short, nor are tables of 65536 each.
+ * The lent tables take the start of each proposition record in the payload, the start of each proof record, each proof's depth and, where
+ * it is lent, each proof's mark. A table that is shorter than its count is refused with 61. Tables of (bytes_len - cursor) / 15 propositions
+ * and (bytes_len - cursor) / 35 proofs, depths and marks are never too short, nor are tables of 65536 each.
  *
  * The payload of an accepted section is bytes[cursor + 8] to bytes[section.cursor - 1]. */
 
@@ -152,8 +152,24 @@ typedef struct FalgnustSection {
 } FalgnustSection;
 FALGNUST_SIZE(FalgnustSection, 168);
 
+/* A proof's mark: whether every walk down from it, by any parents until none is left, ends at a positive witness (polarity 1), every such
+ * walk at a negative one (polarity 0), or neither. */
+enum {
+    FALGNUST_MARK_POSITIVE = 1,
+    FALGNUST_MARK_NEGATIVE = 2,
+    FALGNUST_MARK_BOTH = 3
+};
+
 /* Decodes the section at a cursor. */
 FalgnustSection falgnust_decode_evr0_section(
+    const uint8_t *bytes, size_t bytes_len, size_t cursor,
+    uint64_t *propositions, size_t propositions_len,
+    uint64_t *proofs, size_t proofs_len,
+    uint64_t *depths, size_t depths_len,
+    uint8_t *marks, size_t marks_len);
+
+/* The same without the marks, for a caller that looks at none. */
+FalgnustSection falgnust_decode_evr0_unmarked(
     const uint8_t *bytes, size_t bytes_len, size_t cursor,
     uint64_t *propositions, size_t propositions_len,
     uint64_t *proofs, size_t proofs_len,
@@ -245,7 +261,7 @@ bool falgnust_witness_words( /* 7 words each: number, proposition, polarity, fir
 /* The parent cells from a place on, as many as there are words. */
 bool falgnust_parent_words(const uint8_t *payload, size_t payload_len, size_t at, uint64_t *words, size_t words_len);
 
-/* A record by its number. Each call decodes the section anew first, with the refusals and the tables of falgnust_decode_evr0_section, whose
+/* A record by its number. Each call decodes the section anew first, with the refusals and the tables of falgnust_decode_evr0_unmarked, whose
  * offsets are places in the bytes; a number that is not below its count is then refused with 62 at 0. */
 FalgnustProposition falgnust_proposition_number(
     const uint8_t *bytes, size_t bytes_len, size_t cursor, uint32_t number,

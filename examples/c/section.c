@@ -1,5 +1,5 @@
-/* Prints an evidence section: its propositions, and its proofs with their witnesses and parents. For each proof that is named after the
- * file, the way down to its witness, and whether its proposition is authorised.
+/* Prints an evidence section: its propositions, and its proofs with depth, mark, witnesses and parents. For each proof that is named after
+ * the file, the way down to its witness, and whether its proposition is authorised.
  *
  *   section FILE [PROOF..]      ("-" is standard input) */
 #include "input.h"
@@ -14,6 +14,7 @@ typedef struct Source {
     uint64_t *propositions;
     uint64_t *proofs;
     uint64_t *depths;
+    uint8_t *marks;
     size_t most_propositions;
     size_t most_proofs;
 } Source;
@@ -27,6 +28,7 @@ static Source open_source(const char *name) {
         room_for(most_propositions, sizeof(uint64_t)),
         room_for(most_proofs, sizeof(uint64_t)),
         room_for(most_proofs, sizeof(uint64_t)),
+        room_for(most_proofs, sizeof(uint8_t)),
         most_propositions,
         most_proofs,
     };
@@ -38,6 +40,7 @@ static void close_source(Source *s) {
     free(s->propositions);
     free(s->proofs);
     free(s->depths);
+    free(s->marks);
 }
 
 static void print_namespace(const char *name, const uint8_t *payload, size_t len, size_t at, size_t chars) {
@@ -64,11 +67,11 @@ static void print_witness(const uint8_t *payload, size_t len, size_t at) {
     printf("\n");
 }
 
-static void print_proof(const uint8_t *payload, size_t len, const FalgnustSection *section, size_t at, uint64_t depth) {
+static void print_proof(const uint8_t *payload, size_t len, const FalgnustSection *section, size_t at, uint64_t depth, uint8_t mark) {
     FalgnustProof p = falgnust_read_proof(payload, len, at);
     printf("proof %" PRIu32 ": proposition %" PRIu32 ", ", p.proof_id, p.proposition_index);
     print_text(payload + p.rule_id.start, p.rule_id.len);
-    printf(", authority %" PRIu32 ", depth %" PRIu64 "\n", p.authority_context, depth);
+    printf(", authority %" PRIu32 ", depth %" PRIu64 ", mark %u\n", p.authority_context, depth, mark);
     for (uint32_t i = 0; i < p.witness_count; i++)
         print_witness(payload, len, falgnust_witness_place(len, section->witnesses, section->parents, p.witness_first + i));
     for (uint32_t i = 0; i < p.parent_count; i++) {
@@ -81,7 +84,7 @@ static void print_proof(const uint8_t *payload, size_t len, const FalgnustSectio
 static int list(Source *s) {
     FalgnustSection section = falgnust_decode_evr0_section(
         s->input.bytes, s->input.len, 0,
-        s->propositions, s->most_propositions, s->proofs, s->most_proofs, s->depths, s->most_proofs);
+        s->propositions, s->most_propositions, s->proofs, s->most_proofs, s->depths, s->most_proofs, s->marks, s->most_proofs);
     if (!section.accepted)
         return refused(section.refusal);
     const uint8_t *payload = s->input.bytes + 8;
@@ -91,7 +94,7 @@ static int list(Source *s) {
     for (size_t i = 0; i < section.propositions; i++)
         print_proposition(payload, len, i, s->propositions[i]);
     for (size_t i = 0; i < section.proofs; i++)
-        print_proof(payload, len, &section, s->proofs[i], s->depths[i]);
+        print_proof(payload, len, &section, s->proofs[i], s->depths[i], s->marks[i]);
     return 0;
 }
 

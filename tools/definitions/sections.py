@@ -1,4 +1,4 @@
-"""Sections: `decodeSection`, with the cursor, the starts of propositions and proofs, and the depths."""
+"""Sections: `decodeSection`, with the cursor, the starts of propositions and proofs, the depths, and `marksOf`, which the Rust does not have."""
 from terms import listed, numbers, refused
 
 CRATE = "evr0_section"
@@ -11,9 +11,10 @@ use Rattle.local_format.specs.Refusal.{Kind, invalid, limit}
 use Rattle.evr0_section.specs.Head.{Room}
 use Rattle.evr0_section.specs.Rows.{Entry}
 use Rattle.evr0_section.specs.Section.{Section, decodeSection}
+use Rattle.evr0_section.specs.Marks.{marksOf}
 
 pub data Told : Type 0 where
-  accepted : ℕ → List ℕ → List ℕ → List ℕ → Told
+  accepted : ℕ → List ℕ → List ℕ → List ℕ → List ℕ → Told
   turnedBack : Kind → ℕ → ℕ → Told
 
 startOf : {A : Type 0} → Entry A → ℕ
@@ -21,7 +22,7 @@ startOf e = e .start
 
 told : Out Section → Told
 told (ok s) =
-    accepted (s .cursor) (map startOf (s .tables .propositions .entries)) (map startOf (s .tables .proofs .entries)) (s .depths)
+    accepted (s .cursor) (map startOf (s .tables .propositions .entries)) (map startOf (s .tables .proofs .entries)) (s .depths) (marksOf s)
 told (refused r) = turnedBack (r .kind) (r .number) (r .offset)
 
 room : Room
@@ -41,5 +42,5 @@ def answer(line):
     if line.startswith("refused"):
         return refused(line)
     fields = dict(item.split("=", 1) for item in line.split(" ")[1:])
-    tables = " ".join(numbers(fields[name]) for name in ["propositions", "proofs", "depths"])
+    tables = " ".join(numbers(fields[name]) for name in ["propositions", "proofs", "depths", "marks"])
     return f"accepted {fields['cursor']} {tables}"

@@ -3,6 +3,7 @@
 //! SEMANTIC_SRC names a checkout of skulmakov-oss/Semantic at commit a38c216cab. Its files must have the sums in sources.sha256. They are
 //! copied to OUT_DIR as they are, but for three mechanical changes: semcode_decode.rs' block function stops before its signature step, the
 //! functions in reach/ are appended, since what they call is private, and so is the loop of `decode_semcode` as a function of its own.
+//! The files of plain/, for what the Rust does not have, are copied beside them.
 
 use std::env;
 use std::fs;
@@ -12,6 +13,7 @@ use std::process::{Command, Stdio};
 
 const SUMS: &str = include_str!("sources.sha256");
 const MODULES: [&str; 3] = ["evr0", "local_format", "semcode_decode"];
+const PLAIN: [&str; 1] = ["marks"];
 
 fn main() {
     println!("cargo::rerun-if-changed=build.rs");
@@ -38,13 +40,21 @@ fn main() {
         if module == "semcode_decode" {
             text.push_str(&functions_from(&text));
         }
-        let copy = out.join(module).with_extension("rs");
-        fs::write(&copy, text).expect("a writable OUT_DIR");
-        root.push_str(&format!(
-            "#[allow(dead_code, clippy::all)]\n#[path = {copy:?}]\npub mod {module};\n"
-        ));
+        root.push_str(&copied(&out, module, text));
+    }
+    for module in PLAIN {
+        let file = PathBuf::from(format!("plain/{module}.rs"));
+        println!("cargo::rerun-if-changed={}", file.display());
+        root.push_str(&copied(&out, module, with_fault(module, read(&file))));
     }
     fs::write(out.join("modules.rs"), root).expect("a writable OUT_DIR");
+}
+
+/// Writes a module, and gives the lines that declare it.
+fn copied(out: &Path, module: &str, text: String) -> String {
+    let copy = out.join(module).with_extension("rs");
+    fs::write(&copy, text).expect("a writable OUT_DIR");
+    format!("#[allow(dead_code, clippy::all)]\n#[path = {copy:?}]\npub mod {module};\n")
 }
 
 fn read(path: &Path) -> String {

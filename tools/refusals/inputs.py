@@ -19,6 +19,7 @@ class Case:
     data: bytes
     revision: int  # of a block or file
     rooms: tuple  # lengths of the lent tables: propositions, proofs, depths; or functions, of a file, strings, symbols, paths
+    marks: int  # length of the table of marks where it differs from that of depths, or None
     asked: tuple  # (what, number) of a record by number, or None
     number: int
     kind: str
@@ -106,6 +107,9 @@ def cases():
         revision, rooms, asked = asked_of(rest)
         refused, offset = (int(n) for n in row["Answer"].split(" at "))
         form = "section" if refused <= 29 or text.startswith("EVR0") else "functions" if "from 0" in rest else "block"
+        rooms, marks = rooms or LONGEST[form], None
+        if form == "section" and len(rooms) > 3:
+            *rooms, marks = rooms
         data = b"" if text == "-" else read(text, names)
-        found.append(Case(at, form, data, revision, rooms or LONGEST[form], asked, refused, kinds[refused], offset))
+        found.append(Case(at, form, data, revision, tuple(rooms), marks, asked, refused, kinds[refused], offset))
     return found

@@ -1,5 +1,6 @@
 /* Replays the list of crates/test_replay/stdin, from standard input, through the C functions, with every lent table and the lent list of
- * symbols compared whole, up to the first answer that differs. Inputs count from 0. */
+ * symbols compared whole, up to the first answer that differs. Inputs count from 0. A section goes through both decoders. The list
+ * has no marks: those of proofs have to be 1, 2 or 3, and those past the count 0. */
 #include "falgnust.h"
 #include <stdio.h>
 #include <string.h>
@@ -8,6 +9,7 @@ enum { PAGE = 262144, ENTRIES = 65536, SYMBOLS = 65536, OLD = 0xa5 };
 
 static uint8_t page[PAGE];
 static uint64_t first[ENTRIES], second[ENTRIES], third[ENTRIES];
+static uint8_t marks[ENTRIES];
 static FalgnustDebugSymbol symbols[SYMBOLS];
 
 /* The place in the page after what was compared, and whether all of it was the same. */
@@ -46,8 +48,7 @@ static void refusal(FalgnustRefusal refused) {
     number(refused.offset, 8);
 }
 
-static void section(const uint8_t *input, size_t len, size_t cursor, size_t a, size_t b, size_t c) {
-    FalgnustSection s = falgnust_decode_evr0_section(input, len, cursor, first, a, second, b, third, c);
+static void told_section(FalgnustSection s, size_t a, size_t b, size_t c) {
     if (s.accepted) {
         const uint64_t told[] = {0, s.epoch, s.policy_at, s.issuer_at, s.policy_chars, s.issuer_chars,
                                  s.propositions, s.proofs, s.witnesses, s.parents};
@@ -62,6 +63,25 @@ static void section(const uint8_t *input, size_t len, size_t cursor, size_t a, s
     table(first, a, s.propositions);
     table(second, b, s.proofs);
     table(third, c, s.proofs);
+}
+
+static void old(size_t a, size_t b, size_t c) {
+    memset(first, OLD, a * sizeof *first);
+    memset(second, OLD, b * sizeof *second);
+    memset(third, OLD, c * sizeof *third);
+    memset(marks, OLD, c);
+    memset(symbols, OLD, b * sizeof *symbols);
+}
+
+static void section(const uint8_t *input, size_t len, size_t cursor, size_t a, size_t b, size_t c) {
+    size_t start = at;
+    told_section(falgnust_decode_evr0_unmarked(input, len, cursor, first, a, second, b, third, c), a, b, c);
+    at = start;
+    old(a, b, c);
+    FalgnustSection s = falgnust_decode_evr0_section(input, len, cursor, first, a, second, b, third, c, marks, c);
+    told_section(s, a, b, c);
+    for (size_t i = 0; i < c; i++)
+        same = same && (i < s.proofs ? 1 <= marks[i] && marks[i] <= 3 : marks[i] == 0);
 }
 
 /* A block's answer, its tables and the list. */
@@ -122,10 +142,7 @@ static void entry(void) {
     at = start + len;
     if (!same)
         return;
-    memset(first, OLD, a * sizeof *first);
-    memset(second, OLD, b * sizeof *second);
-    memset(third, OLD, c * sizeof *third);
-    memset(symbols, OLD, b * sizeof *symbols);
+    old(a, b, c);
     if (decoder == 0)
         section(page + start, len, origin, a, b, c);
     else if (decoder == 2)

@@ -76,11 +76,37 @@ pub fn read_string(bytes: &[u8], at: usize) -> Text {
     at_place(falgnust_read_string, bytes, at)
 }
 
-/// The section at a cursor.
+/// The section at a cursor. Each proof's mark goes to a table of bytes that is lent, too: 1 where every walk down from the proof ends at a
+/// positive witness, 2 where every one ends at a negative witness, else 3.
 #[inline]
-pub fn decode_evr0_section(bytes: &[u8], cursor: usize, lent: SectionTables) -> Section {
+pub fn decode_evr0_section(
+    bytes: &[u8],
+    cursor: usize,
+    lent: SectionTables,
+    marks: &mut [u8],
+) -> Section {
     unsafe {
         falgnust_decode_evr0_section(
+            bytes.as_ptr(),
+            bytes.len(),
+            cursor,
+            lent.propositions.as_mut_ptr(),
+            lent.propositions.len(),
+            lent.proofs.as_mut_ptr(),
+            lent.proofs.len(),
+            lent.depths.as_mut_ptr(),
+            lent.depths.len(),
+            marks.as_mut_ptr(),
+            marks.len(),
+        )
+    }
+}
+
+/// The section at a cursor, without the marks.
+#[inline]
+pub fn decode_evr0_unmarked(bytes: &[u8], cursor: usize, lent: SectionTables) -> Section {
+    unsafe {
+        falgnust_decode_evr0_unmarked(
             bytes.as_ptr(),
             bytes.len(),
             cursor,

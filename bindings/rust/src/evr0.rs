@@ -2,7 +2,7 @@
 //! witnesses.
 //!
 //! Added beside the original: [`Evr0Error::number`], `Display` and `Error` for [`Evr0Error`], the records by number
-//! ([`proposition_number`], [`proof_number`], [`witness_number`], [`parent_number`]), [`way_down`] and [`authorised`].
+//! ([`proposition_number`], [`proof_number`], [`witness_number`], [`parent_number`]), [`way_down`], [`authorised`] and [`marks`].
 
 use crate::calls;
 use crate::messages;
@@ -10,10 +10,12 @@ use crate::raw;
 use std::fmt;
 
 mod ask;
+mod marks;
 mod records;
 mod tables;
 
 pub use ask::*;
+pub use marks::marks;
 use tables::{Counted, Few};
 
 /// The longest payload.
@@ -172,12 +174,12 @@ pub struct DecodedEvr0 {
 /// ```
 pub fn decode_evr0_section(bytes: &[u8], cursor: &mut usize) -> Result<DecodedEvr0, Evr0Error> {
     let mut few = Few::default();
-    let mut section = calls::decode_evr0_section(bytes, *cursor, few.lent());
+    let mut section = calls::decode_evr0_unmarked(bytes, *cursor, few.lent());
     let (mut propositions, mut proofs) = (&few.propositions[..], &few.proofs[..]);
     let mut counted;
     if section.refusal.number == 61 {
         counted = Counted::new(bytes, section.refusal);
-        section = calls::decode_evr0_section(bytes, *cursor, counted.lent());
+        section = calls::decode_evr0_unmarked(bytes, *cursor, counted.lent());
         (propositions, proofs) = (&counted.propositions, &counted.proofs);
     }
     if !section.accepted {

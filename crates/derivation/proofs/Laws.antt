@@ -1,4 +1,4 @@
--- The last pass and the way down by one step, in the terms of a loop: k are left, and then k - 1.
+-- The last pass, the way down and the marks by one step, in the terms of a loop: k are left, and then k - 1.
 use Prim.Native.Nat.{ℕ, zero, suc, _+_, _-_, _*_, _≤_, _<_, max}
 use mathlib.Core.Path.{_≡_, refl, sym, _∙_}
 use mathlib.Core.Bool.{Bool, true, false, _&&_}
@@ -15,6 +15,8 @@ use Rattle.derivation.specs.Rule.{polarityFits}
 use Rattle.derivation.specs.Section.{Proof, Section, proofAt, witnessAt, parentAt}
 use Rattle.derivation.specs.Pass.{agrees, parentsFrom, witnessesFrom, depthOf, depthsFrom}
 use Rattle.derivation.specs.Down.{witness, spent, downFrom}
+use Rattle.derivation.specs.InOrder.{inOrder, gathered}
+use Rattle.derivation.specs.Mark.{endPolarity, endMark, joined, markOf}
 
 module _ (cellsAt : ℕ) (s : Section) where
   module _ (p : Proof) where
@@ -123,3 +125,35 @@ module _ (s : Section) where
   unfolding downFrom
   down-turn zero k moves h z = absurd (omega arith)
   down-turn (suc limit) k moves h z = simp (ne-eqb _ _ z, sub-one, add-one)
+
+-- ---- A number for each proof
+module _ (f : ℕ → List ℕ → ℕ) where
+  pub in-order-none : (n i : ℕ) (xs : List ℕ) → n ≤ 0 → inOrder f n i xs ≡ xs
+  unfolding inOrder
+  in-order-none zero i xs h = refl
+  in-order-none (suc n) i xs h = absurd (omega arith)
+
+  pub in-order-turn : (n i : ℕ) (xs : List ℕ) → 0 < n → inOrder f n i xs ≡ inOrder f (n - 1) (i + 1) (xs ++ (f i xs ∷ []))
+  unfolding inOrder
+  in-order-turn zero i xs h = absurd (omega arith)
+  in-order-turn (suc n) i xs h = simp (sub-one, add-one)
+
+module _ (with : ℕ → ℕ → ℕ) (s : Section) (xs : List ℕ) where
+  pub gathered-none : (k c m : ℕ) → k ≤ 0 → gathered with s xs k c m ≡ m
+  unfolding gathered
+  gathered-none zero c m h = refl
+  gathered-none (suc k) c m h = absurd (omega arith)
+
+  pub gathered-turn : (k c m : ℕ) → 0 < k → gathered with s xs k c m ≡ gathered with s xs (k - 1) (c + 1) (with m (getD xs (parentAt s c) 0))
+  unfolding gathered
+  gathered-turn zero c m h = absurd (omega arith)
+  gathered-turn (suc k) c m h = simp (sub-one, add-one)
+
+module _ (s : Section) (i : ℕ) (ms : List ℕ) where
+  pub mark-end : proofAt s i .parentCount ≡ 0 → markOf s i ms ≡ endMark (endPolarity s i)
+  unfolding markOf
+  mark-end z = simp (eq-eqb _ _ z)
+
+  pub mark-inner : (proofAt s i .parentCount ≡ 0 → ⊥) → markOf s i ms ≡ gathered joined s ms (proofAt s i .parentCount) (proofAt s i .firstParent) 0
+  unfolding markOf
+  mark-inner z = simp (ne-eqb _ _ z)

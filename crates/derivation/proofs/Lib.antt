@@ -10,3 +10,5 @@ pub mod Authorised
 pub mod Laws
 pub mod Reach
 pub mod Numbers
+pub mod InOrder
+pub mod Mark

@@ -4,3 +4,5 @@ pub mod Pass
 pub mod Walk
 pub mod Demand
 pub mod Down
+pub mod InOrder
+pub mod Mark

@@ -48,7 +48,7 @@ pub fn evidence(input: &[u8], output: &mut [u8]) -> usize
     let mut propositions = [0u64; 4369];
     let mut proofs = [0u64; 1872];
     let mut depths = [0u64; 1872];
-    let decoded = evr0::section::decode_evr0_section(
+    let decoded = evr0::section::decode_evr0_unmarked(
         input,
         0,
         &mut propositions,

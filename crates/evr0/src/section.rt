@@ -196,8 +196,9 @@ fn decode_at(
     }
 }
 
-// Decodes the section at `cursor`. Each lent table is filled to its count and has zeros past it; a refusal leaves zeros in all three.
-pub fn decode_evr0_section(
+// Decodes the section at `cursor`, without the marks of its proofs. Each lent table is filled to its count and has zeros past it; a
+// refusal leaves zeros in all three.
+pub fn decode_evr0_unmarked(
     bytes: &[u8],
     cursor: usize,
     propositions: &mut [u64],

@@ -112,6 +112,10 @@ module _ (room : Room) (bytes : List ℕ) (cursor : ℕ) (d : Section) (decodes 
   pub parents-at : d .tables .witnesses .next + 4 * counts .parents ≡ length p
   parents-at = sym (fixed-size parentRow p 4 parent-size parents) ∙ facts .tables .whole
 
+  -- and the witnesses those before them
+  pub witnesses-at : d .tables .proofs .next + 84 * counts .witnesses ≡ d .tables .witnesses .next
+  witnesses-at = sym (fixed-size (witnessRow 4 counts) p 84 (witness-size counts) witnesses)
+
   pub parent-start : (k : ℕ) {e : Entry ℕ} → k < counts .parents → numbered k (d .tables .parents .entries) ≡ ok e
       → parentPlace (length p) (counts .parents) k ≡ e .start
   parent-start k l h = sym (parent-there (length p) (counts .parents) k l (omega (arith, fixed-start parentRow p 4 parent-size parents k h, parents-at)))
@@ -119,6 +123,5 @@ module _ (room : Room) (bytes : List ℕ) (cursor : ℕ) (d : Section) (decodes 
   pub witness-start : (k : ℕ) {e : Entry WitnessRecord} → k < counts .witnesses → numbered k (d .tables .witnesses .entries) ≡ ok e
       → witnessPlace (length p) (counts .witnesses) (counts .parents) k ≡ e .start
   witness-start k l h =
-      let row = witnessRow 4 counts in
       sym (witness-there (length p) (counts .witnesses) (counts .parents) k l
-      (omega (arith, fixed-start row p 84 (witness-size counts) witnesses k h, fixed-size row p 84 (witness-size counts) witnesses, parents-at)))
+      (omega (arith, fixed-start (witnessRow 4 counts) p 84 (witness-size counts) witnesses k h, witnesses-at, parents-at)))

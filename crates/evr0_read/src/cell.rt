@@ -33,7 +33,7 @@ pub enum ParentEntry {
 }
 
 // Where so many witnesses that end at a place start; 0 where they do not fit.
-fn before_witnesses(end: usize, count: usize) -> usize
+pub fn before_witnesses(end: usize, count: usize) -> usize
     ensures { λ r. ⌜ r ≡ end - 84 * count ⌝ }
 {
     if end / 84 < count {

@@ -9,7 +9,7 @@ use crate::cell::witness_place;
 use crate::table::payload_of;
 use crate::table::start_at;
 use evr0::section::Outcome;
-use evr0::section::decode_evr0_section;
+use evr0::section::decode_evr0_unmarked;
 use evr0_fields::number::ProofNumber;
 use evr0_fields::number::PropositionIndex;
 use evr0_fields::number::WitnessNumber;
@@ -119,7 +119,7 @@ pub fn find(
     ensures { λ r. ⌜ Finds wanted (now (bytes .entry)) cursor (lentOf (now (propositions .entry)) (now (proofs .entry)) (now (depths .entry)))
         (lentOf (now (propositions .exit)) (now (proofs .exit)) (now (depths .exit))) (foundOut r) ⌝ }
 {
-    let decoded = decode_evr0_section(bytes, cursor, propositions, proofs, depths);
+    let decoded = decode_evr0_unmarked(bytes, cursor, propositions, proofs, depths);
     let end = decoded.cursor;
     let outcome = decoded.outcome;
     match outcome {

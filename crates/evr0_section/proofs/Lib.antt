@@ -12,3 +12,4 @@ pub mod SectionWithin
 pub mod Counted
 pub mod Settled
 pub mod Neighbours
+pub mod Marks

@@ -7,3 +7,4 @@ pub mod Section
 pub mod Demand
 pub mod Characters
 pub mod Neighbours
+pub mod Marks

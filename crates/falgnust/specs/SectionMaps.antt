@@ -4,8 +4,11 @@ use mathlib.Core.Bool.{true, false}
 use mathlib.Core.Path.{_≡_}
 use mathlib.Core.List.{List}
 use Rattle.local_format.specs.Out.{Out, ok, refused}
+use Rattle.derivation.specs.Rule.{fourRules}
 use Rattle.evr0_section.specs.Demand.{Demand3}
+use Rattle.evr0_section.specs.Marks.{MarksByRules}
 use Rattle.evr0.specs.Answer.{Accepted, Answer, answerOf, Lent, Filled, decodeIn, roomOf}
+use Rattle.evr0_marks.specs.Answer as marked
 use Rattle.falgnust.specs.Maps.{flatRefusal, noRefusal}
 use Rattle.falgnust.specs.declared.section.Section.{Section}
 
@@ -49,8 +52,15 @@ flatOutcome source contract cursor (refused r) =
 abbrev pub flatSection : Answer → Section
 flatSection a = flatOutcome (a .sourceSet) (a .compilerContract) (a .cursor) (a .outcome)
 
--- what a call of the section decoder leaves: the flat struct, the lent tables, and that demand 3 holds
-pub record Decodes (bytes : List ℕ) (cursor : ℕ) (before after : Lent) (r : Section) : Type 0 where
+-- what a call of the section decoder leaves: the flat struct, the lent tables, that demand 3 holds and that each mark says what it is to say
+pub record Decodes (bytes : List ℕ) (cursor : ℕ) (before after : marked.Lent) (r : Section) : Type 0 where
+  pub answer : r ≡ flatSection (answerOf cursor (marked.decodeIn before bytes cursor))
+  pub tables : marked.Filled (marked.decodeIn before bytes cursor) before after
+  pub demand3 : Demand3 (marked.roomOf before) bytes cursor
+  pub marked : MarksByRules fourRules (marked.roomOf before) bytes cursor
+
+-- the same without marks
+pub record DecodesUnmarked (bytes : List ℕ) (cursor : ℕ) (before after : Lent) (r : Section) : Type 0 where
   pub answer : r ≡ flatSection (answerOf cursor (decodeIn before bytes cursor))
   pub tables : Filled (decodeIn before bytes cursor) before after
   pub demand3 : Demand3 (roomOf before) bytes cursor

@@ -1,14 +1,16 @@
-// An evidence section: what is given of it, with proposition starts, proof starts and depths in three lent tables.
+// An evidence section: what is given of it, with proposition starts, proof starts, depths and marks in lent tables.
 ghost use mathlib.Core.Path.{_≡_};
 ghost use Rattle.evr0.specs.Answer.{lentOf};
 ghost use Rattle.evr0.specs.AnswerMaps.{answerOut};
-ghost use Rattle.falgnust.specs.SectionMaps.{flatSection, Decodes};
+ghost use Rattle.evr0_marks.specs.Answer.{withMarks};
+ghost use Rattle.falgnust.specs.SectionMaps.{flatSection, Decodes, DecodesUnmarked};
 use crate::refusal::Refusal;
 use crate::refusal::flat_refusal;
 use crate::refusal::no_refusal;
 use evr0::section::DecodedEvr0;
 use evr0::section::Outcome;
-use evr0::section::decode_evr0_section;
+use evr0::section::decode_evr0_unmarked;
+use evr0_marks::section::decode_evr0_section;
 
 // The digests, the epoch, the places in the payload of both namespaces' lengths, how many characters each has, and the counts; or a
 // refusal, with zeros beside it. The cursor is the one that was brought where the section is refused.
@@ -80,11 +82,29 @@ pub extern "C" fn falgnust_decode_evr0_section(
     propositions: &mut [u64],
     proofs: &mut [u64],
     depths: &mut [u64],
+    marks: &mut [u8],
 ) -> Section
     ensures { λ r. ⌜ Decodes (now (bytes .entry)) cursor
+        (withMarks (lentOf (now (propositions .entry)) (now (proofs .entry)) (now (depths .entry))) (now (marks .entry)))
+        (withMarks (lentOf (now (propositions .exit)) (now (proofs .exit)) (now (depths .exit))) (now (marks .exit))) r ⌝ }
+{
+    let decoded = decode_evr0_section(bytes, cursor, propositions, proofs, depths, marks);
+    flat_section(decoded)
+}
+
+// Without marks.
+#[no_mangle]
+pub extern "C" fn falgnust_decode_evr0_unmarked(
+    bytes: &[u8],
+    cursor: usize,
+    propositions: &mut [u64],
+    proofs: &mut [u64],
+    depths: &mut [u64],
+) -> Section
+    ensures { λ r. ⌜ DecodesUnmarked (now (bytes .entry)) cursor
         (lentOf (now (propositions .entry)) (now (proofs .entry)) (now (depths .entry)))
         (lentOf (now (propositions .exit)) (now (proofs .exit)) (now (depths .exit))) r ⌝ }
 {
-    let decoded = decode_evr0_section(bytes, cursor, propositions, proofs, depths);
+    let decoded = decode_evr0_unmarked(bytes, cursor, propositions, proofs, depths);
     flat_section(decoded)
 }

@@ -1,7 +1,8 @@
-// Zeros in a lent table of 64-bit numbers.
+// Zeros in a lent table, of 64-bit numbers or of bytes, and bytes copied into one.
+ghost use Prim.Native.Nat.{min};
 ghost use mathlib.Core.Path.{_≡_};
 ghost use mathlib.Core.List.{[]};
-ghost use lib.ListN.{length, take};
+ghost use lib.ListN.{length, take, drop};
 ghost use Rattle.lent_table.specs.Lent.{lent};
 
 // Zeros in the whole table.
@@ -22,4 +23,55 @@ pub fn clear_from(table: &mut [u64], from: usize)
     if from < table.len() {
         clear(&mut table[from..]);
     }
+}
+
+// ---- Tables of bytes
+
+pub fn clear_bytes(table: &mut [u8])
+    ensures { λ r. ⌜ now (table .exit) ≡ lent (length (now (table .entry))) [] ⌝ }
+{
+    let mut k = 0;
+    while k < table.len() {
+        table[k] = 0;
+        k += 1;
+    }
+}
+
+pub fn clear_bytes_from(table: &mut [u8], from: usize)
+    ensures { λ r. ⌜ now (table .exit) ≡ lent (length (now (table .entry))) (take from (now (table .entry))) ⌝ }
+{
+    if from < table.len() {
+        clear_bytes(&mut table[from..]);
+    }
+}
+
+// The lesser of two lengths.
+pub fn least(a: usize, b: usize) -> usize
+    ensures { λ r. ⌜ r ≡ min a b ⌝ }
+{
+    if a < b {
+        return a;
+    }
+    b
+}
+
+// The table becomes as many bytes as `count` from a place on, and zeros past them. Bytes that are not there, and those for which the table
+// has no entry, are left out.
+pub fn copy_bytes(table: &mut [u8], bytes: &[u8], at: usize, count: usize)
+    ensures { λ r. ⌜ now (table .exit)
+        ≡ lent (length (now (table .entry))) (take (length (now (table .entry))) (take count (drop at (now (bytes .entry))))) ⌝ }
+{
+    if bytes.len() < at {
+        clear_bytes(table);
+        return;
+    }
+    let part = &bytes[at..];
+    let room = least(part.len(), table.len());
+    let total = least(count, room);
+    let mut done = 0;
+    while done < total {
+        table[done] = part[done];
+        done += 1;
+    }
+    clear_bytes_from(table, total);
 }

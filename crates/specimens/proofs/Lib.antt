@@ -3,6 +3,7 @@ pub mod Specimens
 pub mod Printed
 pub mod Shown
 pub mod Small
+pub mod Marked
 pub mod Front
 pub mod Each
 pub mod Chains

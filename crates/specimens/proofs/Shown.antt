@@ -50,7 +50,13 @@ module _ (s : Section) (cells : ℕ) (e : shown s ≡ ok (record { section = s; 
       let q : d .0 .tables ≡ t = ok-same (sym (p .tables) ∙ read .reads .read) in
       let again : depths (d .0 .tables .witnesses .next) (sectionOf (d .0 .tables)) ≡ ok ds =
       ap (λ (t : Tables). depths (t .witnesses .next) (sectionOf t)) q ∙ same-depths ∙ h in
-      record { reads = read .reads; decoded = d .0; accepted = d .1; depths = ok-same (sym (p .depths) ∙ again) }
+      record {
+        reads = read .reads;
+        decoded = d .0;
+        accepted = d .1;
+        same = ap sectionOf q ∙ read .reads .same;
+        depths = ok-same (sym (p .depths) ∙ again);
+      }
 
   pub refuses : (number offset : ℕ) → depths cells s ≡ refuse number offset → (start : ℕ) (picks : List ℕ) (last : ℕ) → Walk s start picks last
       → Fails s start picks

@@ -15,6 +15,19 @@ joins =
       parents = 0 ∷ 1 ∷ 2 ∷ 3 ∷ 2 ∷ 4 ∷ 2 ∷ 5 ∷ [];
     }
 
+-- two positive and two negative proofs, a join of the positive ones, of the negative ones and of one of each, an OP on the first and on the
+-- last of these joins, a join of both OP, and a join of the first join and the OP on it
+unfoldable pub sides : Section
+sides =
+    record {
+      propositions = 1;
+      proofs =
+          leaf posWitness1 0 0 0 ∷ leaf posWitness1 1 1 0 ∷ leaf negWitness1 2 2 0 ∷ leaf negWitness1 3 3 0 ∷
+          join 4 4 0 ∷ join 5 4 2 ∷ join 6 4 4 ∷ op 7 7 4 6 ∷ op 7 8 4 7 ∷ join 9 4 8 ∷ join 10 4 10 ∷ [];
+      witnesses = witness 0 1 ∷ witness 1 1 ∷ witness 2 0 ∷ witness 3 0 ∷ [];
+      parents = 0 ∷ 1 ∷ 2 ∷ 3 ∷ 1 ∷ 2 ∷ 4 ∷ 6 ∷ 7 ∷ 8 ∷ 4 ∷ 7 ∷ [];
+    }
+
 -- ---- A chain: a positive proof and n OP proofs, each on the one before
 
 unfoldable pub opsFrom : ℕ → ℕ → List Proof

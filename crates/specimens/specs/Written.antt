@@ -37,6 +37,7 @@ pub record Accepts (s : Section) (ds : List ℕ) : Type 0 where
   pub reads : Reads s
   pub decoded : evr0.Section
   pub accepted : decodeSection enough (written s) 0 ≡ ok decoded
+  pub same : sectionOf (decoded .tables) ≡ s
   pub depths : decoded .depths ≡ ds
 
 -- the tables read, some walk of the section fails, and the section is refused with this number at this offset

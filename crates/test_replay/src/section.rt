@@ -98,7 +98,7 @@ fn decoded(
     proofs: &mut [u64],
     depths: &mut [u64],
 ) -> Held {
-    let decoded = evr0::section::decode_evr0_section(input, cursor, propositions, proofs, depths);
+    let decoded = evr0::section::decode_evr0_unmarked(input, cursor, propositions, proofs, depths);
     answer(list, at, decoded, propositions, proofs, depths)
 }
 

@@ -3,6 +3,7 @@
 mod asked;
 mod blocks;
 mod functions;
+mod marks;
 mod measure;
 mod rows;
 mod rust_crate;
@@ -43,7 +44,9 @@ fn table(prefix: &str) {
             let row = (plan.make)();
             let m = measure(&row);
             print_row(&row, &m);
-            ratios.push((m.ratio(), row.name));
+            if !row.name.starts_with("against") {
+                ratios.push((m.ratio(), row.name));
+            }
         }
     }
     ratios.sort_by(|a, b| b.0.total_cmp(&a.0));

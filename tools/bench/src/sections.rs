@@ -136,7 +136,7 @@ fn row(name: String, files: &[Vec<u8>], rooms: [usize; 3]) -> Row {
 
 fn port(file: &[u8], tables: &mut [Vec<u64>; 3]) -> (Answer<Head>, usize) {
     let [propositions, proofs, depths] = tables;
-    port::section::decode_evr0_section(file, 0, propositions, proofs, depths)
+    port::section::decode_evr0_unmarked(file, 0, propositions, proofs, depths)
 }
 
 /// Counts, epoch and cursor of a result; the offset of a refusal.
@@ -152,7 +152,7 @@ pub fn rust_summary(file: &[u8]) -> u64 {
     }
 }
 
-fn port_summary((answer, cursor): (Answer<Head>, usize)) -> u64 {
+pub fn port_summary((answer, cursor): (Answer<Head>, usize)) -> u64 {
     match answer {
         Ok(head) => (head.counts.iter().sum::<usize>() + head.epoch as usize + cursor) as u64,
         Err(refusal) => refusal.offset as u64,

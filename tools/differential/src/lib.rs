@@ -10,6 +10,7 @@ pub mod function_binding;
 pub mod function_compare;
 pub mod function_numbers;
 pub mod functions;
+pub mod marks;
 pub mod neighbours;
 pub mod section_binding;
 pub mod section_compare;

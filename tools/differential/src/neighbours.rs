@@ -1,7 +1,7 @@
 //! Pairs of files that hold the same section at one cursor, whole in both, with other bytes before the cursor and behind the payload, and of
 //! other lengths: the port answers both alike, with the same tables and the same records. The Rust is not asked.
 
-use crate::section_compare::{call, rooms, what};
+use crate::section_compare::{call_marked, rooms, what};
 use crate::tally::Tally;
 use falgnust::evr0;
 use inputs::cases::{self, SectionCase};
@@ -11,7 +11,7 @@ use inputs::random::Random;
 const SHARE: usize = 5;
 
 pub fn run(r: &mut Random, count: usize) -> Tally {
-    let mut tally = Tally::alone("neighbours");
+    let mut tally = Tally::alone("neighbours", &[]);
     while tally.inputs() < (count / SHARE) as u64 {
         let case = if r.one_in(400) {
             cases::large_section(r)
@@ -36,13 +36,23 @@ fn pair(tally: &mut Tally, r: &mut Random, section: &[u8]) {
     let cursor = r.below(40);
     let [one, other] = [(); 2].map(|()| neighboured(r, section, cursor));
     let mut room = rooms(&one);
+    let mut marks = room[2];
     if r.one_in(4) {
-        room[r.below(3)] = r.below(3);
+        let short = r.below(3);
+        match r.below(4) {
+            3 => marks = short,
+            table => room[table] = short,
+        }
     }
-    let (answer, ..) = call(&one, room);
-    tally.input((answer.map_or_else(|refusal| refusal.number, |_| 0), ""));
-    tally.same(&call(&one, room), &call(&other, room), || {
-        format!("room {room:?}, {}, beside {}", what(&one), what(&other))
+    let called = call_marked(&one, room, marks);
+    let number = called.0.0.map_or_else(|refusal| refusal.number, |_| 0);
+    tally.input((number, ""));
+    tally.same(&called, &call_marked(&other, room, marks), || {
+        format!(
+            "room {room:?}, marks {marks}, {}, beside {}",
+            what(&one),
+            what(&other)
+        )
     });
     tally.same(&records(&one), &records(&other), || {
         format!("the binding, {}, beside {}", what(&one), what(&other))

@@ -1,4 +1,5 @@
-//! One section on both sides: the result, the cursor, and every entry of the three lent tables.
+//! One section on both sides: the result, the cursor, and every entry of the three lent tables that the Rust has the entries of. It goes
+//! through both decoders of the port; the marks that one of them fills are left out here, and compared in marks.rs.
 
 use crate::block_compare::{OLD, lent};
 use crate::section_binding;
@@ -9,7 +10,7 @@ use answers::refusal::{Kind, Refusal};
 use answers::section::{Head, Section};
 use inputs::cases::SectionCase;
 use inputs::section_conditions::{condition, counts};
-use port::section::decode_evr0_section;
+use port::section::{decode_evr0_section, decode_evr0_unmarked};
 
 /// Room for propositions, proofs and depths.
 pub type Rooms = [usize; 3];
@@ -26,9 +27,7 @@ pub fn compare(tally: &mut Tally, case: &SectionCase) {
     }
     let rust = rust.map(|(section, _)| section);
     let rooms = rooms(case);
-    tally.same(&expected(case, &rust, rooms), &call(case, rooms), || {
-        what(case)
-    });
+    both(tally, case, rooms, &expected(case, &rust, rooms));
     if !matches!(&rust, Err(refusal) if refusal.number < 16) {
         short_tables(tally, case);
     }
@@ -43,16 +42,46 @@ pub fn rooms(case: &SectionCase) -> Rooms {
 
 pub type Called = (Answer<Head>, usize, [Vec<u64>; 3]);
 
-/// The port's answer, the cursor and the tables after it.
-pub fn call(case: &SectionCase, rooms: Rooms) -> Called {
+/// Both decoders of the port, with marks as many as depths.
+fn both(tally: &mut Tally, case: &SectionCase, rooms: Rooms, expected: &Called) {
+    tally.same(expected, &call(case, rooms), || {
+        format!("unmarked, room {rooms:?}, {}", what(case))
+    });
+    let (marked, _) = call_marked(case, rooms, rooms[2]);
+    tally.same(expected, &marked, || {
+        format!("room {rooms:?}, {}", what(case))
+    });
+}
+
+/// The port's answer without marks, the cursor and the tables after it.
+fn call(case: &SectionCase, rooms: Rooms) -> Called {
     let mut tables = rooms.map(|room| vec![OLD; room]);
     let [propositions, proofs, depths] = &mut tables;
     let (answer, cursor) =
-        decode_evr0_section(&case.file, case.cursor, propositions, proofs, depths);
+        decode_evr0_unmarked(&case.file, case.cursor, propositions, proofs, depths);
     (answer, cursor, tables)
 }
 
-fn expected(case: &SectionCase, rust: &Answer<Section>, rooms: Rooms) -> Called {
+/// The port's answer, the cursor, the tables after it, and the marks in so many bytes.
+pub fn call_marked(case: &SectionCase, rooms: Rooms, marks: usize) -> (Called, Vec<u8>) {
+    let mut tables = rooms.map(|room| vec![OLD; room]);
+    let mut marks = vec![OLD_MARK; marks];
+    let [propositions, proofs, depths] = &mut tables;
+    let (answer, cursor) = decode_evr0_section(
+        &case.file,
+        case.cursor,
+        propositions,
+        proofs,
+        depths,
+        &mut marks,
+    );
+    ((answer, cursor, tables), marks)
+}
+
+/// What a table of marks holds before a call.
+const OLD_MARK: u8 = 0xAA;
+
+pub fn expected(case: &SectionCase, rust: &Answer<Section>, rooms: Rooms) -> Called {
     match rust {
         Ok(s) => {
             let t = &s.tables;
@@ -98,9 +127,6 @@ fn short_tables(tally: &mut Tally, case: &SectionCase) {
         let mut rooms = needed;
         rooms[table] -= 1;
         tally.input((61, SHORT[table]));
-        let expected = expected(case, &Err(refusal), rooms);
-        tally.same(&expected, &call(case, rooms), || {
-            format!("room {rooms:?}, {}", what(case))
-        });
+        both(tally, case, rooms, &expected(case, &Err(refusal), rooms));
     }
 }

@@ -49,10 +49,10 @@ impl Tally {
     }
 
     /// A part that the port answers alone.
-    pub fn alone(part: &'static str) -> Self {
+    pub fn alone(part: &'static str, reachable: &'static [Outcome]) -> Self {
         Tally {
             rust: false,
-            ..Tally::new(part)
+            ..Tally::of(part, reachable)
         }
     }
 

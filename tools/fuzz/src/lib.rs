@@ -6,7 +6,7 @@ mod mutate;
 pub use input::{Case, bytes, case};
 
 use differential::tally::Tally;
-use differential::{block_compare, block_numbers, section_compare, section_numbers};
+use differential::{block_compare, block_numbers, marks, section_compare, section_numbers};
 use differential::{function_compare, function_numbers};
 
 /// Tries one input.
@@ -33,6 +33,7 @@ fn compare(case: &Case) {
             let rust = oracle::section::section(&case.file, case.cursor);
             section_compare::compare(&mut tally, case);
             section_numbers::compare(&mut tally, case, &rust);
+            marks::compare(&mut tally, case, &rust);
         }
         Case::Block(case) => {
             let rust = oracle::block::block(&case.code, case.base, case.revision);

@@ -1,6 +1,7 @@
 //! Which condition of document 01's table a section met: the clause, the field or the text behind a refusal's number. Only for counts and
 //! for picking inputs; no comparison rests on it.
 
+use answers::Answer;
 use answers::refusal::Refusal;
 
 /// Every condition that a section can meet, but for 61. 14 and 15 cannot be given.
@@ -254,6 +255,26 @@ pub fn counts(bytes: &[u8], cursor: usize) -> ([u32; 4], usize) {
     let cut = records.read(&bytes[start..]);
     assert!(cut.is_ok() || records.counts_at != 0, "the head reads");
     (records.counts, start + records.counts_at + 16)
+}
+
+/// The same of a section that is accepted, or refused after the checks of its counts: at a record, or in the last pass.
+pub fn counts_passed<T>(
+    bytes: &[u8],
+    cursor: usize,
+    answer: &Answer<T>,
+) -> Option<([u32; 4], usize)> {
+    match answer {
+        Err(refusal) if refusal.number < 5 || (10..16).contains(&refusal.number) => None,
+        Err(refusal) if refusal.number < 10 => {
+            let mut records = Records::default();
+            let start = cursor + 8;
+            let _ = records.read(&bytes[start..]);
+            let after = start + records.counts_at + 16;
+            let at_record = records.counts_at != 0 && refusal.offset >= after;
+            at_record.then_some((records.counts, after))
+        }
+        _ => Some(counts(bytes, cursor)),
+    }
 }
 
 fn clause(s: &Records, number: u8, at: usize) -> &'static str {

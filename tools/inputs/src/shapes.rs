@@ -107,7 +107,7 @@ fn proposition(kind: &[u8], numbers: [u32; 3]) -> Proposition {
 }
 
 /// Specimen 1 with one proposition.
-fn with_one_proposition(r: &mut Random) -> Section {
+pub fn with_one_proposition(r: &mut Random) -> Section {
     let mut s = Section::empty(r);
     s.propositions.push(proposition(b"k", [1, 2, 3]));
     s

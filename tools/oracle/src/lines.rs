@@ -2,6 +2,7 @@
 
 use crate::block::block;
 use crate::functions::functions;
+use crate::marks::marks;
 use crate::section::section;
 use answers::Answer;
 use answers::block::{Activation, Block, Component, Event, Execution, Path};
@@ -25,14 +26,15 @@ pub fn span_line(s: Span) -> String {
 }
 
 pub fn section_line(bytes: &[u8], cursor: usize) -> Answer<String> {
-    let (s, _) = section(bytes, cursor)?;
+    let (s, decoded) = section(bytes, cursor)?;
     Ok(format!(
-        "cursor={} counts={} depths={} propositions={} proofs={} policy={} issuer={} policy_chars={} \
+        "cursor={} counts={} depths={} marks={} propositions={} proofs={} policy={} issuer={} policy_chars={} \
          issuer_chars={} epoch={} \
          source_set={} compiler_contract={}",
         s.cursor,
         list(s.head.counts),
         list(&s.tables.depths),
+        list(marks(&decoded)),
         list(&s.tables.propositions),
         list(&s.tables.proofs),
         s.head.policy,

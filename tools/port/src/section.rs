@@ -4,10 +4,29 @@ use crate::refusal;
 use answers::Answer;
 use answers::section::Head;
 use falgnust::calls::{self, SectionTables};
+use falgnust::raw;
 
-/// The answer, and the cursor after the call. Starts and depths go to the lent tables.
+/// The answer, and the cursor after the call. Starts, depths and marks go to the lent tables.
 #[inline]
 pub fn decode_evr0_section(
+    bytes: &[u8],
+    cursor: usize,
+    propositions: &mut [u64],
+    proofs: &mut [u64],
+    depths: &mut [u64],
+    marks: &mut [u8],
+) -> (Answer<Head>, usize) {
+    let lent = SectionTables {
+        propositions,
+        proofs,
+        depths,
+    };
+    answer(calls::decode_evr0_section(bytes, cursor, lent, marks))
+}
+
+/// The same without the marks.
+#[inline]
+pub fn decode_evr0_unmarked(
     bytes: &[u8],
     cursor: usize,
     propositions: &mut [u64],
@@ -19,7 +38,11 @@ pub fn decode_evr0_section(
         proofs,
         depths,
     };
-    let s = calls::decode_evr0_section(bytes, cursor, lent);
+    answer(calls::decode_evr0_unmarked(bytes, cursor, lent))
+}
+
+#[inline]
+fn answer(s: raw::Section) -> (Answer<Head>, usize) {
     if !s.accepted {
         return (Err(refusal::answer(s.refusal)), s.cursor);
     }

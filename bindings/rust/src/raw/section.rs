@@ -67,7 +67,7 @@ pub struct Authorised {
 }
 
 /// A function that asks about one number of the section at a cursor. It decodes the section anew, fills the three tables as
-/// [`falgnust_decode_evr0_section`] does, and refuses with 62 a number that the section does not have.
+/// [`falgnust_decode_evr0_unmarked`] does, and refuses with 62 a number that the section does not have.
 pub type OfSection<T> = unsafe extern "C" fn(
     bytes: *const u8,
     bytes_len: usize,
@@ -82,9 +82,24 @@ pub type OfSection<T> = unsafe extern "C" fn(
 ) -> T;
 
 unsafe extern "C" {
-    /// The section at a cursor: its head and counts. The start of each proposition and of each proof in the payload, and each proof's
-    /// depth, go to the three tables.
+    /// The section at a cursor: its head and counts. The start of each proposition and of each proof in the payload, each proof's depth
+    /// and each proof's mark go to the four tables.
     pub fn falgnust_decode_evr0_section(
+        bytes: *const u8,
+        bytes_len: usize,
+        cursor: usize,
+        propositions: *mut u64,
+        propositions_len: usize,
+        proofs: *mut u64,
+        proofs_len: usize,
+        depths: *mut u64,
+        depths_len: usize,
+        marks: *mut u8,
+        marks_len: usize,
+    ) -> Section;
+
+    /// The same without the marks.
+    pub fn falgnust_decode_evr0_unmarked(
         bytes: *const u8,
         bytes_len: usize,
         cursor: usize,

@@ -1,7 +1,7 @@
 //! How many characters both namespaces have, through the C function on slices.
 
 use crate::written::framed;
-use falgnust::calls::{SectionTables, decode_evr0_section};
+use falgnust::calls::{SectionTables, decode_evr0_unmarked};
 
 /// A section without records, with these namespaces.
 fn named(policy: &str, issuer: &str) -> Vec<u8> {
@@ -21,7 +21,7 @@ fn characters(file: &[u8]) -> (bool, usize, usize) {
         proofs: &mut [],
         depths: &mut [],
     };
-    let section = decode_evr0_section(file, 0, lent);
+    let section = decode_evr0_unmarked(file, 0, lent);
     (section.accepted, section.policy_chars, section.issuer_chars)
 }
 

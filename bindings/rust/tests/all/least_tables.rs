@@ -1,7 +1,7 @@
 //! Lent tables of the lengths that follow from a section's own length are just long enough: one entry less, and some section is refused for it.
 
 use crate::written::framed;
-use falgnust::calls::{SectionTables, decode_evr0_section};
+use falgnust::calls::{SectionTables, decode_evr0_section, decode_evr0_unmarked};
 use falgnust::evr0;
 
 /// A payload of this length with these propositions and proofs, as far as they are asked before the records are.
@@ -16,14 +16,27 @@ fn file(length: usize, propositions: usize, proofs: usize) -> Vec<u8> {
     framed(&payload)
 }
 
-/// The number of the answer with tables of these lengths.
+/// The number of the answer with tables of these lengths, and marks as many as depths.
 fn number(file: &[u8], propositions: usize, proofs: usize, depths: usize) -> u8 {
+    let number = marked(file, propositions, proofs, depths, depths);
     let lent = SectionTables {
         propositions: &mut vec![0; propositions],
         proofs: &mut vec![0; proofs],
         depths: &mut vec![0; depths],
     };
-    decode_evr0_section(file, 0, lent).refusal.number
+    assert_eq!(decode_evr0_unmarked(file, 0, lent).refusal.number, number);
+    number
+}
+
+fn marked(file: &[u8], propositions: usize, proofs: usize, depths: usize, marks: usize) -> u8 {
+    let lent = SectionTables {
+        propositions: &mut vec![0; propositions],
+        proofs: &mut vec![0; proofs],
+        depths: &mut vec![0; depths],
+    };
+    decode_evr0_section(file, 0, lent, &mut vec![0; marks])
+        .refusal
+        .number
 }
 
 fn checked(length: usize) {
@@ -42,7 +55,9 @@ fn checked(length: usize) {
     if proofs > 0 {
         assert_eq!(number(&full, 0, proofs - 1, proofs), 61);
         assert_eq!(number(&full, 0, proofs, proofs - 1), 61);
+        assert_eq!(marked(&full, 0, proofs, proofs, proofs - 1), 61);
     }
+    evr0::marks(&full, 0).ok();
     evr0::decode_evr0_section(&full, &mut 0).ok();
 
     let more = [

@@ -4,6 +4,7 @@ mod blocks;
 mod characters;
 mod functions;
 mod least_tables;
+mod marks;
 mod readme;
 mod sections;
 mod words;

@@ -2,9 +2,9 @@
 
 use crate::written::{Proof, section};
 use falgnust::calls::{
-    SectionTables, decode_evr0_section, parent_place, parent_words, proof_words, proposition_words,
-    read_parent, read_proof, read_proposition, read_text, read_witness, text_words, witness_place,
-    witness_words,
+    SectionTables, decode_evr0_unmarked, parent_place, parent_words, proof_words,
+    proposition_words, read_parent, read_proof, read_proposition, read_text, read_witness,
+    text_words, witness_place, witness_words,
 };
 
 fn proof(rule: &'static str, witness: Option<u8>, parents: Vec<u32>) -> Proof {
@@ -36,7 +36,7 @@ fn words_are_the_fields() {
         proofs: &mut proofs,
         depths: &mut depths,
     };
-    let decoded = decode_evr0_section(&file, 0, lent);
+    let decoded = decode_evr0_unmarked(&file, 0, lent);
     assert!(decoded.accepted);
     let payload = &file[8..];
 

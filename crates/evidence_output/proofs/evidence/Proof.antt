@@ -20,28 +20,28 @@ returns c =
     rw (← too-long _ (at-if1 .if1 .taken)) (c .before .before .put-bytes .ensures)
 
 -- what the decoder answers
-module _ (c : tie.After-decode-evr0-section) where
+module _ (c : tie.After-decode-evr0-unmarked) where
   abbrev tested : tie.Else1
   tested = c .before .before .before .before
 
   abbrev start : tie.Start
   start = tested .before .before .before
 
-  answered : outcomeOut (c .decode-evr0-section .result .outcome) ≡ answerOf 0 (decodeSection enough (start .args .input .now) 0) .outcome
-  answered = ap (λ (a : Answer). a .outcome) (c .decode-evr0-section .ensures .answer)
+  answered : outcomeOut (c .decode-evr0-unmarked .result .outcome) ≡ answerOf 0 (decodeSection enough (start .args .input .now) 0) .outcome
+  answered = ap (λ (a : Answer). a .outcome) (c .decode-evr0-unmarked .ensures .answer)
 
   short : length (start .args .input .now) ≤ 65536
   short = tested .if1 .left
 
 -- an accepted section
 module _ (c : tie.After-outcome2) where
-  abbrev decoding : tie.After-decode-evr0-section
+  abbrev decoding : tie.After-decode-evr0-unmarked
   decoding = c .before .before .before .before .before
 
-  is-given : Given (start decoding .args .input .now) (short decoding) (decoding .decode-evr0-section .result .cursor)
+  is-given : Given (start decoding .args .input .now) (short decoding) (decoding .decode-evr0-unmarked .result .cursor)
       (countsOut (c .outcome2 .given .0 .0 .counts))
   is-given =
-      given _ (short decoding) _ refl (ap (λ (a : Answer). a .cursor) (decoding .decode-evr0-section .ensures .answer))
+      given _ (short decoding) _ refl (ap (λ (a : Answer). a .cursor) (decoding .decode-evr0-unmarked .ensures .answer))
       (told outcomeOut (answered decoding) (c .outcome2 .given .1))
 
 returns-2 : tie.Need-returns-2
@@ -54,7 +54,7 @@ returns-2 c =
 requires : tie.Need-put-accepted-requires
 requires c κs =
     let o = c .before .before .before .before .before in
-    let d = decoding o .decode-evr0-section in
+    let d = decoding o .decode-evr0-unmarked in
     let g = is-given o in
     ((g .start, g .end), (omega (arith, g .few, d .kept .1 .1 .1 .0), omega (arith, g .few, d .kept .1 .1 .1 .1 .0)))
 
@@ -62,7 +62,7 @@ returns-3 : tie.Need-returns-3
 returns-3 c =
     let w = c .before .before in
     let o = w .before .before .before .before .before .before in
-    let d = decoding o .decode-evr0-section in
+    let d = decoding o .decode-evr0-unmarked in
     rw (← is-given o .lines _ _ (d .ensures .tables .proofs) (d .ensures .tables .depths)) (w .put-accepted .ensures)
 
 pub evidence-spec : {M : Type 1} → statement M

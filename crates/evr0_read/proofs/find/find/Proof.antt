@@ -8,7 +8,7 @@ use Rattle.evr0_read.proofs.find.find as f
 use f.Tie as tie
 
 module _ (c : tie.After-slice-known6) where
-  abbrev decoded : tie.After-decode-evr0-section
+  abbrev decoded : tie.After-decode-evr0-unmarked
   decoded = c .before .before .before .before .before .before
 
   abbrev lent : tie.After-slice-known3
@@ -22,7 +22,7 @@ find-spec =
     tie.close (tie.spec (search needs) (search needs) (search needs) (search needs) (search needs) (search needs) (search needs) (search needs)
     (search needs)
     (λ c. let k = c .before .before .before in
-    let d = decoded k .decode-evr0-section in
+    let d = decoded k .decode-evr0-unmarked in
     finds-none _ _ _ (start k .args .wanted)
     (answer-refused _ _ (sym (ap (λ (a : Answer). a .outcome) (d .ensures .answer)) ∙ ap outcomeOut (c .before .outcome .given .1)))
     (d .ensures .tables)) (search needs) (search needs) (search needs)
@@ -31,7 +31,7 @@ find-spec =
     let p = s .before .before .before in
     let o = p .before .before .before in
     let k = o .before .before in
-    let d = decoded k .decode-evr0-section in
+    let d = decoded k .decode-evr0-unmarked in
     let (section, is, end, counts) =
     answer-accepted _ _ (sym (ap (λ (a : Answer). a .outcome) (d .ensures .answer)) ∙ ap outcomeOut (o .outcome2 .given .1)) in
     finds-by _ _ _ is (d .ensures .tables)

@@ -4,6 +4,6 @@ use Rattle.falgnust.proofs.section.falgnust_decode_evr0_section as f
 
 pub falgnust-decode-evr0-section-spec : {M : Type 1} → f.Statement.statement M
 falgnust-decode-evr0-section-spec =
-    f.Tie.close (f.Tie.spec (search needs) (search needs) (search needs) (search needs) (search needs)
-    λ c. let on = c .before .before .before .before .before .before in let read = on .before .decode-evr0-section .ensures in
-    record { answer = rw (c .flat-section .ensures, ← read .answer); tables = read .tables; demand3 = read .demand3 })
+    f.Tie.close (f.Tie.spec (search needs) (search needs) (search needs) (search needs) (search needs) (search needs)
+    λ c. let on = c .before .before .before .before .before .before in let read = on .before .before .before .decode-evr0-section .ensures in
+    record { answer = rw (c .flat-section .ensures, ← read .answer); tables = read .tables; demand3 = read .demand3; marked = read .marked })

@@ -7,7 +7,7 @@ use Rattle.evr0_section.specs.Section.{frameAt}
 use Rattle.evr0.specs.Maps.{frameOut}
 use Rattle.evr0.proofs.FrameLaws.{frame-within}
 use Rattle.evr0.proofs.DecodeLaws.{no-frame, framed}
-use Rattle.evr0.proofs.section.decode_evr0_section as f
+use Rattle.evr0.proofs.section.decode_evr0_unmarked as f
 use f.Tie as tie
 
 module _ (c : tie.After-frame2) where
@@ -17,8 +17,8 @@ module _ (c : tie.After-frame2) where
   frame-read : frameAt (start .args .bytes .now) (start .args .cursor) ≡ ok (record { start = c .frame2 .given .0 .0; len = c .frame2 .given .0 .1 .0 })
   frame-read = told frameOut (c .before .before .read-frame .ensures) (c .frame2 .given .1)
 
-pub decode-evr0-section-spec : {M : Type 1} → f.Statement.statement M
-decode-evr0-section-spec =
+pub decode-evr0-unmarked-spec : {M : Type 1} → f.Statement.statement M
+decode-evr0-unmarked-spec =
     tie.close (tie.spec (search needs) (search needs) (search needs) (search needs) (search needs) (search needs) (search needs)
     (λ c κs. frame-within _ _ _ (frame-read (c .before .before .before .before))) (search needs) (search needs) (search needs)
     (λ c. let third = c .before .before .before in

@@ -1,0 +1,66 @@
+-- A section that was decoded is held by its payload, by the starts in the lent table and by the places that follow from its counts; so the
+-- pass over its proofs may rely on its tables, and what the pass leaves are its marks.
+use Prim.Native.Nat.{ℕ, _-_, _*_}
+use mathlib.Core.Path.{_≡_, sym, ap, _∙_}
+use mathlib.Core.List.{List}
+use native.Mathlib.Omega.{arith}
+use lib.ListN.{length, take}
+use Rattle.lent_table.specs.Lent.{lent}
+use Rattle.derivation.specs.Rule.{fourRules}
+use Rattle.derivation.specs.Mark.{marks}
+use Rattle.evr0_section.specs.Head.{Counts}
+use Rattle.evr0_section.specs.Section.{Section, sectionOf, tablesOf}
+use Rattle.evr0_section.specs.Marks.{marksOf}
+use Rattle.evr0_section.specs.Rows.{startsOf}
+use Rattle.evr0_pass.specs.View.{Layout, TablesThere, view}
+use Rattle.evr0_pass.proofs.ViewOf.{layoutOf, section-view, tables-there, starts-total}
+use Rattle.local_format.specs.Out.{ok}
+use Rattle.evr0_read.specs.Listing.{payloadTo}
+use Rattle.evr0_read.proofs.TableLaws.{facts, parents-at, witnesses-at}
+use Rattle.evr0_marks.specs.Steps.{Due}
+
+same-parts : {c d : Counts} {w v q k : ℕ} → c ≡ d → w ≡ v → q ≡ k → _≡_ {A = Layout} (record { counts = c; witnessesAt = w; parentsAt = q })
+    (record { counts = d; witnessesAt = v; parentsAt = k })
+same-parts a b c = rw (a, b, c)
+
+module _ {bytes : List ℕ} {cursor end : ℕ} {counts : Counts} {proofs held : List ℕ} (due : Due bytes cursor end counts proofs held)
+    (p starts : List ℕ) (part : p ≡ payloadTo bytes cursor end) (front : starts ≡ take (counts .proofs) proofs) where
+  abbrev d : Section
+  d = due .section
+
+  payload-is : p ≡ payloadTo bytes cursor (d .cursor)
+  payload-is = part ∙ ap (payloadTo bytes cursor) (sym (due .ends))
+
+  pub read : tablesOf fourRules (due .room) p ≡ ok (d .tables)
+  read = ap (tablesOf fourRules (due .room)) payload-is ∙ facts (due .room) bytes cursor d (due .decoded) .read
+
+  pub starts-are : starts ≡ startsOf (d .tables .proofs .entries)
+  starts-are = front ∙ due .started
+
+  pub total : length starts ≡ counts .proofs
+  total = ap length starts-are ∙ starts-total fourRules (due .room) p (d .tables) read ∙ ap (λ (c : Counts). c .proofs) (due .counted)
+
+  module _ {witnessesAt parentsAt : ℕ} (cells : parentsAt ≡ length p - 4 * counts .parents)
+      (seen : witnessesAt ≡ parentsAt - 84 * counts .witnesses) where
+    abbrev layout : Layout
+    layout = record { counts = counts; witnessesAt = witnessesAt; parentsAt = parentsAt }
+
+    layout-is : layoutOf (d .tables) ≡ layout
+    layout-is =
+        let a = parents-at (due .room) bytes cursor d (due .decoded) in
+        let b = witnesses-at (due .room) bytes cursor d (due .decoded) in
+        let l = ap length payload-is in
+        let m = ap (λ (c : Counts). c .parents) (due .counted) in
+        let n = ap (λ (c : Counts). c .witnesses) (due .counted) in
+        same-parts (due .counted) (omega (arith, a, b, l, m, n, cells, seen)) (omega (arith, a, b, l, m, n, cells, seen))
+
+    pub may-mark : TablesThere fourRules p starts layout
+    may-mark = rw (starts-are, ← layout-is) (tables-there fourRules (due .room) p (d .tables) read)
+
+    viewed : view fourRules p starts layout ≡ sectionOf (d .tables)
+    viewed = rw (starts-are, ← layout-is) (sym (section-view fourRules (due .room) p (d .tables) read))
+
+    pub filled : (marked : List ℕ) {after : List ℕ} → length marked ≡ length held → take (length starts) marked ≡ marks (view fourRules p starts layout)
+        → after ≡ lent (length marked) (take (length starts) marked) → after ≡ lent (length held) (marksOf d)
+    filled marked kept e f =
+        f ∙ ap (λ (n : ℕ). lent n (take (length starts) marked)) kept ∙ ap (lent (length held)) (e ∙ ap marks viewed)

@@ -1,0 +1,4 @@
+pub mod MarkLaws
+pub mod FillLaws
+pub mod LeavesLaws
+pub mod Neighbours

@@ -1,0 +1,14 @@
+-- Meets its contract: the byte at its place in the witness, or none.
+use borrow.Author.Needs.{needs}
+use Rattle.evr0_pass.specs.Maps.{layoutOut}
+use Rattle.evr0_marks.proofs.MarkLaws.{polarity-there, polarity-none}
+use Rattle.evr0_marks.proofs.marks.polarity_at as f
+use f.Tie as tie
+
+pub polarity-at-spec : {M : Type 1} → f.Statement.statement M
+polarity-at-spec =
+    tie.close (tie.spec (search needs) (search needs) (search needs) (search needs)
+    (λ c starts. let a = c .before .before .before .before .args in
+    polarity-there (a .payload .now) starts (layoutOut (a .tables)) (a .witness) (c .before .before .if1 .taken))
+    (λ c starts. let a = c .before .before .args in
+    polarity-none (a .payload .now) starts (layoutOut (a .tables)) (a .witness) (c .if1 .left)))

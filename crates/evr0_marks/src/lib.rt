@@ -1,0 +1,3 @@
+// Evidence sections (EVR0) with the marks of their proofs.
+mod marks;
+pub mod section;

@@ -1,0 +1,78 @@
+// Evidence sections with their marks: the decoder without marks, and then one pass over its proofs.
+ghost use mathlib.Core.Path.{_≡_};
+ghost use lib.ListN.{length};
+ghost use Rattle.lent_table.specs.Lent.{lent};
+ghost use Rattle.evr0_section.specs.Marks.{marksOf};
+ghost use Rattle.evr0_head.specs.Maps.{countsOut};
+ghost use Rattle.evr0.specs.Answer.{lentOf};
+ghost use Rattle.evr0.specs.AnswerMaps.{answerOut};
+ghost use Rattle.evr0_marks.specs.Answer.{withMarks, Leaves};
+ghost use Rattle.evr0_marks.specs.Steps.{Due};
+use crate::marks::mark_proofs;
+use evr0::section::DecodedEvr0;
+use evr0::section::Outcome;
+use evr0::section::decode_evr0_unmarked;
+use evr0_head::counts::Counts;
+use evr0_pass::pass::Layout;
+use evr0_read::cell::before_parents;
+use evr0_read::cell::before_witnesses;
+use evr0_read::table::front;
+use evr0_read::table::payload_of;
+use lent_table::clear_bytes_from;
+
+// The marks of the section at a cursor that ends at `end`, and zeros past them.
+fn fill_marks(
+    bytes: &[u8],
+    cursor: usize,
+    end: usize,
+    counts: Counts,
+    proofs: &[u64],
+    marks: &mut [u8],
+)
+    requires { ⌜ Due (now bytes) cursor end (countsOut counts) (now proofs) (now marks) ⌝ }
+    ensures { λ r. ⌜ ((due : Due (now (bytes .entry)) cursor end (countsOut counts) (now (proofs .entry)) (now (marks .entry)))
+        → now (marks .exit) ≡ lent (length (now (marks .entry))) (marksOf (due .section))) ⌝ }
+{
+    let payload = payload_of(bytes, cursor, end);
+    let parents_at = before_parents(payload.len(), counts.parents);
+    let witnesses_at = before_witnesses(parents_at, counts.witnesses);
+    let tables = Layout {
+        counts,
+        witnesses_at,
+        parents_at,
+    };
+    let starts = front(proofs, counts.proofs);
+    mark_proofs(payload, starts, tables, marks);
+    clear_bytes_from(marks, starts.len());
+}
+
+// Decodes the section at `cursor`. Each lent table is filled to its count and has zeros past it; a refusal leaves zeros in all four. Depths
+// and marks are one for each proof: the decoder is lent as many depths as there are marks.
+pub fn decode_evr0_section(
+    bytes: &[u8],
+    cursor: usize,
+    propositions: &mut [u64],
+    proofs: &mut [u64],
+    depths: &mut [u64],
+    marks: &mut [u8],
+) -> DecodedEvr0
+    ensures { λ r. ⌜ Leaves (now (bytes .entry)) cursor
+        (withMarks (lentOf (now (propositions .entry)) (now (proofs .entry)) (now (depths .entry))) (now (marks .entry)))
+        (withMarks (lentOf (now (propositions .exit)) (now (proofs .exit)) (now (depths .exit))) (now (marks .exit))) (answerOut r) ⌝ }
+{
+    let room = lent_table::least(depths.len(), marks.len());
+    let decoded = decode_evr0_unmarked(bytes, cursor, propositions, proofs, &mut depths[..room]);
+    lent_table::clear_from(depths, room);
+    let end = decoded.cursor;
+    let outcome = decoded.outcome;
+    match outcome {
+        Outcome::Refused(_) => {
+            clear_bytes_from(marks, 0);
+        }
+        Outcome::Accepted(accepted) => {
+            let counts = accepted.counts;
+            fill_marks(bytes, cursor, end, counts, proofs, marks);
+        }
+    }
+    decoded
+}

@@ -1,0 +1,44 @@
+//! Sections by what their proofs rest on: positive witnesses alone, negative ones alone, or both.
+
+use crate::random::Random;
+use crate::section::Section;
+use crate::shapes::with_one_proposition;
+
+/// Witness proofs, joins and OPs of one ruling: all witnesses positive, all negative, or some of each.
+pub fn ruling(r: &mut Random) -> Section {
+    let mut s = with_one_proposition(r);
+    let sides = r.pick(&[&[true][..], &[false], &[true, false]]);
+    for _ in 0..r.within(1, 14) {
+        add(r, &mut s, sides);
+    }
+    s
+}
+
+fn add(r: &mut Random, s: &mut Section, sides: &[bool]) {
+    let count = s.proofs.len();
+    match r.below(3) {
+        1 if count > 0 => s.op(r.below(count) as u32),
+        2 if count > 1 => {
+            let second = r.within(1, count - 1);
+            s.join(r.below(second) as u32, second as u32);
+        }
+        _ => {
+            let positive = r.pick(sides);
+            s.witness(r, 0, 7, positive);
+        }
+    }
+}
+
+/// Two witness proofs and two joins in each layer, each of both proofs below: the ways down double at each layer.
+pub fn joins_upon_joins(r: &mut Random, layers: u32, sides: [bool; 2]) -> Section {
+    let mut s = with_one_proposition(r);
+    for positive in sides {
+        s.witness(r, 0, 7, positive);
+    }
+    for layer in 0..layers {
+        let below = 2 * layer;
+        s.join(below, below + 1);
+        s.join(below, below + 1);
+    }
+    s
+}
