@@ -27,7 +27,7 @@ extern "C" {
 
 /* The version of this header: ten thousand times the first number, a hundred times the second, and the third. The first rises where a
  * struct, an argument or an answer changes, and the second where something is added. */
-#define FALGNUST_VERSION 30000
+#define FALGNUST_VERSION 40000
 
 /* Layouts: the size of each struct below is that of the struct in crates/falgnust/src. */
 #define FALGNUST_SIZE(type, size) FALGNUST_ASSERT(sizeof(type) == (size), #type " has another layout")
@@ -303,7 +303,8 @@ FalgnustWayDown falgnust_way_down(
     uint64_t *proofs, size_t proofs_len,
     uint64_t *depths, size_t depths_len);
 
-/* Whether some proof of a proposition has operation 1. */
+/* Whether some proof of a proposition has operation 1 and mark 1: both one proof's, whatever its authority and whatever other proofs are
+ * marked. */
 typedef struct FalgnustAuthorised {
     bool accepted;
     FalgnustRefusal refusal;
@@ -311,12 +312,13 @@ typedef struct FalgnustAuthorised {
 } FalgnustAuthorised;
 FALGNUST_SIZE(FalgnustAuthorised, 32);
 
-/* Decodes anew, and 62, as above. */
+/* Decodes anew as falgnust_decode_evr0_section does, with its marks; 62 as above. */
 FalgnustAuthorised falgnust_authorised(
     const uint8_t *bytes, size_t bytes_len, size_t cursor, uint32_t proposition,
     uint64_t *propositions, size_t propositions_len,
     uint64_t *proofs, size_t proofs_len,
-    uint64_t *depths, size_t depths_len);
+    uint64_t *depths, size_t depths_len,
+    uint8_t *marks, size_t marks_len);
 
 /* ---- Function blocks ----
  *

@@ -110,7 +110,7 @@ static int ask(Source *s, uint32_t number) {
         s->propositions, s->most_propositions, s->proofs, s->most_proofs, s->depths, s->most_proofs);
     FalgnustAuthorised answer = falgnust_authorised(
         s->input.bytes, s->input.len, 0, proof.proposition_index,
-        s->propositions, s->most_propositions, s->proofs, s->most_proofs, s->depths, s->most_proofs);
+        s->propositions, s->most_propositions, s->proofs, s->most_proofs, s->depths, s->most_proofs, s->marks, s->most_proofs);
     printf("proof %" PRIu32 ": down to witness %" PRIu32 ", moves %" PRIu64, number, way.witness, way.moves);
     printf("; proposition %" PRIu32 " is %sauthorised\n", proof.proposition_index, answer.authorised ? "" : "not ");
     return 0;

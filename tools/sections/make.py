@@ -39,12 +39,29 @@ def marks(s):
     return [1 if e == {1} else 2 if e == {0} else 3 for e in ends(s)]
 
 
+def authorised(s):
+    """Some proof of the first proposition has operation 1 and mark 1."""
+    return any(p["proposition"] == 0 and p["operation"] == 1 and mark == 1 for p, mark in zip(s.proofs, marks(s)))
+
+
 def counts_end(s):
     return 8 + 70 + len(s.policy) + len(s.issuer) + 16
 
 
-def shown(answer, table):
-    return answer + ":" + "".join(f" {mark}" for mark in table) + "\n"
+def listed(table):
+    return ":" + "".join(f" {mark}" for mark in table)
+
+
+def accepted(s, lent):
+    table = marks(s) + [0] * (lent - len(s.proofs))
+    if not s.propositions:
+        return "accepted" + listed(table) + "; refused 62" + listed([0] * lent) + "\n"
+    return "accepted" + listed(table) + ("; authorised" if authorised(s) else "; not") + listed(table) + "\n"
+
+
+def refused(number, offset, lent):
+    zeros = listed([0] * lent)
+    return f"refused {number} {offset}{zeros}; refused {number}{zeros}\n"
 
 
 def entries():
@@ -52,19 +69,23 @@ def entries():
     both = [(POS,), (NEG,), (JOIN, 0, 1), (OP, 2), (OP, 3), (JOIN, 2, 4), (JOIN, 2, 5)]
     sides = [(POS,), (POS,), (NEG,), (NEG,), (JOIN, 0, 1), (JOIN, 2, 3), (JOIN, 1, 2), (OP, 4), (OP, 6), (JOIN, 7, 8), (JOIN, 4, 7)]
     upon = [(POS,), (POS,)] + [(JOIN, i, i + 1) for i in range(60)]
-    accepted = [section(), section((POS,)), section((NEG,)), section(*both), section(*sides), section(*upon), section(*upon[1:2], (NEG,), *upon[2:])]
-    for s in accepted:
+    mixed = section(*upon[1:2], (NEG,), *upon[2:])
+    negative = section((NEG,), (OP, 0))
+    beside = section((NEG,), (POS,), (OP, 0), (OP, 1))
+    apart = section((NEG,), (POS,), (OP, 0))
+    sections = [Section(), section(), section((POS,)), section((NEG,)), section(*both), section(*sides), section(*upon), mixed, negative, beside, apart]
+    for s in sections:
         count = len(s.proofs)
         for lent in (count, count + 3):
-            yield s.bytes(), lent, shown("accepted", marks(s) + [0] * (lent - count))
+            yield s.bytes(), lent, accepted(s, lent)
         # one mark is missing: 61, after the counts
         if count:
-            yield s.bytes(), count - 1, shown(f"refused 61 {counts_end(s)}", [0] * (count - 1))
+            yield s.bytes(), count - 1, refused(61, counts_end(s), count - 1)
     # a refusal leaves zeros: no tag, and a parent that does not rise
     s = section(*both)
-    yield b"EVR1" + s.bytes()[4:], 9, shown("refused 1 0", [0] * 9)
+    yield b"EVR1" + s.bytes()[4:], 9, refused(1, 0, 9)
     s.parents[-1] = 2
-    yield s.bytes(), 9, shown(f"refused 25 {len(s.bytes()) - 4}", [0] * 9)
+    yield s.bytes(), 9, refused(25, len(s.bytes()) - 4, 9)
 
 
 def main():

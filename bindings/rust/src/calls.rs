@@ -172,15 +172,32 @@ pub fn parent_number(bytes: &[u8], cursor: usize, number: u32, lent: SectionTabl
     of_section(falgnust_parent_number, bytes, cursor, number, lent)
 }
 
-/// Whether a proposition of the section at a cursor is authorised.
+/// Whether a proposition of the section at a cursor is authorised: some proof of it has operation 1 and mark 1. The marks go to a table that is
+/// lent, too.
 #[inline]
 pub fn authorised(
     bytes: &[u8],
     cursor: usize,
     proposition: u32,
     lent: SectionTables,
+    marks: &mut [u8],
 ) -> Authorised {
-    of_section(falgnust_authorised, bytes, cursor, proposition, lent)
+    unsafe {
+        falgnust_authorised(
+            bytes.as_ptr(),
+            bytes.len(),
+            cursor,
+            proposition,
+            lent.propositions.as_mut_ptr(),
+            lent.propositions.len(),
+            lent.proofs.as_mut_ptr(),
+            lent.proofs.len(),
+            lent.depths.as_mut_ptr(),
+            lent.depths.len(),
+            marks.as_mut_ptr(),
+            marks.len(),
+        )
+    }
 }
 
 /// The way down from a proof of the section at a cursor, with at most `limit` moves.

@@ -6,9 +6,9 @@ pub mod Complete
 pub mod Demand
 pub mod Down
 pub mod Rules
-pub mod Authorised
 pub mod Laws
 pub mod Reach
 pub mod Numbers
 pub mod InOrder
 pub mod Mark
+pub mod Friendly

@@ -1,9 +1,9 @@
--- *Way down* and *authorised*.
+-- *Way down*.
 use Prim.Native.Nat.{ℕ, zero, suc, _≤_, _<_}
-use mathlib.Core.Bool.{Bool, false, cond, _||_, _&&_}
+use mathlib.Core.Bool.{cond}
 use mathlib.Core.List.{List, [], _∷_}
 use lib.Dec.{eqb}
-use Rattle.derivation.specs.Section.{Proof, Section, proofAt, parentAt}
+use Rattle.derivation.specs.Section.{Section, proofAt, parentAt}
 use Rattle.derivation.specs.Walk.{Walk, AtEnd, Witnessed}
 
 -- the witness and the moves made, or the proof reached with the limit spent
@@ -32,11 +32,3 @@ pub data Tells (s : Section) (limit i : ℕ) : Down → Type 0 where
   ends : (moves k : ℕ) → moves ≤ limit → Walk s i (firstPicks s moves i) k → AtEnd s k → Witnessed s i k
       → Tells s limit i (witness (proofAt s k .firstWitness) moves)
   goesOn : (k : ℕ) → Walk s i (firstPicks s limit i) k → 0 < proofAt s k .parentCount → Tells s limit i (spent k)
-
--- some of the proofs is one of this proposition, with operation 1
-unfoldable pub operates : List Proof → ℕ → Bool
-operates [] n = false
-operates (p ∷ ps) n = eqb (p .proposition) n && eqb (p .operation) 1 || operates ps n
-
-unfoldable pub authorised : Section → ℕ → Bool
-authorised s n = operates (s .proofs) n

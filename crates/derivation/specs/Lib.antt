@@ -6,3 +6,4 @@ pub mod Demand
 pub mod Down
 pub mod InOrder
 pub mod Mark
+pub mod Friendly

@@ -8,11 +8,11 @@ ghost use Rattle.derivation.specs.Rule.{fourRules};
 ghost use Rattle.derivation.specs.Section.{witnessAt};
 ghost use Rattle.derivation.specs.InOrder.{gathered};
 ghost use Rattle.derivation.specs.Mark as of;
-ghost use Rattle.evr0_pass.specs.View.{afterName, TablesThere};
+ghost use Rattle.evr0_pass.specs.View.{TablesThere};
 ghost use Rattle.evr0_pass.specs.Maps.{layoutOut, tablesIn};
+use crate::record::after_name;
 use evr0_fields::number::wide;
 use evr0_pass::pass::Layout;
-use local_format::field::u16_at;
 use local_format::field::u32_at;
 
 // Two marks together; 0 is none.
@@ -78,14 +78,6 @@ fn by_parents(payload: &[u8], tables: Layout, known: &[u8], first: usize, count:
         cell += 1;
     }
     mark
-}
-
-// The place after the rule's name of the proof at `start`.
-fn after_name(payload: &[u8], start: usize) -> usize
-    requires { ⌜ afterName (now payload) start ≤ length (now payload) ⌝ }
-    ensures { λ r. ⌜ r ≡ afterName (now (payload .entry)) start ⌝ }
-{
-    start + 10 + (u16_at(payload, start + 8) as usize)
 }
 
 // The mark of the proof after those whose marks are known.

@@ -1,4 +1,4 @@
--- Slip 7 of records by number, way down and authorised: whatever is asked and told, two calls over files that hold the same section at one
+-- Slip 7 of records by number and way down: whatever is asked and told, two calls over files that hold the same section at one
 -- cursor, with lent tables equally long, leave the same answer and the same tables.
 use Prim.Native.Nat.{ℕ}
 use mathlib.Core.Path.{_≡_, sym, ap, _∙_}

@@ -1,5 +1,4 @@
 pub mod HeldLaws
 pub mod DownLaws
-pub mod AuthorisedLaws
 pub mod AnswerLaws
 pub mod Stated

@@ -1,5 +1,5 @@
--- What is stated of *way down* and *authorised* of an accepted section: induction along the walk by first parents, and that such a walk
--- decides the answer. A number that is not in its table gives 62 and no answer.
+-- What is stated of *way down* of an accepted section: induction along the walk by first parents, and that such a walk decides the answer. A
+-- number that is not in its table gives 62 and no answer.
 use Prim.Native.Nat.{ℕ, zero, suc, _+_, _-_, _≤_, _<_}
 use mathlib.Core.Path.{_≡_, refl, sym, ap, _∙_, subst}
 use mathlib.Core.Logic.{⊎-elim}
@@ -14,16 +14,14 @@ use Rattle.derivation.specs.Rule.{fourRules}
 use Rattle.derivation.specs.Section as derivation
 use Rattle.derivation.specs.Section.{Checked, proofAt, parentAt, proofTotal}
 use Rattle.derivation.specs.Walk.{Walk, stay, move, AtEnd}
-use Rattle.derivation.specs.Down.{Down, witness, spent, downFrom, wayDown, firstPicks, Tells, ends, goesOn, authorised}
+use Rattle.derivation.specs.Down.{Down, witness, spent, downFrom, wayDown, firstPicks, Tells, ends, goesOn}
 use Rattle.derivation.proofs.Tests.{order}
 use Rattle.derivation.proofs.Rules.{four-shaped}
 use Rattle.derivation.proofs.Laws.{down-end, down-spent, down-turn}
-use Rattle.derivation.proofs.Authorised.{authorised-exactly}
 use Rattle.evr0_section.specs.Head.{Room}
 use Rattle.evr0_section.specs.Section.{Section, sectionOf, proofItem, decodeSection}
 use Rattle.evr0_section.proofs.Demand.{demand-3, checked}
-use Rattle.evr0_rulings.specs.Stated.{downAnswer, DownStated, authorisedAnswer, AuthorisedStated}
-use Rattle.evr0_read.proofs.AcceptedLaws.{Accepted, accepted}
+use Rattle.evr0_rulings.specs.Stated.{downAnswer, DownStated}
 
 -- ---- Along the walk by first parents
 walk-start : {s : derivation.Section} {i k : ℕ} {cs : List ℕ} → Walk s i cs k → i < proofTotal s
@@ -80,10 +78,6 @@ module _ (room : Room) (bytes : List ℕ) (cursor : ℕ) (d : Section) (decodes 
   abbrev s : derivation.Section
   s = sectionOf (d .tables)
 
-  facts : Accepted fourRules room bytes cursor d
-  unfolding decodeSection
-  facts = accepted fourRules room bytes cursor decodes
-
   checks : Checked s
   unfolding decodeSection
   checks = checked fourRules room bytes cursor four-shaped (d .tables) (demand-3 room bytes cursor .byRules .tables d decodes)
@@ -122,28 +116,5 @@ module _ (room : Room) (bytes : List ℕ) (cursor : ℕ) (d : Section) (decodes 
           spentExactly = λ k. (
             (λ e. let a = answered e in spent-tells s limit n (tells limit n (a .0)) k (a .1)),
             (λ x. there (walk-start (x .0)) ∙ ap ok (spent-there s checks limit n k (x .0) (x .1))),
-          );
-        }
-
-  module _ (n : ℕ) where
-    proposed : n < d .tables .head .counts .propositions → authorisedAnswer n d ≡ ok (authorised s n)
-    proposed h = rw (is-there n (d .tables .propositions .entries) (omega (arith, facts .propositions)) .1)
-
-    unproposed : d .tables .head .counts .propositions ≤ n → authorisedAnswer n d ≡ refuse 62 0
-    unproposed h = rw (not-there n (d .tables .propositions .entries) (omega (arith, facts .propositions)))
-
-    pub authorised-stated : AuthorisedStated d n
-    unfolding sectionOf
-    authorised-stated =
-        record {
-          notThere = (
-            (λ e. ⊎-elim (λ g. g) (λ l. absurd (never (sym e ∙ proposed l))) (order (d .tables .head .counts .propositions) n)),
-            unproposed,
-          );
-          authorisedExactly = (
-            (λ e.
-                ⊎-elim (λ g. absurd (never (sym (unproposed g) ∙ e))) (λ l. authorised-exactly s n .0 (ok-same (sym (proposed l) ∙ e)))
-                (order (d .tables .head .counts .propositions) n)),
-            (λ x. proposed (rw (x .2) at (checks .proofProposition (x .0) (x .1))) ∙ ap ok (authorised-exactly s n .1 x)),
           );
         }

@@ -1,11 +1,9 @@
--- *Way down* and *authorised*: what is told of a proof and of a proposition of a section that was decoded anew.
+-- *Way down*: what is told of a proof of a section that was decoded anew.
 use Prim.Native.Nat.{ℕ}
-use mathlib.Core.Bool.{Bool}
 use Rattle.local_format.specs.Out.{Out}
 use Rattle.local_format.specs.Number.{Chosen}
-use Rattle.derivation.specs.Down.{Down, wayDown, authorised}
+use Rattle.derivation.specs.Down.{Down, wayDown}
 use Rattle.evr0_section.specs.Rows.{Entry}
-use Rattle.evr0_section.specs.Proposition.{Proposition}
 use Rattle.evr0_section.specs.Proof.{Settled}
 use Rattle.evr0_section.specs.Section.{Section, sectionOf}
 use Rattle.evr0_read.specs.Asked.{telling}
@@ -13,7 +11,3 @@ use Rattle.evr0_read.specs.Asked.{telling}
 -- from the proof with the number n, with a limit on the moves
 abbrev pub wayDownTold : ℕ → ℕ → Out (Chosen Section (Entry Settled)) → Out Down
 wayDownTold limit n = telling (λ c. wayDown (sectionOf (c .decoded .tables)) limit n)
-
--- whether some proof of the proposition with the number n has operation 1
-abbrev pub authorisedTold : ℕ → Out (Chosen Section (Entry Proposition)) → Out Bool
-authorisedTold n = telling (λ c. authorised (sectionOf (c .decoded .tables)) n)

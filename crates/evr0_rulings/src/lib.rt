@@ -1,4 +1,3 @@
-// What is asked of a ruling: its way down, and whether a proposition is authorised.
-pub mod authorised;
+// What is asked of a ruling: its way down.
 pub mod down;
 mod held;

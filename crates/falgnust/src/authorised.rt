@@ -1,17 +1,16 @@
 // Whether a proposition of a section, which is decoded anew, is authorised.
 ghost use mathlib.Core.Path.{_≡_};
 ghost use Rattle.evr0.specs.Answer.{lentOf};
-ghost use Rattle.evr0_read.specs.Asked.{Answers};
-ghost use Rattle.evr0_read.specs.Ask.{propositionNumber};
-ghost use Rattle.evr0_rulings.specs.Told.{authorisedTold};
-ghost use Rattle.evr0_rulings.specs.Maps.{authorisedOut};
+ghost use Rattle.evr0_marks.specs.Answer.{withMarks};
+ghost use Rattle.evr0_authorised.specs.Authorised.{authorisedTold, Authorises};
+ghost use Rattle.evr0_authorised.specs.Maps.{authorisedOut};
 ghost use Rattle.falgnust.specs.EntryMaps.{flatAuthorised};
 use crate::refusal::Refusal;
 use crate::refusal::flat_refusal;
 use crate::refusal::no_refusal;
+use evr0_authorised::authorised::AuthorisedAnswer;
+use evr0_authorised::authorised::authorised;
 use evr0_fields::number::PropositionIndex;
-use evr0_rulings::authorised::AuthorisedAnswer;
-use evr0_rulings::authorised::authorised;
 
 #[repr(C)]
 pub struct Authorised {
@@ -45,10 +44,11 @@ pub extern "C" fn falgnust_authorised(
     propositions: &mut [u64],
     proofs: &mut [u64],
     depths: &mut [u64],
+    marks: &mut [u8],
 ) -> Authorised
-    ensures { λ r. ⌜ Answers (propositionNumber proposition) (λ x. flatAuthorised (authorisedTold proposition x)) (now (bytes .entry)) cursor
-        (lentOf (now (propositions .entry)) (now (proofs .entry)) (now (depths .entry)))
-        (lentOf (now (propositions .exit)) (now (proofs .exit)) (now (depths .exit))) r ⌝ }
+    ensures { λ r. ⌜ Authorises proposition (λ x. flatAuthorised (authorisedTold proposition x)) (now (bytes .entry)) cursor
+        (withMarks (lentOf (now (propositions .entry)) (now (proofs .entry)) (now (depths .entry))) (now (marks .entry)))
+        (withMarks (lentOf (now (propositions .exit)) (now (proofs .exit)) (now (depths .exit))) (now (marks .exit))) r ⌝ }
 {
     let answer = authorised(
         bytes,
@@ -57,6 +57,7 @@ pub extern "C" fn falgnust_authorised(
         propositions,
         proofs,
         depths,
+        marks,
     );
     flat_authorised(answer)
 }

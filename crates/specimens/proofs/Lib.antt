@@ -4,6 +4,7 @@ pub mod Printed
 pub mod Shown
 pub mod Small
 pub mod Marked
+pub mod Friendly
 pub mod Front
 pub mod Each
 pub mod Chains

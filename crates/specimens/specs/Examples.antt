@@ -28,6 +28,10 @@ sides =
       parents = 0 ∷ 1 ∷ 2 ∷ 3 ∷ 1 ∷ 2 ∷ 4 ∷ 6 ∷ 7 ∷ 8 ∷ 4 ∷ 7 ∷ [];
     }
 
+-- an OP proof on a negative one
+unfoldable pub opOnNegative : Section
+opOnNegative = record { propositions = 1; proofs = leaf negWitness1 0 0 0 ∷ op 7 1 1 0 ∷ []; witnesses = witness 0 0 ∷ []; parents = 0 ∷ [] }
+
 -- ---- A chain: a positive proof and n OP proofs, each on the one before
 
 unfoldable pub opsFrom : ℕ → ℕ → List Proof

@@ -1,6 +1,9 @@
 // Decodes the sections of a list from standard input, each with a table of marks of some length, and prints whether it is accepted, or its
-// refusal, and the whole table. tools/sections/make.py writes the list, and what is to be printed by plain lines of its own.
+// refusal, and the whole table; then, of the section decoded anew, whether its first proposition is authorised. tools/sections/make.py
+// writes the list, and what is to be printed by plain lines of its own.
 use evr0::section::Outcome;
+use evr0_authorised::authorised::AuthorisedAnswer;
+use evr0_fields::number::PropositionIndex;
 use evr0_marks::section::decode_evr0_section;
 use libc::STDIN_FILENO;
 use libc::STDOUT_FILENO;
@@ -52,6 +55,36 @@ fn show(input: &[u8], marks: &mut [u8]) {
         }
     }
     put_marks(marks);
+}
+
+fn show_authorised(input: &[u8], marks: &mut [u8]) {
+    let mut propositions = [OLD; ENTRIES];
+    let mut proofs = [OLD; ENTRIES];
+    let mut depths = [OLD; ENTRIES];
+    let answer = evr0_authorised::authorised::authorised(
+        input,
+        0,
+        PropositionIndex(0),
+        &mut propositions,
+        &mut proofs,
+        &mut depths,
+        marks,
+    );
+    match answer {
+        AuthorisedAnswer::Answer(authorised) => {
+            if authorised {
+                put(b"; authorised:");
+            } else {
+                put(b"; not:");
+            }
+        }
+        AuthorisedAnswer::Refused(refused) => {
+            put(b"; refused ");
+            io::print_decimal(STDOUT_FILENO, refused.number as u64);
+            put(b":");
+        }
+    }
+    put_marks(marks);
     put(b"\n");
 }
 
@@ -75,6 +108,8 @@ fn entry(list: &[u8], at: usize) -> usize {
     }
     let mut marks = [OLD_BYTE; ENTRIES];
     show(&rest[3..end], &mut marks[..lent]);
+    let mut again = [OLD_BYTE; ENTRIES];
+    show_authorised(&rest[3..end], &mut again[..lent]);
     diag_offset(at, end)
 }
 

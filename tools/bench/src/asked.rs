@@ -1,5 +1,5 @@
-//! Questions about a section: a record by its number, the way down, whether a proposition is authorised. The Rust decodes and then looks;
-//! the port's functions decode too, with tables as long as the counts.
+//! Questions about a section: a record by its number, the way down. The Rust decodes and then looks; the port's functions decode too, with
+//! tables as long as the counts.
 
 use crate::rows::{Plan, Row, calls, plan};
 use falgnust::calls::{self as port, SectionTables};
@@ -52,15 +52,6 @@ pub fn rows() -> Vec<Plan> {
             JOINS,
             moves,
             |bytes, lent| port::way_down(bytes, 0, PROOFS - 1, MOVES, lent).moves,
-        ),
-        asked(
-            "asked, whether a proposition of 40,000 proofs is authorised, joins",
-            JOINS,
-            |s| {
-                let mut of_it = s.proofs.iter();
-                u64::from(of_it.any(|p| p.proposition_index == 0 && p.authorized_operation == 1))
-            },
-            |bytes, lent| u64::from(port::authorised(bytes, 0, 0, lent).authorised),
         ),
     ]
 }

@@ -3,16 +3,19 @@
 
 use crate::rows::{Calls, Plan, Row, calls, plan};
 use crate::sections::{Make, SHAPES, port_summary, rust_summary};
-use inputs::marked::joins_upon_joins;
+use inputs::marked::{joins_upon_joins, with_a_second_proposition};
 use inputs::random::Random;
 use inputs::shapes;
-use port::section::{decode_evr0_section, decode_evr0_unmarked};
+use port::section::{authorised, decode_evr0_section, decode_evr0_unmarked};
 use std::cell::RefCell;
 use std::hint::black_box;
 
 /// Two witnesses and two joins in each of 100 layers, and a chain of as many proofs.
 const JOINS: Make = |r| joins_upon_joins(r, 100, [true, false]);
 const CHAIN: Make = |r| shapes::chain(r, 202);
+
+/// 40,000 proofs of mark 1, and a last proposition that has none.
+const UNPROVED: Make = |r| with_a_second_proposition(shapes::ops_on_one(r, 40_000));
 
 pub fn rows() -> Vec<Plan> {
     let mut rows = Vec::new();
@@ -34,6 +37,12 @@ pub fn rows() -> Vec<Plan> {
     }
     let name = "against a chain of 202 proofs, 200 joins upon joins";
     rows.push(against(name, (CHAIN, decoded), (JOINS, decoded)));
+    for (name, make) in SHAPES {
+        let name = format!("against the decoder with marks, authorised, {name}");
+        rows.push(against(&name, (make, decoded), (make, asked)));
+    }
+    let name = "against the decoder with marks, authorised, no proof of the proposition";
+    rows.push(against(name, (UNPROVED, decoded), (UNPROVED, asked)));
     rows
 }
 
@@ -110,7 +119,13 @@ impl Lent {
     }
 }
 
-/// The decoder with marks, where sections differ.
+/// Whether the last proposition is authorised.
+fn asked(lent: &mut Lent, file: &[u8]) -> u64 {
+    let last = lent.tables[0].len() as u32 - 1;
+    authorised(file, 0, last, &mut lent.tables, &mut lent.marks).is_ok() as u64
+}
+
+/// The decoder with marks, where the answers differ.
 fn decoded(lent: &mut Lent, file: &[u8]) -> u64 {
     lent.marked(file).min(1)
 }

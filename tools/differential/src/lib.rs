@@ -1,5 +1,6 @@
 //! The comparisons of the port with the Rust, for the run and for the fuzz target.
 
+pub mod authorised;
 pub mod block_binding;
 pub mod block_binding_numbers;
 pub mod block_compare;

@@ -1,7 +1,7 @@
 //! Compares the port with the Rust on seeded inputs: kind, number and offset of each refusal, and each result and table entry.
 
 use differential::tally::{LEAST, Tally};
-use differential::{blocks, fields, functions, marks, neighbours, sections, texts, utf8};
+use differential::{authorised, blocks, fields, functions, marks, neighbours, sections, texts, utf8};
 use inputs::random::Random;
 
 /// The random inputs of a part, where no other number is asked for.
@@ -12,13 +12,14 @@ const USAGE: &str = "usage: differential [--seed N] [--count N] [--part NAME]";
 /// The parts of a run: a name, and what tries so many random inputs.
 type Part = (&'static str, fn(&mut Random, usize) -> Tally);
 
-const PARTS: [Part; 8] = [
+const PARTS: [Part; 9] = [
     ("fields", |r, _| fields::run(r)),
     ("utf8", |_, _| utf8::run()),
     ("texts", texts::run),
     ("sections", sections::run),
     ("neighbours", neighbours::run),
     ("marks", marks::run),
+    ("authorised", authorised::run),
     ("blocks", blocks::run),
     ("functions", functions::run),
 ];
@@ -55,7 +56,7 @@ fn main() {
 
 const NOT_GIVEN: &str = "14 and 15 are never given: evr0_section/Stages.never-14-15.
 61 and 62 have no Rust side: they are compared with document 01.
-Marks have none either: they are compared with plain lines from document 02 over the Rust's records.";
+Marks and what they authorise have none either: they are compared with plain lines from document 02 over the Rust's records.";
 
 /// Whether every condition that can be reached was met often enough, and a tenth of the sections, of the blocks and of the files was accepted.
 fn enough(tallies: &[Tally]) -> bool {

@@ -79,7 +79,7 @@ pub fn call_marked(case: &SectionCase, rooms: Rooms, marks: usize) -> (Called, V
 }
 
 /// What a table of marks holds before a call.
-const OLD_MARK: u8 = 0xAA;
+pub const OLD_MARK: u8 = 0xAA;
 
 pub fn expected(case: &SectionCase, rust: &Answer<Section>, rooms: Rooms) -> Called {
     match rust {

@@ -30,12 +30,6 @@ pub fn way_down(section: &DecodedEvr0, from: u32, limit: u64) -> Down {
     }
 }
 
-/// Whether some proof of a proposition has operation 1.
-pub fn authorised(section: &DecodedEvr0, proposition: u32) -> bool {
-    let mut of_it = section.proofs.iter();
-    of_it.any(|p| p.proposition_index == proposition && p.authorized_operation == 1)
-}
-
 /// `accepted` and the refusal, and what is expected where there is no refusal.
 fn parts<T>(expected: Answer<T>) -> (bool, raw::Refusal, Option<T>) {
     match expected {

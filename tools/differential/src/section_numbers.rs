@@ -1,9 +1,10 @@
-//! What is asked of a section by number: records of the Rust's vectors, the way down and authorised by plain lines over them, 62 past
+//! What is asked of a section by number: records of the Rust's vectors, the way down and, with marks, authorised by plain lines over them, 62 past
 //! their end, and the section's own refusal where it has one. Each is asked of a C function, whose lent tables are looked at, and of the
 //! crate that callers link.
 
 use crate::block_compare::{OLD, lent};
 use crate::section_binding::{self as binding, Told, rust_told, told};
+use crate::section_compare::OLD_MARK;
 use crate::section_expected::{self as expected, Down, Record};
 use crate::tally::{Tally, hex};
 use answers::Answer;
@@ -35,9 +36,13 @@ pub fn compare(tally: &mut Tally, case: &SectionCase, rust: &Answer<(Section, De
         Ok((section, _)) => section.head.counts.map(numbers),
         Err(_) => std::array::from_fn(|_| vec![0]),
     };
+    let marks = match rust {
+        Ok((_, decoded)) => oracle::marks::marks(decoded),
+        Err(_) => vec![],
+    };
     for number in &numbers[0] {
         asked.proposition(tally, *number);
-        asked.authorised(tally, *number);
+        asked.authorised(tally, *number, &marks);
     }
     for number in &numbers[1] {
         asked.proof(tally, *number);
@@ -144,16 +149,21 @@ impl Asked<'_> {
         self.same_told(tally, name, value.map(record), port);
     }
 
-    fn authorised(&self, tally: &mut Tally, number: u32) {
+    /// With the marks, which are compared too.
+    fn authorised(&self, tally: &mut Tally, number: u32, marks: &[u8]) {
         let value = self.value(|section, decoded| {
             let there = (number as usize) < section.head.counts[0];
-            there.then(|| expected::authorised(decoded, number))
+            there.then(|| oracle::marks::authorised(decoded, marks, number))
         });
         let name = "authorised";
         let raw = expected::raw_authorised(value);
+        let mut table = vec![OLD_MARK; self.rooms()[2]];
         self.same(tally, name, &value, raw, |lent| {
-            calls::authorised(self.file, self.cursor, number, lent)
+            calls::authorised(self.file, self.cursor, number, lent, &mut table)
         });
+        let marks = if value.is_ok() { marks } else { &[] };
+        let left = oracle::marks::lent(marks, table.len());
+        tally.same(&left, &table, || self.what("marks of authorised"));
         let port = evr0::authorised(self.file, self.cursor, number);
         self.same_told(tally, name, value, port);
     }

@@ -97,7 +97,7 @@ impl Section {
     }
 }
 
-fn proposition(kind: &[u8], numbers: [u32; 3]) -> Proposition {
+pub(crate) fn proposition(kind: &[u8], numbers: [u32; 3]) -> Proposition {
     Proposition {
         kind: Text::new(kind),
         owner: numbers[0],

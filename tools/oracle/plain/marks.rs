@@ -1,4 +1,5 @@
-//! The marks of a section's proofs, which the Rust does not have, in plain lines from the words of document 02's Slip 5.
+//! The marks of a section's proofs and what they authorise, which the Rust does not have, in plain lines from the words of document 02's Slips
+//! 5 and 6.
 
 use crate::evr0::DecodedEvr0;
 
@@ -83,6 +84,15 @@ fn walk(section: &DecodedEvr0, proof: usize, at_ends: &mut Vec<u8>) {
     for parent in parents {
         walk(section, *parent as usize, at_ends);
     }
+}
+
+/// A proposition is authorised when some proof of it has operation 1 and mark 1.
+pub fn authorised(section: &DecodedEvr0, marks: &[u8], proposition: u32) -> bool {
+    let mut proofs = section.proofs.iter().zip(marks);
+    proofs.any(|(proof, mark)| {
+        let of_it = proof.proposition_index == proposition;
+        of_it && proof.authorized_operation == 1 && *mark == 1
+    })
 }
 
 /// Whether a table of so many bytes is refused, with 61.

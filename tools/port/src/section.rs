@@ -41,6 +41,27 @@ pub fn decode_evr0_unmarked(
     answer(calls::decode_evr0_unmarked(bytes, cursor, lent))
 }
 
+/// Whether a proposition is authorised; the tables are those of propositions, proofs and depths.
+#[inline]
+pub fn authorised(
+    bytes: &[u8],
+    cursor: usize,
+    proposition: u32,
+    [propositions, proofs, depths]: &mut [Vec<u64>; 3],
+    marks: &mut [u8],
+) -> Answer<bool> {
+    let lent = SectionTables {
+        propositions,
+        proofs,
+        depths,
+    };
+    let a = calls::authorised(bytes, cursor, proposition, lent, marks);
+    match a.accepted {
+        true => Ok(a.authorised),
+        false => Err(refusal::answer(a.refusal)),
+    }
+}
+
 #[inline]
 fn answer(s: raw::Section) -> (Answer<Head>, usize) {
     if !s.accepted {

@@ -83,14 +83,16 @@ pub fn way_down(
     }))
 }
 
-/// Whether a proposition is authorised: some proof of it has operation 1.
+/// Whether a proposition is authorised: some proof of it has operation 1 and [mark](super::marks) 1, so that every walk down from that proof ends
+/// at a positive witness. An operation on a negative witness, or on a join of both, authorises nothing.
 pub fn authorised(
     bytes: &[u8],
     cursor: usize,
     proposition: u32,
 ) -> Result<Option<bool>, Evr0Error> {
     answer(lend(bytes, |lent| {
-        let read = calls::authorised(bytes, cursor, proposition, lent);
+        let mut marks = vec![0; lent.depths.len()];
+        let read = calls::authorised(bytes, cursor, proposition, lent, &mut marks);
         records::authorised(read)
     }))
 }

@@ -62,7 +62,7 @@ pub struct Authorised {
     pub accepted: bool,
     /// Why not.
     pub refusal: Refusal,
-    /// Whether some proof of it has operation 1.
+    /// Whether some proof of it has operation 1 and mark 1.
     pub authorised: bool,
 }
 
@@ -126,7 +126,7 @@ unsafe extern "C" {
         depths_len: usize,
     ) -> WayDown;
 
-    /// Whether some proof of a proposition has operation 1.
+    /// Whether some proof of a proposition has operation 1 and mark 1. It decodes the section anew, with its marks.
     pub fn falgnust_authorised(
         bytes: *const u8,
         bytes_len: usize,
@@ -138,6 +138,8 @@ unsafe extern "C" {
         proofs_len: usize,
         depths: *mut u64,
         depths_len: usize,
+        marks: *mut u8,
+        marks_len: usize,
     ) -> Authorised;
 }
 

@@ -1,8 +1,8 @@
-//! Marks: of witnesses, of joins of like and of unlike proofs, of operations on them, and of joins upon joins.
+//! Marks: of witnesses, of joins of like and of unlike proofs, of operations on them, and of joins upon joins; and what they authorise.
 
 use crate::written::{Proof, op, section, witnessed};
 use falgnust::calls::{self, SectionTables};
-use falgnust::evr0::marks;
+use falgnust::evr0::{authorised, marks};
 
 fn negative() -> Proof {
     Proof {
@@ -83,5 +83,44 @@ fn in_a_lent_table() {
         let answer = calls::decode_evr0_section(file, 0, lent, &mut marks);
         assert_eq!((answer.refusal.number, marks), (number, left));
         assert_eq!(tables == [[0; 3]; 3], number != 0);
+    }
+}
+
+/// An operation counts where its own proof has mark 1, whatever stands beside it.
+#[test]
+fn authorised_by_an_operation_of_mark_1() {
+    for (proofs, due) in [
+        (vec![witnessed(1), op(0)], true),
+        (vec![negative(), op(0)], false),
+        (vec![witnessed(1), negative(), join(0, 1), op(2)], false),
+        (vec![negative(), op(0), witnessed(1), op(2)], true),
+        (vec![witnessed(1), negative(), op(1)], false),
+        (vec![witnessed(1), witnessed(1), join(0, 1), op(2)], true),
+        (vec![witnessed(1)], false),
+    ] {
+        assert_eq!(authorised(&section(&proofs), 0, 0), Ok(Some(due)));
+    }
+}
+
+/// 62 leaves zeros in the marks, too.
+#[test]
+fn authorised_of_no_proposition() {
+    let file = section(&[witnessed(1), op(0)]);
+    for (number, room, due, left) in [
+        (0, 3, 0, vec![1, 1, 0]),
+        (1, 3, 62, vec![0; 3]),
+        (0, 1, 61, vec![0]),
+    ] {
+        let mut tables = [[7; 3]; 3];
+        let [propositions, proofs, depths] = &mut tables;
+        let lent = SectionTables {
+            propositions,
+            proofs,
+            depths,
+        };
+        let mut marks = vec![0xAA; room];
+        let answer = calls::authorised(&file, 0, number, lent, &mut marks);
+        assert_eq!((answer.refusal.number, marks), (due, left));
+        assert_eq!(tables == [[0; 3]; 3], due != 0);
     }
 }

@@ -1,0 +1,4 @@
+pub mod OperatesLaws
+pub mod AuthorisedLaws
+pub mod Stated
+pub mod Neighbours

@@ -1,0 +1,2 @@
+pub mod Authorised
+pub mod Maps

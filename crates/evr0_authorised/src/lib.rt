@@ -1,0 +1,2 @@
+// Whether a proposition of an evidence section is authorised.
+pub mod authorised;
