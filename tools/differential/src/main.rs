@@ -1,7 +1,9 @@
 //! Compares the port with the Rust on seeded inputs: kind, number and offset of each refusal, and each result and table entry.
 
 use differential::tally::{LEAST, Tally};
-use differential::{authorised, blocks, fields, functions, marks, neighbours, sections, texts, utf8};
+use differential::{
+    authorised, blocks, fields, functions, marks, neighbours, sections, texts, utf8,
+};
 use inputs::random::Random;
 
 /// The random inputs of a part, where no other number is asked for.
