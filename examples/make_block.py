@@ -1,5 +1,6 @@
 #!/usr/bin/env python3
-"""Writes the example block beside this file, of revision 22: two strings, two debug symbols, three paths and two bytes of instructions."""
+"""Writes the example block beside this file, of revision 22: two strings, two debug symbols, three paths, a signature
+of two parameters and two bytes of instructions."""
 import pathlib
 import struct
 
@@ -60,6 +61,8 @@ block += b"OWN0" + table(
         path(record_at(8), 11, [field(12), sequence(3)]),
     ]
 )
+TEXT, RECORD = 3, 12
+block += b"SIG0" + table([pack("B", TEXT), pack("B", RECORD)])
 block += b"\x01\x02"
 
 here = pathlib.Path(__file__).parent

@@ -27,7 +27,7 @@ extern "C" {
 
 /* The version of this header: ten thousand times the first number, a hundred times the second, and the third. The first rises where a
  * struct, an argument or an answer changes, and the second where something is added. */
-#define FALGNUST_VERSION 40000
+#define FALGNUST_VERSION 50000
 
 /* Layouts: the size of each struct below is that of the struct in crates/falgnust/src. */
 #define FALGNUST_SIZE(type, size) FALGNUST_ASSERT(sizeof(type) == (size), #type " has another layout")
@@ -45,19 +45,20 @@ enum {
     FALGNUST_OWNERSHIP = 4,
     FALGNUST_ADDED = 5,
     FALGNUST_TRUNCATED = 6,
-    FALGNUST_NAME = 7
+    FALGNUST_NAME = 7,
+    FALGNUST_SIGNATURE = 8
 };
 
 typedef struct FalgnustRefusal {
     uint8_t kind;
-    uint8_t number; /* 1 to 65; 0 in an accepted answer */
+    uint8_t number; /* 1 to 73; 0 in an accepted answer */
     size_t offset;
 } FalgnustRefusal;
 FALGNUST_SIZE(FalgnustRefusal, 16);
 
-/* The message of each number, in the Rust's words; after those of 31 and 36 the Rust writes the count, and 63 and 64 have three each there.
- * 0 stands for no refusal. */
-static const char *const FALGNUST_MESSAGES[66] = {
+/* The message of each number, in the Rust's words; after those of 31, 36 and 73 the Rust writes the count; 63, 64 and 72 have three each
+ * there, and 71 two. 0 stands for no refusal, and 66 to 70 are not given. */
+static const char *const FALGNUST_MESSAGES[74] = {
     "accepted",
     "missing mandatory EVR0 section",
     "EVR0 length truncated",
@@ -123,7 +124,11 @@ static const char *const FALGNUST_MESSAGES[66] = {
     "number not in the accepted table",
     "function's name length or code length cut, or its block past the end",
     "function's name empty, too long, cut or not UTF-8",
-    "too many functions (>1024)"
+    "too many functions (>1024)",
+    "", "", "", "", "",
+    "OWN0 or SIG0 section missing",
+    "parameter count or family cut, or family unknown",
+    "too many callable-signature parameters: "
 };
 
 /* ---- Evidence sections ----
@@ -322,8 +327,10 @@ FalgnustAuthorised falgnust_authorised(
 
 /* ---- Function blocks ----
  *
- * A lent list takes the debug symbols, and two lent tables take the place in the block of each string's length and of each path's event
- * kind. One that is shorter than its count is refused with 61; 8192 symbols, 256 strings and 65535 paths are never too few. Offsets are
+ * A lent list takes the debug symbols, two lent tables take the place in the block of each string's length and of each path's event kind, and
+ * a lent table of bytes takes the families of the signature's parameters. One that is shorter than its count is refused with 61; 8192
+ * symbols, 256 strings, 65535 paths and 4096 families are never too few. A signature is read from revision 20 on, where OWN0 and SIG0 have
+ * to be there (71); below it there is none, which is not a signature of 0 parameters. Offsets are
  * base_offset plus the place in the block, held at the largest 64-bit number; the fields of an accepted answer are places in the block. */
 
 typedef struct FalgnustDebugSymbol {
@@ -338,21 +345,44 @@ typedef struct FalgnustBlock {
     FalgnustRefusal refusal;
     bool has_debug_section;
     bool has_ownership_section;
+    bool has_signature;
     size_t string_count;
     size_t string_table_end_offset;
     size_t debug_symbol_count;
     size_t debug_symbols_start;
     size_t path_count;
+    size_t parameter_count;
+    size_t families_start; /* where the first family stands, or would */
     size_t instr_start_offset;
 } FalgnustBlock;
-FALGNUST_SIZE(FalgnustBlock, 80);
+FALGNUST_SIZE(FalgnustBlock, 96);
 
-/* Decodes a block's strings, DBG0 and OWN0 tables. */
+/* The families of a parameter, as the format's byte. */
+enum {
+    FALGNUST_QUAD = 1,
+    FALGNUST_BOOL = 2,
+    FALGNUST_TEXT = 3,
+    FALGNUST_SEQUENCE = 4,
+    FALGNUST_MAP = 5,
+    FALGNUST_CLOSURE = 6,
+    FALGNUST_I32 = 7,
+    FALGNUST_U32 = 8,
+    FALGNUST_FX = 9,
+    FALGNUST_F64 = 10,
+    FALGNUST_TUPLE = 11,
+    FALGNUST_RECORD = 12,
+    FALGNUST_ADT = 13,
+    FALGNUST_UNIT = 14,
+    FALGNUST_BYTES = 15
+};
+
+/* Decodes a block's strings, DBG0 and OWN0 tables, and its signature. */
 FalgnustBlock falgnust_parse_string_table_debug_and_ownership(
     size_t base_offset, const uint8_t *code, size_t code_len, uint16_t header_rev,
     FalgnustDebugSymbol *symbols, size_t symbols_len,
     uint64_t *strings, size_t strings_len,
-    uint64_t *paths, size_t paths_len);
+    uint64_t *paths, size_t paths_len,
+    uint8_t *families, size_t families_len);
 
 /* In each record of a block, next is the place after it. */
 
@@ -439,26 +469,30 @@ FalgnustComponent falgnust_read_component(const uint8_t *code, size_t code_len, 
 FalgnustText falgnust_string_number(
     size_t base_offset, const uint8_t *code, size_t code_len, uint16_t header_rev, size_t number,
     uint64_t *strings, size_t strings_len,
-    uint64_t *paths, size_t paths_len);
+    uint64_t *paths, size_t paths_len,
+    uint8_t *families, size_t families_len);
 FalgnustSymbol falgnust_symbol_number(
     size_t base_offset, const uint8_t *code, size_t code_len, uint16_t header_rev, size_t number,
     uint64_t *strings, size_t strings_len,
-    uint64_t *paths, size_t paths_len);
+    uint64_t *paths, size_t paths_len,
+    uint8_t *families, size_t families_len);
 FalgnustPath falgnust_path_number(
     size_t base_offset, const uint8_t *code, size_t code_len, uint16_t header_rev, size_t number,
     uint64_t *strings, size_t strings_len,
-    uint64_t *paths, size_t paths_len);
+    uint64_t *paths, size_t paths_len,
+    uint8_t *families, size_t families_len);
 /* Component `component` of path `number`. */
 FalgnustComponent falgnust_component_number(
     size_t base_offset, const uint8_t *code, size_t code_len, uint16_t header_rev, size_t number, size_t component,
     uint64_t *strings, size_t strings_len,
-    uint64_t *paths, size_t paths_len);
+    uint64_t *paths, size_t paths_len,
+    uint8_t *families, size_t families_len);
 
 /* ---- All functions of a file ----
  *
  * From a cursor to the end of the bytes: each function's name, its code length and its block, decoded as above with its place in the bytes as
  * base_offset. A lent table takes the place of each name's length. It has to have an entry for a function before that is read, else 61
- * there; (bytes_len - cursor) / 9 + 1 entries are never too few, nor are 1024. The list and the two tables of a block end as the last
+ * there; (bytes_len - cursor) / 9 + 1 entries are never too few, nor are 1024. The list and the three tables of a block end as the last
  * function's; where there is no function they are zeros. All places are places in the bytes, but for those in `last`. */
 
 typedef struct FalgnustFunctions {
@@ -469,7 +503,7 @@ typedef struct FalgnustFunctions {
     size_t last_code; /* where the last function's block starts */
     FalgnustBlock last; /* that block; not accepted and zeros where there is no function */
 } FalgnustFunctions;
-FALGNUST_SIZE(FalgnustFunctions, 128);
+FALGNUST_SIZE(FalgnustFunctions, 144);
 
 /* Decodes all functions from a cursor on. A cursor at or past the end gives none. */
 FalgnustFunctions falgnust_decode_functions(
@@ -477,7 +511,8 @@ FalgnustFunctions falgnust_decode_functions(
     FalgnustDebugSymbol *symbols, size_t symbols_len,
     uint64_t *functions, size_t functions_len,
     uint64_t *strings, size_t strings_len,
-    uint64_t *paths, size_t paths_len);
+    uint64_t *paths, size_t paths_len,
+    uint8_t *families, size_t families_len);
 
 typedef struct FalgnustFunction {
     bool accepted;
@@ -499,7 +534,8 @@ FalgnustFunction falgnust_function_number(
     const uint8_t *bytes, size_t bytes_len, size_t cursor, uint16_t header_rev, size_t number,
     uint64_t *functions, size_t functions_len,
     uint64_t *strings, size_t strings_len,
-    uint64_t *paths, size_t paths_len);
+    uint64_t *paths, size_t paths_len,
+    uint8_t *families, size_t families_len);
 
 /* ---- Texts and fields ---- */
 

@@ -7,11 +7,12 @@
 #include <stdlib.h>
 
 /* As many as there can be, so that no lent table is too short. */
-enum { MOST_FUNCTIONS = 1024, MOST_SYMBOLS = 8192, MOST_STRINGS = 256, MOST_PATHS = 65535 };
+enum { MOST_FUNCTIONS = 1024, MOST_SYMBOLS = 8192, MOST_STRINGS = 256, MOST_PATHS = 65535, MOST_FAMILIES = 4096 };
 
 typedef struct Lent {
     FalgnustDebugSymbol *symbols;
     uint64_t *functions, *strings, *paths;
+    uint8_t *families;
 } Lent;
 
 static void print_head(const Input *file, size_t start, FalgnustFunction f) {
@@ -24,20 +25,25 @@ static void print_head(const Input *file, size_t start, FalgnustFunction f) {
 static void print_block(const Input *file, uint16_t revision, FalgnustFunction f, Lent lent) {
     const uint8_t *code = file->bytes + f.code_offset;
     FalgnustBlock b = falgnust_parse_string_table_debug_and_ownership(
-        f.code_offset, code, f.code_len, revision, lent.symbols, MOST_SYMBOLS, lent.strings, MOST_STRINGS, lent.paths, MOST_PATHS);
+        f.code_offset, code, f.code_len, revision, lent.symbols, MOST_SYMBOLS, lent.strings, MOST_STRINGS, lent.paths, MOST_PATHS,
+        lent.families, MOST_FAMILIES);
     for (size_t i = 0; i < b.string_count; i++) {
         FalgnustText text = falgnust_read_string(code, f.code_len, lent.strings[i]);
         printf("  string %zu: \"", i);
         print_text(code + text.start, text.len);
         printf("\"\n");
     }
-    printf("  symbols %zu, paths %zu, instructions at %zu\n", b.debug_symbol_count, b.path_count, b.instr_start_offset);
+    printf("  symbols %zu, paths %zu, ", b.debug_symbol_count, b.path_count);
+    if (b.has_signature)
+        printf("parameters %zu, ", b.parameter_count);
+    printf("instructions at %zu\n", b.instr_start_offset);
 }
 
 static int list(const Input *file, size_t cursor, uint16_t revision, Lent lent) {
     FalgnustFunctions all = falgnust_decode_functions(
         file->bytes, file->len, cursor, revision, lent.symbols, MOST_SYMBOLS, lent.functions, MOST_FUNCTIONS,
-        lent.strings, MOST_STRINGS, lent.paths, MOST_PATHS);
+        lent.strings, MOST_STRINGS, lent.paths, MOST_PATHS,
+        lent.families, MOST_FAMILIES);
     if (!all.accepted)
         return refused(all.refusal);
     for (size_t i = 0; i < all.functions; i++) {
@@ -60,6 +66,7 @@ int main(int count, char **words) {
         room_for(MOST_FUNCTIONS, sizeof(uint64_t)),
         room_for(MOST_STRINGS, sizeof(uint64_t)),
         room_for(MOST_PATHS, sizeof(uint64_t)),
+        room_for(MOST_FAMILIES, sizeof(uint8_t)),
     };
     int status = list(&file, number_in(words[2], SIZE_MAX), (uint16_t)number_in(words[3], UINT16_MAX), lent);
     free(file.bytes);
@@ -67,5 +74,6 @@ int main(int count, char **words) {
     free(lent.functions);
     free(lent.strings);
     free(lent.paths);
+    free(lent.families);
     return status;
 }

@@ -52,7 +52,7 @@ unsigned long number_in(const char *word, unsigned long most) {
 }
 
 int refused(FalgnustRefusal refusal) {
-    static const char *const kinds[] = {"Invalid", "Limit", "Strings", "Debug", "Ownership", "Added", "Truncated", "Name"};
+    static const char *const kinds[] = {"Invalid", "Limit", "Strings", "Debug", "Ownership", "Added", "Truncated", "Name", "Signature"};
     printf("refused %u at %zu (%s)\n", refusal.number, refusal.offset, kinds[refusal.kind]);
     return 1;
 }

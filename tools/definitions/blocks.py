@@ -1,7 +1,7 @@
-"""Blocks: `decodeBlock`, with the tags, the places, and every string's start, symbol and path."""
+"""Blocks: `decodeBlock`, with the tags, the places, and every string's start, symbol, path and family."""
 import re
 
-from terms import listed, refused
+from terms import listed, numbers, refused
 
 CRATE = "semcode_decode"
 NAMES = ["startOf", "valueOf", "toldSymbol", "toldPath", "told", "rooms", "answer"]
@@ -10,7 +10,7 @@ use mathlib.Core.Path.{_≡_, refl}
 use mathlib.Core.Bool.{Bool, true, false}
 use mathlib.Core.List.{List, [], _∷_, map}
 use Rattle.local_format.specs.Out.{Out, ok, refused}
-use Rattle.local_format.specs.Refusal.{Kind, limit, strings, debug, ownership}
+use Rattle.local_format.specs.Refusal.{Kind, limit, strings, debug, ownership, signature}
 use Rattle.semcode_records.specs.Records.{Entry}
 use Rattle.semcode_records.specs.Symbol.{Symbol}
 use Rattle.semcode_records.specs.Component.{Component, tupleIndex, fieldSymbol, variant, sequenceIndex}
@@ -25,7 +25,7 @@ pub data ToldPath : Type 0 where
   path : ℕ → Event → ℕ → List Component → ToldPath
 
 pub data Told : Type 0 where
-  accepted : Bool → Bool → ℕ → ℕ → List ℕ → List ToldSymbol → List ToldPath → Told
+  accepted : Bool → Bool → Bool → ℕ → ℕ → ℕ → List ℕ → List ToldSymbol → List ToldPath → List ℕ → Told
   turnedBack : Kind → ℕ → ℕ → Told
 
 startOf : {A : Type 0} → Entry A → ℕ
@@ -42,12 +42,13 @@ toldPath e = path (e .start) (e .value .event) (e .value .root) (map valueOf (e 
 
 told : Out Block → Told
 told (ok b) =
-    accepted (b .debug .found) (b .ownership .found) (b .strings .end) (b .ownership .table .end)
+    accepted (b .debug .found) (b .ownership .found) (b .signature .found) (b .strings .end) (b .signature .table .start) (b .signature .table .end)
     (map startOf (b .strings .entries)) (map toldSymbol (b .debug .table .entries)) (map toldPath (b .ownership .table .entries))
+    (map valueOf (b .signature .table .entries))
 told (refused r) = turnedBack (r .kind) (r .number) (r .offset)
 
 rooms : Rooms
-rooms = record { strings = 256; symbols = 8192; paths = 65535 }
+rooms = record { strings = 256; symbols = 8192; paths = 65535; families = 4096 }
 
 answer : List ℕ → ℕ → ℕ → Told
 answer s base revision = told (decodeBlock base revision rooms s)
@@ -92,5 +93,6 @@ def answer(line):
     strings = [item.split(":")[0] for item in fields["strings"].split(",") if item]
     symbols = ["symbol " + item.replace(":", " ") for item in fields["symbols"].split(",") if item]
     paths = [path(item) for item in re.findall(r"[^,\[]+\[[^\]]*\]", fields["paths"])]
-    places = f"{fields['debug']} {fields['ownership']} {fields['strings_end']} {fields['instructions']}"
-    return f"accepted {places} {listed(strings)} {listed(symbols)} {listed(paths)}"
+    tags = f"{fields['debug']} {fields['ownership']} {fields['signature']}"
+    places = f"{fields['strings_end']} {fields['families_start']} {fields['instructions']}"
+    return f"accepted {tags} {places} {listed(strings)} {listed(symbols)} {listed(paths)} {numbers(fields['families'])}"

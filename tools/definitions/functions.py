@@ -7,7 +7,7 @@ HEAD = """use Prim.Native.Nat.{ℕ}
 use mathlib.Core.Path.{_≡_, refl}
 use mathlib.Core.List.{List, [], _∷_, map}
 use Rattle.local_format.specs.Out.{Out, ok, refused}
-use Rattle.local_format.specs.Refusal.{Kind, limit, strings, debug, ownership, truncated, name}
+use Rattle.local_format.specs.Refusal.{Kind, limit, strings, debug, ownership, truncated, name, signature}
 use Rattle.semcode_records.specs.Records.{Entry}
 use Rattle.semcode_decode.specs.Block.{Rooms}
 use Rattle.semcode_functions.specs.Function.{Function, decodeFunctions}
@@ -30,7 +30,7 @@ told (ok fs) = accepted (map toldFunction fs)
 told (refused r) = turnedBack (r .kind) (r .number) (r .offset)
 
 rooms : Rooms
-rooms = record { strings = 256; symbols = 8192; paths = 65535 }
+rooms = record { strings = 256; symbols = 8192; paths = 65535; families = 4096 }
 
 answer : List ℕ → ℕ → ℕ → Told
 answer s cursor revision = told (decodeFunctions revision rooms 1024 s cursor)

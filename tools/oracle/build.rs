@@ -1,9 +1,8 @@
 //! Makes the oracle's modules from three Rust files that are not part of this repository.
 //!
 //! SEMANTIC_SRC names a checkout of skulmakov-oss/Semantic at commit a38c216cab. Its files must have the sums in sources.sha256. They are
-//! copied to OUT_DIR as they are, but for three mechanical changes: semcode_decode.rs' block function stops before its signature step, the
-//! functions in reach/ are appended, since what they call is private, and so is the loop of `decode_semcode` as a function of its own.
-//! The files of plain/, for what the Rust does not have, are copied beside them.
+//! copied to OUT_DIR as they are, but for two mechanical changes: the functions in reach/ are appended, since what they call is private, and so
+//! is the loop of `decode_semcode` as a function of its own. The files of plain/, for what the Rust does not have, are copied beside them.
 
 use std::env;
 use std::fs;
@@ -28,9 +27,6 @@ fn main() {
         let file = sources.join(module).with_extension("rs");
         println!("cargo::rerun-if-changed={}", file.display());
         let mut text = read(&file);
-        if module == "semcode_decode" {
-            text = stopped_before_signature(&text);
-        }
         let reach = PathBuf::from(format!("reach/{module}.rs"));
         if reach.exists() {
             println!("cargo::rerun-if-changed={}", reach.display());
@@ -94,21 +90,6 @@ fn once(text: &str, wanted: &str) -> usize {
         .unwrap_or_else(|| panic!("not found: {wanted:?}"));
     assert!(places.next().is_none(), "found twice: {wanted:?}");
     at
-}
-
-/// Document 01: the reference is the function up to but without its signature step.
-fn stopped_before_signature(text: &str) -> String {
-    let step = once(
-        text,
-        "    let signature = if header_rev >= SEMCODE_SIGNATURE_MIN_REVISION {\n",
-    );
-    let end = once(text, "    Ok(StringTableDebugOwnershipParse {\n");
-    assert!(step < end, "the signature step is not the last one");
-    format!(
-        "{}    let signature = None;\n\n{}",
-        &text[..step],
-        &text[end..]
-    )
 }
 
 /// The loop over functions, as it stands in `decode_semcode`, from any cursor on and under any revision.

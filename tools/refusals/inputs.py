@@ -8,8 +8,8 @@ import re
 
 TOP = os.path.dirname(os.path.dirname(os.path.dirname(os.path.abspath(__file__))))
 DOCUMENT = os.path.join(TOP, "docs", "REFUSALS.md")
-KINDS = ("Invalid", "Limit", "Strings", "Debug", "Ownership", "Added", "Truncated", "Name")
-LONGEST = {"section": (65536, 65536, 65536), "block": (256, 8192, 65535), "functions": (1024, 256, 8192, 65535)}  # lent tables that are never too short
+KINDS = ("Invalid", "Limit", "Strings", "Debug", "Ownership", "Added", "Truncated", "Name", "Signature")
+LONGEST = {"section": (65536, 65536, 65536), "block": (256, 8192, 65535, 4096), "functions": (1024, 256, 8192, 65535, 4096)}  # lent tables that are never too short
 
 
 @dataclasses.dataclass
@@ -18,7 +18,7 @@ class Case:
     form: str  # "section" (at cursor 0), "block" (at base 0) or "functions" (from cursor 0)
     data: bytes
     revision: int  # of a block or file
-    rooms: tuple  # lengths of the lent tables: propositions, proofs, depths; or functions, of a file, strings, symbols, paths
+    rooms: tuple  # lengths of the lent tables: propositions, proofs, depths; or functions, of a file, strings, symbols, paths, families
     marks: int  # length of the table of marks where it differs from that of depths, or None
     asked: tuple  # (what, number) of a record by number, or None
     number: int
@@ -27,8 +27,8 @@ class Case:
 
 
 def replayed(case):
-    """The three lengths that an entry of the replayed list has: for a file those of functions, strings and paths."""
-    return case.rooms if len(case.rooms) == 3 else (*case.rooms[:2], case.rooms[3])
+    """The lengths that an entry of the replayed list has: for a file those of functions, strings, paths and families."""
+    return (*case.rooms[:2], *case.rooms[3:]) if case.form == "functions" else case.rooms
 
 
 def number(n):
@@ -67,7 +67,7 @@ def cells(line):
 
 
 def asked_of(text):
-    revision, rooms, asked = 20, None, None
+    revision, rooms, asked = 19, None, None
     for what, numbers in re.findall(r"([a-z]+)((?: \d+)+)", text):
         numbers = [int(n) for n in numbers.split()]
         if what == "from":

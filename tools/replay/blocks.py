@@ -1,6 +1,7 @@
 """Blocks that the replayed list names one by one: each form, limits, and one or two faults at once.
 
-A block is a value of fields, written by document 01's layout. An input is (bytes, base, revision, lengths of the lent tables or none).
+A block is a value of fields, written by document 01's layout. From revision 20 on a block has OWN0 and a
+signature unless it is told otherwise. An input is (bytes, base, revision, lengths of the lent tables or none).
 """
 import copy
 import itertools
@@ -21,6 +22,8 @@ class Block:
     def __init__(self, revision):
         self.revision = revision
         self.strings, self.symbols, self.paths = [], None, None
+        self.signature, self.parameters = (b"SIG0", None) if revision >= 20 else (None, None)
+        self.families, self.unowned = b"", False
         self.counts, self.tags, self.order = [None] * 3, [b"DBG0", b"OWN0"], (1, 2)
         self.more, self.end = b"", None
 
@@ -28,10 +31,13 @@ class Block:
         counts = [len(t or ()) if n is None else n for t, n in zip((self.strings, self.symbols, self.paths), self.counts)]
         symbols = b"" if self.symbols is None else self.tags[0] + short(counts[1])
         symbols += b"".join(words(pc, line) + short(column) for pc, line, column in self.symbols or ())
-        paths = b"" if self.paths is None else self.tags[1] + short(counts[2])
+        signed = self.revision >= 20 and self.paths is None and not self.unowned
+        paths = self.tags[1] + short(counts[2]) if signed or self.paths is not None else b""
         paths += b"".join(event + mode + words(root) + short(count) + parts for event, mode, root, count, parts in map(Path.fields, self.paths or ()))
         tables = (b"", symbols, paths)
-        out = short(counts[0]) + b"".join(self.strings) + b"".join(tables[n] for n in self.order) + self.more
+        parameters = len(self.families) if self.parameters is None else self.parameters
+        signature = b"" if self.signature is None else self.signature + short(parameters) + self.families
+        out = short(counts[0]) + b"".join(self.strings) + b"".join(tables[n] for n in self.order) + signature + self.more
         return out[: self.end]
 
 
@@ -50,6 +56,7 @@ def each_form(revision):
     b = Block(revision)
     b.strings = [text(b""), text("k\x85\xe9".encode())]
     b.symbols = [(1, 2, 3), (2**32 - 1, 2**32 - 2, 65535)]
+    b.families = b"\1\x0f\7" if revision >= 20 else b""
     late = [SEQUENCE] if revision >= 22 else []
     if revision < 21:
         b.paths = [Path(0, b"", TUPLE, FIELD), Path(1, b"", FIELD, TUPLE)]
@@ -64,7 +71,7 @@ def each_form(revision):
 
 
 def shapes():
-    for revision in (0, 20, 21, 22, 23, 65535):
+    for revision in (0, 19, 20, 21, 22, 23, 65535):
         b = each_form(revision)
         yield b
         for order in ((2, 1), (2,), (1,), (1, 1), (2, 2), (1, 2, 1), (2, 1, 2)):  # OWN0 before DBG0, and twice
@@ -95,6 +102,37 @@ def shapes():
             mode = {0: b"\0", 1: b"\1" + SITE}.get(kind, b"") if revision >= 21 else b""
             one.paths = [Path(kind, mode, component, TUPLE), Path(kind, mode)]
             yield one
+
+
+def signatures():
+    for revision in (19, 20, 21, 22, 65535):
+        for families in (b"", b"\1", bytes(range(1, 16)), b"\0", b"\x10", b"\xff", b"\1\0", b"\x0f\x10", b"S"):
+            b = each_form(revision)
+            b.signature, b.families = b"SIG0", families
+            yield b
+            b = copy.deepcopy(b)
+            b.unowned, b.paths = True, None
+            yield b
+        for tag in (None, b"", b"S", b"SI", b"SIG", b"SIG1", b"sIG0"):
+            b = each_form(revision)
+            b.signature = tag
+            yield b
+            b = copy.deepcopy(b)
+            b.more, b.parameters, b.families = b"", 0, b""
+            yield b
+        for count in (0, 1, 2, 4, 4095, 4096, 4097, 65535):
+            b = each_form(revision)
+            b.signature, b.parameters = b"SIG0", count
+            yield b
+        for count in (4095, 4096, 4097):
+            b = each_form(revision)
+            b.signature, b.families = b"SIG0", b"\5" * count
+            yield b
+        whole = each_form(revision)
+        for end in range(1, 10):
+            b = copy.deepcopy(whole)
+            b.end = -end
+            yield b
 
 
 def texts():
@@ -144,11 +182,11 @@ def full():
 
 
 def set_path(at, name, value):
-    return lambda b: setattr(b.paths[at], name, value)
+    return lambda b: b.paths and setattr(b.paths[at], name, value)
 
 
 def component(path, value):
-    return lambda b: b.paths[path].components.insert(0, value)
+    return lambda b: b.paths and b.paths[path].components.insert(0, value)
 
 
 FAULTS = (
@@ -163,6 +201,10 @@ FAULTS = (
     + [component(at, c) for at in (0, 2, 3) for c in (VARIANT, SEQUENCE, b"\4", b"\xff\0\0\0\0")]
     + [lambda b, r=r: setattr(b, "revision", r) for r in (20, 21)]
     + [lambda b, n=n: setattr(b, "end", -n) for n in (1, 3, 6, 11, 16)]
+    + [lambda b: (setattr(b, "paths", None), setattr(b, "unowned", True))]
+    + [lambda b, t=t: setattr(b, "signature", t) for t in (None, b"SIG", b"SIG1")]
+    + [lambda b, n=n: setattr(b, "parameters", n) for n in (2, 4, 4097)]
+    + [lambda b, f=f: setattr(b, "families", f) for f in (b"\0", b"\1\x10")]
 )
 
 
@@ -182,15 +224,17 @@ def rooms():
     """Each lent table exact, one short or one longer, alone and together, at bases near 2^64 too; with other faults; and none."""
     for revision, base in ((22, 0), (22, 2**64 - 3), (22, 2**64 - 20), (20, 2**64 - 1), (21, 1000)):
         b = each_form(revision)
-        exact = (len(b.strings), len(b.symbols), len(b.paths))
-        for change in itertools.product((-1, 0, 1), repeat=3):
+        exact = (len(b.strings), len(b.symbols), len(b.paths), len(b.families))
+        for change in itertools.product((-1, 0, 1), repeat=4):
+            if exact[3] == 0 and change[3] < 0:
+                continue
             yield b.bytes(), base, revision, tuple(e + c for e, c in zip(exact, change))
-    for base, lengths in itertools.product((0, 2**64 - 4), itertools.product((0, 1), repeat=3)):
+    for base, lengths in itertools.product((0, 2**64 - 4), itertools.product((0, 1), (0, 1), (0, 1), (0, 3))):
         b = Block(22)
         yield b.bytes(), base, 22, lengths
         b.symbols, b.paths = [(1, 2, 3)], [Path(0, b"\0")]
         yield b.bytes(), base, 22, lengths
-    for fault, lengths in itertools.product(FAULTS, ((1, 2, 4), (2, 1, 4), (2, 2, 3), (2, 2, 4), (0, 0, 0))):
+    for fault, lengths in itertools.product(FAULTS, ((1, 2, 4, 3), (2, 1, 4, 3), (2, 2, 3, 3), (2, 2, 4, 2), (2, 2, 4, 3), (0, 0, 0, 0))):
         b = each_form(22)
         fault(b)
         yield b.bytes(), 7, b.revision, lengths
@@ -198,7 +242,7 @@ def rooms():
 
 def inputs():
     number = 0
-    for make in (shapes, texts, limits, pairs, full):
+    for make in (shapes, signatures, texts, limits, pairs, full):
         for b in make():
             yield b.bytes(), BASES[number % len(BASES)], b.revision, None
             number += 1

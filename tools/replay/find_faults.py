@@ -14,20 +14,21 @@ from make_list import BLOCK, END, PAGE, SECTION, TOP, u16, u32
 
 def block_end(page, at):
     """After an accepted block's layout and tables."""
-    strings, _, symbols, _, paths = [u32(page, at + 12 + 4 * n) for n in range(5)]
-    return at + 36 + 4 * (strings + paths + 3 * symbols)
+    strings, _, symbols, _, paths, families = [u32(page, at + 16 + 4 * n) for n in range(6)]
+    return at + 48 + 4 * (strings + paths + 3 * symbols) + families
 
 
 def entries(page):
     """The entries of a page: bytes, the line that asks the oracle, and the lengths that are lent."""
     at = 0
     while at < len(page) and page[at : at + 1] != END:
-        decoder, start = page[at], at + 21
-        rooms = tuple(u16(page, at + 11 + 2 * n) for n in range(3))
+        decoder, start = page[at], at + 23
+        rooms = tuple(u16(page, at + 11 + 2 * n) for n in range(4))
         origin = int.from_bytes(page[at + 3 : at + 11], "little")
-        told = start + u32(page, at + 17)
+        told = start + u32(page, at + 19)
         data = page[start:told].hex()
         if decoder == SECTION:
+            rooms = rooms[:3]
             counts = [u32(page, told + 24 + 4 * n) for n in range(2)]
             end = told + (40 + 72 + 4 * (counts[0] + 2 * counts[1]) if u32(page, told) == 0 else 16 + 72)
             line = f"section {data} {origin}"

@@ -1,6 +1,6 @@
 """Files of functions that the replayed list names one by one: accepted shapes, limits, and one or two faults at once.
 
-An input is (bytes, cursor, revision, lengths of the lent tables of functions, strings and paths, or none).
+An input is (bytes, cursor, revision, lengths of the lent tables of functions, strings, paths and families, or none).
 """
 import itertools
 import struct
@@ -19,6 +19,7 @@ def function(name, block, size=None):
 def smaller(revision):
     b = Block(revision)
     b.strings, b.paths = [text(b"s")], [Path(0, b"\0" if revision >= 21 else b"")]
+    b.families = b"\3" if revision >= 20 else b""
     return b
 
 
@@ -100,14 +101,14 @@ def rooms():
     """Each lent table exact, one short and one longer, for the first, the second and the last function; with faults; and none."""
     for order in itertools.permutations(three(22)):
         file = b"".join(order)
-        for lengths in itertools.product((0, 1, 2, 3, 4), (0, 1, 2, 3), (0, 1, 4, 5)):
-            if lengths[0] >= 3 or lengths[1:] == (2, 4):
+        for lengths in itertools.product((0, 1, 2, 3, 4), (0, 1, 2, 3), (0, 1, 4, 5), (0, 2, 3, 4)):
+            if (lengths[0] >= 3 and lengths[3] == 3) or lengths[1:] == (2, 4, 3) or lengths[:3] == (3, 2, 4):
                 yield file, 0, 22, lengths
-    for fault, lengths in itertools.product(FAULTS, ((3, 2, 4), (2, 2, 4), (3, 1, 4), (3, 2, 3), (0, 0, 0))):
+    for fault, lengths in itertools.product(FAULTS, ((3, 2, 4, 3), (2, 2, 4, 3), (3, 1, 4, 3), (3, 2, 3, 3), (3, 2, 4, 2), (0, 0, 0, 0))):
         yield *faulty(fault), lengths
     one = function(text(b"f"), Block(19))
     for entries in (1023, 1024, 1025):
-        yield one * 1025, 0, 19, (entries, 0, 0)
+        yield one * 1025, 0, 19, (entries, 0, 0, 0)
 
 
 def inputs():

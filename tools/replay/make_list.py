@@ -28,7 +28,7 @@ import inputs
 import sections
 
 SAMPLES = ("section 1 5 480 120", "block 1 12 300 120", "functions 1 3 400 30", "fixed")
-KINDS = ("Invalid", "Limit", "Strings", "Debug", "Ownership", "Added", "Truncated", "Name")
+KINDS = ("Invalid", "Limit", "Strings", "Debug", "Ownership", "Added", "Truncated", "Name", "Signature")
 SECTION, BLOCK, FUNCTIONS = 0, 1, 2
 PAGE, PAGES, END = 262144, 19, b"\xff"
 LARGEST = 2**64 - 1
@@ -87,14 +87,18 @@ def records_begun(data, cursor, answer):
     return 5 <= number <= 9 and offset >= counts_end(data, cursor)
 
 
-def short_block(data, base, rooms, answer):
+def short_block(data, base, revision, rooms, answer):
+    """Strings, symbols, paths and families in turn: what is refused before a count is asked stays."""
     refused = refusal_of(answer)
-    at = 2
+
+    def short(place):
+        return f"refused Added 61 {min(base + place, LARGEST)}"
+
     if refused in (30, 31):
         return answer
-    strings = u16(data, 0)
+    at, strings = 2, u16(data, 0)
     if rooms[0] < strings:
-        return f"refused Added 61 {min(base + at, LARGEST)}"
+        return short(at)
     if 30 <= refused <= 34:
         return answer
     for _ in range(strings):
@@ -105,17 +109,36 @@ def short_block(data, base, rooms, answer):
         symbols = u16(data, at + 4)
         at += 6
         if rooms[1] < symbols:
-            return f"refused Added 61 {min(base + at, LARGEST)}"
+            return short(at)
         at += 10 * symbols
     if refused in (37, 38, 39, 40):
         return answer
     if data[at : at + 4] == b"OWN0" and rooms[2] < u16(data, at + 4):
-        return f"refused Added 61 {min(base + at + 6, LARGEST)}"
-    return answer
+        return short(at + 6)
+    if 30 <= refused <= 71 or revision < 20:
+        return answer
+    at = paths_end(data, at, revision) + 6
+    if at > len(data) or u16(data, at - 2) > 4096:
+        return answer
+    return short(at) if rooms[3] < u16(data, at - 2) else answer
 
 
-def short_functions(data, cursor, rooms, answer):
-    """Of functions, strings and paths; there is room for all symbols. The refusal of the head or block that it stands in goes by turns with 61."""
+def paths_end(data, at, revision):
+    """After the paths of a block that has OWN0 at a place, all of which read."""
+    count, at = u16(data, at + 4), at + 6
+    for _ in range(count):
+        kind = data[at]
+        at += 1
+        if revision >= 21:
+            at += 1 if (kind, data[at]) == (0, 0) else 5
+        components, at = u16(data, at + 4), at + 6
+        for _ in range(components):
+            at += {0: 3, 2: 7}.get(data[at], 5)
+    return at
+
+
+def short_functions(data, cursor, revision, rooms, answer):
+    """Of functions, strings, paths and families; there is room for all symbols. The refusal of the head or block that it stands in goes by turns with 61."""
     refused, offset = refusal_of(answer), int(answer.split(" ")[3]) if answer.startswith("refused") else 0
     at = cursor
     for number in range(1024):
@@ -128,8 +151,8 @@ def short_functions(data, cursor, rooms, answer):
         if refused in (63, 64) and offset in (at, at + 2, name, code):
             return answer
         end = code + u32(data, name)
-        block = answer if 30 <= refused <= 60 and code <= offset <= end else "ok"
-        told = short_block(data[code:end], code, (rooms[1], 8192, rooms[2]), block)
+        block = answer if refused not in (0, 63, 64, 65) and code <= offset <= end else "ok"
+        told = short_block(data[code:end], code, revision, (rooms[1], 8192, *rooms[2:]), block)
         if told != "ok":
             return told
         at = end
@@ -140,7 +163,7 @@ def short_functions(data, cursor, rooms, answer):
 
 
 def asked(decoder, revision, origin, rooms, data):
-    return struct.pack("<BHQHHHI", decoder, revision, origin, *rooms, len(data)) + data
+    return struct.pack("<BHQHHHHI", decoder, revision, origin, *(*rooms, 0)[:4], len(data)) + data
 
 
 def refused(answer):
@@ -178,14 +201,16 @@ def path_count(data):
 def layout(f):
     """Number 0, both tags, counts and places of a block."""
     strings, symbols, paths = listed(f["counts"])
-    told = numbers(0, f["debug"] == "true", f["ownership"] == "true", strings, int(f["strings_end"]))
-    return told + numbers(symbols, int(f["symbols_start"]), paths, int(f["instructions"]))
+    told = numbers(0, f["debug"] == "true", f["ownership"] == "true", f["signature"] == "true", strings, int(f["strings_end"]))
+    told += numbers(symbols, int(f["symbols_start"]), paths, len(listed(f["families"])), int(f["families_start"]))
+    return told + numbers(int(f["instructions"]))
 
 
 def tables(f):
-    """The starts of strings and paths, and the symbols."""
+    """The starts of strings and paths, the families, and the symbols."""
     told = numbers(*(int(s.split(":")[0]) for s in f["strings"].split(",") if s))
     told += numbers(*(int(p.split(":")[0]) for p in re.findall(r"[^,\[]+\[[^\]]*\]", f["paths"])))
+    told += bytes(listed(f["families"]))
     return told + numbers(*(int(n) for symbol in f["symbols"].split(",") if symbol for n in symbol.split(":")))
 
 
@@ -195,11 +220,11 @@ def fields(answer):
 
 def block(data, base, revision, rooms, answer):
     if rooms:
-        answer = short_block(data, base, rooms, answer)
+        answer = short_block(data, base, revision, rooms, answer)
     else:
         more, number = len(data) % 3, refusal_of(answer)
         paths = path_count(data) if number == 0 or number > 40 else 0
-        rooms = (256 + more, 8192, min(paths + more, 65535))
+        rooms = (256 + more, 8192, min(paths + more, 65535), 4096)
     if refusal_of(answer):
         told = refused(answer)
     else:
@@ -221,8 +246,8 @@ def most_paths(data, cursor):
 def all_functions(data, cursor, revision, rooms, answer):
     if rooms is None:
         more = len(data) % 3
-        rooms = (min(max(0, len(data) - cursor) // 9 + 1, 1024), 256 + more, min(most_paths(data, cursor) + more, 65535))
-    answer = short_functions(data, cursor, rooms, answer)
+        rooms = (min(max(0, len(data) - cursor) // 9 + 1, 1024), 256 + more, min(most_paths(data, cursor) + more, 65535), 4096)
+    answer = short_functions(data, cursor, revision, rooms, answer)
     if refusal_of(answer):
         told = refused(answer)
     else:

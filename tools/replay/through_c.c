@@ -11,6 +11,7 @@ static uint8_t page[PAGE];
 static uint64_t first[ENTRIES], second[ENTRIES], third[ENTRIES];
 static uint8_t marks[ENTRIES];
 static FalgnustDebugSymbol symbols[SYMBOLS];
+static uint8_t families[ENTRIES];
 
 /* The place in the page after what was compared, and whether all of it was the same. */
 static size_t at, page_len;
@@ -85,15 +86,19 @@ static void section(const uint8_t *input, size_t len, size_t cursor, size_t a, s
 }
 
 /* A block's answer, its tables and the list. */
-static void told_block(FalgnustBlock k, const uint64_t *strings, size_t a, size_t b, const uint64_t *paths, size_t c) {
+static void told_block(FalgnustBlock k, const uint64_t *strings, size_t a, size_t b, const uint64_t *paths, size_t c, size_t d) {
     if (k.accepted) {
-        const uint64_t told[] = {0, k.has_debug_section, k.has_ownership_section, k.string_count, k.string_table_end_offset,
-            k.debug_symbol_count, k.debug_symbols_start, k.path_count, k.instr_start_offset};
-        for (size_t i = 0; i < 9; i++)
+        const uint64_t told[] = {0, k.has_debug_section, k.has_ownership_section, k.has_signature, k.string_count,
+            k.string_table_end_offset, k.debug_symbol_count, k.debug_symbols_start, k.path_count, k.parameter_count,
+            k.families_start, k.instr_start_offset};
+        for (size_t i = 0; i < sizeof told / sizeof *told; i++)
             number(told[i], 4);
     }
     table(strings, a, k.string_count);
     table(paths, c, k.path_count);
+    bytes(families, k.parameter_count);
+    for (size_t i = k.parameter_count; i < d; i++)
+        same = same && families[i] == 0;
     for (size_t i = 0; i < b; i++) {
         if (i < k.debug_symbol_count) {
             number(symbols[i].pc, 4);
@@ -105,19 +110,19 @@ static void told_block(FalgnustBlock k, const uint64_t *strings, size_t a, size_
     }
 }
 
-static void block(const uint8_t *input, size_t len, size_t base, uint16_t revision, size_t a, size_t b, size_t c) {
+static void block(const uint8_t *input, size_t len, size_t base, uint16_t revision, size_t a, size_t b, size_t c, size_t d) {
     FalgnustBlock k =
-        falgnust_parse_string_table_debug_and_ownership(base, input, len, revision, symbols, b, first, a, third, c);
+        falgnust_parse_string_table_debug_and_ownership(base, input, len, revision, symbols, b, first, a, third, c, families, d);
     if (!k.accepted)
         refusal(k.refusal);
-    told_block(k, first, a, b, third, c);
+    told_block(k, first, a, b, third, c, d);
 }
 
-/* The list is lent with room for 8,192 symbols; the three lengths are those of functions, strings and paths. */
-static void functions(const uint8_t *input, size_t len, size_t cursor, uint16_t revision, size_t a, size_t b, size_t c) {
+/* The list is lent with room for 8,192 symbols; the lengths are those of functions, strings, paths and families. */
+static void functions(const uint8_t *input, size_t len, size_t cursor, uint16_t revision, size_t a, size_t b, size_t c, size_t d) {
     memset(symbols, OLD, 8192 * sizeof *symbols);
     FalgnustFunctions f =
-        falgnust_decode_functions(input, len, cursor, revision, symbols, 8192, first, a, second, b, third, c);
+        falgnust_decode_functions(input, len, cursor, revision, symbols, 8192, first, a, second, b, third, c, families, d);
     if (f.accepted) {
         number(0, 4);
         number(f.functions, 4);
@@ -129,13 +134,13 @@ static void functions(const uint8_t *input, size_t len, size_t cursor, uint16_t 
     if (f.functions > 0)
         number(f.last_code, 4);
     same = same && f.last.accepted == (f.functions > 0);
-    told_block(f.last, second, b, 8192, third, c);
+    told_block(f.last, second, b, 8192, third, c, d);
 }
 
 /* The entry at `at`. */
 static void entry(void) {
-    size_t start = at + 21, len = little(at + 17, 4), origin = little(at + 3, 8);
-    size_t a = little(at + 11, 2), b = little(at + 13, 2), c = little(at + 15, 2);
+    size_t start = at + 23, len = little(at + 19, 4), origin = little(at + 3, 8);
+    size_t a = little(at + 11, 2), b = little(at + 13, 2), c = little(at + 15, 2), d = little(at + 17, 2);
     uint8_t decoder = page[at];
     uint16_t revision = (uint16_t)little(at + 1, 2);
     same = start + len <= page_len;
@@ -143,12 +148,13 @@ static void entry(void) {
     if (!same)
         return;
     old(a, b, c);
+    memset(families, OLD, d);
     if (decoder == 0)
         section(page + start, len, origin, a, b, c);
     else if (decoder == 2)
-        functions(page + start, len, origin, revision, a, b, c);
+        functions(page + start, len, origin, revision, a, b, c, d);
     else
-        block(page + start, len, origin, revision, a, b, c);
+        block(page + start, len, origin, revision, a, b, c, d);
 }
 
 int main(void) {

@@ -16,12 +16,14 @@ pub struct SectionTables<'a> {
     pub depths: &'a mut [u64],
 }
 
-/// The tables that are lent for a block: the start of each string and of each path.
+/// The tables that are lent for a block: the start of each string and of each path, and the family of each parameter.
 pub struct BlockTables<'a> {
     /// One entry for each string.
     pub strings: &'a mut [u64],
     /// One entry for each path.
     pub paths: &'a mut [u64],
+    /// One byte for each parameter of the signature.
+    pub families: &'a mut [u8],
 }
 
 fn at_place<T>(read: AtPlace<T>, bytes: &[u8], at: usize) -> T {
@@ -334,6 +336,8 @@ pub fn parse_string_table_debug_and_ownership(
             lent.strings.len(),
             lent.paths.as_mut_ptr(),
             lent.paths.len(),
+            lent.families.as_mut_ptr(),
+            lent.families.len(),
         )
     }
 }
@@ -357,6 +361,8 @@ fn of_block<T>(
             lent.strings.len(),
             lent.paths.as_mut_ptr(),
             lent.paths.len(),
+            lent.families.as_mut_ptr(),
+            lent.families.len(),
         )
     }
 }
@@ -440,6 +446,8 @@ pub fn component_number(
             lent.strings.len(),
             lent.paths.as_mut_ptr(),
             lent.paths.len(),
+            lent.families.as_mut_ptr(),
+            lent.families.len(),
         )
     }
 }

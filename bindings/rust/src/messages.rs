@@ -1,7 +1,7 @@
 //! Document 01's numbers and the messages of skulmakov-oss/Semantic.
 
-/// Those of 31 and 36 go on with the count; 63 and 64 have three each.
-const MESSAGES: [(u8, &str); 67] = [
+/// Those of 31, 36 and 73 go on with the count; 63, 64 and 72 have three each, 71 two.
+const MESSAGES: [(u8, &str); 73] = [
     (1, "missing mandatory EVR0 section"),
     (2, "EVR0 length truncated"),
     (3, "EVR0 payload exceeds bounded section budget or is empty"),
@@ -78,6 +78,12 @@ const MESSAGES: [(u8, &str); 67] = [
     (64, NAME_TOO_LONG),
     (64, NAME_NOT_UTF8),
     (65, "too many functions (>1024)"),
+    (71, OWNERSHIP_ABSENT),
+    (71, SIGNATURE_ABSENT),
+    (72, PARAMETER_COUNT_CUT),
+    (72, FAMILY_CUT),
+    (72, FAMILY_UNKNOWN),
+    (73, "too many callable-signature parameters: "),
 ];
 
 pub const NAME_LENGTH_CUT: &str = "missing function name length";
@@ -86,8 +92,14 @@ pub const CODE_OUT_OF_BOUNDS: &str = "function code out of bounds";
 pub const NAME_EMPTY: &str = "empty function name";
 pub const NAME_TOO_LONG: &str = "function name too long";
 pub const NAME_NOT_UTF8: &str = "invalid utf8 in function name";
+pub const OWNERSHIP_ABSENT: &str =
+    "header requires per-function ownership-path metadata but no OWN0 section is present";
+pub const SIGNATURE_ABSENT: &str = "missing SIG0 section tag";
+pub const PARAMETER_COUNT_CUT: &str = "missing parameter count";
+pub const FAMILY_CUT: &str = "missing parameter family tag";
+pub const FAMILY_UNKNOWN: &str = "unknown parameter family tag";
 
-/// The message of a number that has one; that of 31 and 36 up to the count.
+/// The message of a number that has one; that of 31, 36 and 73 up to the count.
 pub fn message(number: u8) -> &'static str {
     MESSAGES
         .iter()

@@ -1,5 +1,5 @@
-//! Function tables, in the place of the original's `semcode_decode`: the functions of a file, and the strings, DBG0 and OWN0 of a function's
-//! block, without its signature.
+//! Function tables, in the place of the original's `semcode_decode`: the functions of a file, and the strings, DBG0, OWN0 and signature of a
+//! function's block.
 //!
 //! Added beside the original: [`decode_functions`], which is the loop of its `decode_semcode`, [`DecodeError::number`],
 //! [`DecodeError::offset`], `Display` and `Error` for [`DecodeError`], and records by number: [`function_number`], [`string_number`],
@@ -13,11 +13,13 @@ mod error;
 mod functions;
 mod number;
 mod records;
+mod signature;
 mod tables;
 
 pub use error::DecodeError;
 pub use functions::*;
 pub use number::*;
+pub use signature::*;
 use tables::Lent;
 
 /// The most functions of a file.
@@ -28,6 +30,8 @@ pub const MAX_STRING_LEN: usize = 1024;
 pub const MAX_STRINGS_PER_FUNCTION: usize = 256;
 /// The most debug symbols of a block.
 pub const MAX_DEBUG_SYMBOLS_PER_FUNCTION: usize = 8192;
+/// The most parameters of a signature.
+pub const MAX_SIGNATURE_PARAMETERS_PER_FUNCTION: usize = 4096;
 
 /// A debug symbol.
 #[derive(Debug, Clone, PartialEq, Eq)]
@@ -106,7 +110,9 @@ pub struct StringTableDebugOwnershipParse {
     pub has_debug_section: bool,
     /// The place after the strings.
     pub string_table_end_offset: usize,
-    /// The place after OWN0's paths, or where they would be.
+    /// The signature, from revision 20 on.
+    pub signature: Option<CallableSignature>,
+    /// The place after all of these.
     pub instr_start_offset: usize,
 }
 
@@ -115,7 +121,7 @@ pub struct StringTableDebugOwnershipParse {
 /// ```
 /// use falgnust::semcode_decode::{DecodeError, parse_string_table_debug_and_ownership};
 ///
-/// let block = parse_string_table_debug_and_ownership(1000, b"\x01\x00\x02\x00hi\x07", 22).unwrap();
+/// let block = parse_string_table_debug_and_ownership(1000, b"\x01\x00\x02\x00hi\x07", 19).unwrap();
 /// assert_eq!(block.strings, ["hi"]);
 /// assert_eq!(block.instr_start_offset, 6);
 ///

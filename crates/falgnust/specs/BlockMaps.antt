@@ -23,11 +23,14 @@ noBlock r =
       refusal = r;
       «has_debug_section» = false;
       «has_ownership_section» = false;
+      «has_signature» = false;
       «string_count» = 0;
       «string_table_end_offset» = 0;
       «debug_symbol_count» = 0;
       «debug_symbols_start» = 0;
       «path_count» = 0;
+      «parameter_count» = 0;
+      «families_start» = 0;
       «instr_start_offset» = 0;
     }
 
@@ -38,11 +41,14 @@ flatBlock (ok l) =
       refusal = noRefusal;
       «has_debug_section» = l .debug;
       «has_ownership_section» = l .ownership;
+      «has_signature» = l .signature;
       «string_count» = l .strings;
       «string_table_end_offset» = l .stringsEnd;
       «debug_symbol_count» = l .symbols;
       «debug_symbols_start» = l .symbolsStart;
       «path_count» = l .paths;
+      «parameter_count» = l .families;
+      «families_start» = l .familiesStart;
       «instr_start_offset» = l .instructions;
     }
 flatBlock (refused r) = noBlock (flatRefusal r)

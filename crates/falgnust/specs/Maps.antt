@@ -1,7 +1,7 @@
 -- The flat structs in C's layout that hold what the definitions answer: refusals, fields, scans and texts.
 use Prim.Native.Nat.{ℕ}
 use mathlib.Core.Bool.{true, false, cond}
-use Rattle.local_format.specs.Refusal.{Kind, invalid, limit, strings, debug, ownership, added, truncated, name, Refusal}
+use Rattle.local_format.specs.Refusal.{Kind, invalid, limit, strings, debug, ownership, added, truncated, name, signature, Refusal}
 use Rattle.local_format.specs.Out.{Out, ok, refused}
 use Rattle.local_format.specs.Field.{Field, whole, cut}
 use Rattle.utf8.specs.Scan.{Scanned, Utf8}
@@ -23,6 +23,7 @@ kindNumber ownership = 4
 kindNumber added = 5
 kindNumber truncated = 6
 kindNumber name = 7
+kindNumber signature = 8
 
 abbrev pub flatRefusal : Refusal → refusal.Refusal
 flatRefusal r = record { kind = kindNumber (r .kind); number = r .number; offset = r .offset }

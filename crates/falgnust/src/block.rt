@@ -1,4 +1,5 @@
-// A function's block: its result, with string starts and path starts in two lent tables and the debug symbols in a lent list.
+// A function's block: its result, with string starts and path starts in two lent tables, the parameters' families in a table of bytes and
+// the debug symbols in a lent list.
 ghost use mathlib.Core.Path.{_≡_};
 ghost use Rattle.semcode_records.specs.Maps.{symbolIs};
 ghost use Rattle.semcode_decode.specs.Layout.{layout};
@@ -19,11 +20,14 @@ pub struct Block {
     pub refusal: Refusal,
     pub has_debug_section: bool,
     pub has_ownership_section: bool,
+    pub has_signature: bool,
     pub string_count: usize,
     pub string_table_end_offset: usize,
     pub debug_symbol_count: usize,
     pub debug_symbols_start: usize,
     pub path_count: usize,
+    pub parameter_count: usize,
+    pub families_start: usize,
     pub instr_start_offset: usize,
 }
 
@@ -36,11 +40,14 @@ pub fn no_block(refusal: Refusal) -> Block
         refusal,
         has_debug_section: false,
         has_ownership_section: false,
+        has_signature: false,
         string_count: 0,
         string_table_end_offset: 0,
         debug_symbol_count: 0,
         debug_symbols_start: 0,
         path_count: 0,
+        parameter_count: 0,
+        families_start: 0,
         instr_start_offset: 0,
     }
 }
@@ -54,11 +61,14 @@ pub fn flat_block(parse: Parse) -> Block
             refusal: no_refusal(),
             has_debug_section: parsed.has_debug_section,
             has_ownership_section: parsed.has_ownership_section,
+            has_signature: parsed.has_signature,
             string_count: parsed.string_count,
             string_table_end_offset: parsed.string_table_end_offset,
             debug_symbol_count: parsed.debug_symbol_count,
             debug_symbols_start: parsed.debug_symbols_start,
             path_count: parsed.path_count,
+            parameter_count: parsed.parameter_count,
+            families_start: parsed.families_start,
             instr_start_offset: parsed.instr_start_offset,
         },
         Parse::Refused(refused) => no_block(flat_refusal(refused)),
@@ -73,11 +83,12 @@ pub extern "C" fn falgnust_parse_string_table_debug_and_ownership(
     symbols: &mut [DecodedDebugSymbol],
     strings: &mut [u64],
     paths: &mut [u64],
+    families: &mut [u8],
 ) -> Block
     ensures { λ r.
         ⌜ Fills symbolIs (λ x. flatBlock (layout x)) «base_offset» «header_rev» (now (code .entry))
-        (lists (now (symbols .entry)) (now (strings .entry)) (now (paths .entry)))
-        (lists (now (symbols .exit)) (now (strings .exit)) (now (paths .exit))) r ⌝ }
+        (lists (now (symbols .entry)) (now (strings .entry)) (now (paths .entry)) (now (families .entry)))
+        (lists (now (symbols .exit)) (now (strings .exit)) (now (paths .exit)) (now (families .exit))) r ⌝ }
 {
     let parse = parse_string_table_debug_and_ownership(
         base_offset,
@@ -86,6 +97,7 @@ pub extern "C" fn falgnust_parse_string_table_debug_and_ownership(
         symbols,
         strings,
         paths,
+        families,
     );
     flat_block(parse)
 }

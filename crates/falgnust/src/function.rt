@@ -72,12 +72,22 @@ pub extern "C" fn falgnust_function_number(
     functions: &mut [u64],
     strings: &mut [u64],
     paths: &mut [u64],
+    families: &mut [u8],
 ) -> Function
     ensures { λ r.
         ⌜ ReadsFunction (λ x. flatFunction (headIn x)) number cursor «header_rev» (now (bytes .entry))
-        (fileTables (now (functions .entry)) (now (strings .entry)) (now (paths .entry)))
-        (fileTables (now (functions .exit)) (now (strings .exit)) (now (paths .exit))) r ⌝ }
+        (fileTables (now (functions .entry)) (now (strings .entry)) (now (paths .entry)) (now (families .entry)))
+        (fileTables (now (functions .exit)) (now (strings .exit)) (now (paths .exit)) (now (families .exit))) r ⌝ }
 {
-    let read = function_number(bytes, cursor, header_rev, number, functions, strings, paths);
+    let read = function_number(
+        bytes,
+        cursor,
+        header_rev,
+        number,
+        functions,
+        strings,
+        paths,
+        families,
+    );
     flat_function(read)
 }

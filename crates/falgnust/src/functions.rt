@@ -81,11 +81,12 @@ pub extern "C" fn falgnust_decode_functions(
     functions: &mut [u64],
     strings: &mut [u64],
     paths: &mut [u64],
+    families: &mut [u8],
 ) -> Functions
     ensures { λ r.
         ⌜ FillsFile symbolIs (λ x. flatFunctions cursor (file cursor x)) cursor «header_rev» (now (bytes .entry))
-        (fileLists (now (symbols .entry)) (now (functions .entry)) (now (strings .entry)) (now (paths .entry)))
-        (fileLists (now (symbols .exit)) (now (functions .exit)) (now (strings .exit)) (now (paths .exit))) r ⌝ }
+        (fileLists (now (symbols .entry)) (now (functions .entry)) (now (strings .entry)) (now (paths .entry)) (now (families .entry)))
+        (fileLists (now (symbols .exit)) (now (functions .exit)) (now (strings .exit)) (now (paths .exit)) (now (families .exit))) r ⌝ }
 {
     let answer = decode_functions(
         bytes,
@@ -95,6 +96,7 @@ pub extern "C" fn falgnust_decode_functions(
         functions,
         strings,
         paths,
+        families,
     );
     flat_functions(answer, cursor)
 }

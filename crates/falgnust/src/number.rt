@@ -33,13 +33,22 @@ pub extern "C" fn falgnust_string_number(
     number: usize,
     strings: &mut [u64],
     paths: &mut [u64],
+    families: &mut [u8],
 ) -> Text
     ensures { λ r.
         ⌜ Reads (λ x. flatText (textIn x)) (stringNumber number) «base_offset» «header_rev» (now (code .entry))
-        (tables (now (strings .entry)) (now (paths .entry)))
-        (tables (now (strings .exit)) (now (paths .exit))) r ⌝ }
+        (tables (now (strings .entry)) (now (paths .entry)) (now (families .entry)))
+        (tables (now (strings .exit)) (now (paths .exit)) (now (families .exit))) r ⌝ }
 {
-    let read = string_number(base_offset, code, header_rev, number, strings, paths);
+    let read = string_number(
+        base_offset,
+        code,
+        header_rev,
+        number,
+        strings,
+        paths,
+        families,
+    );
     flat_text(read)
 }
 
@@ -51,13 +60,22 @@ pub extern "C" fn falgnust_symbol_number(
     number: usize,
     strings: &mut [u64],
     paths: &mut [u64],
+    families: &mut [u8],
 ) -> Symbol
     ensures { λ r.
         ⌜ Reads (λ x. flatSymbol (takenIn x)) (symbolNumber number) «base_offset» «header_rev» (now (code .entry))
-        (tables (now (strings .entry)) (now (paths .entry)))
-        (tables (now (strings .exit)) (now (paths .exit))) r ⌝ }
+        (tables (now (strings .entry)) (now (paths .entry)) (now (families .entry)))
+        (tables (now (strings .exit)) (now (paths .exit)) (now (families .exit))) r ⌝ }
 {
-    let read = symbol_number(base_offset, code, header_rev, number, strings, paths);
+    let read = symbol_number(
+        base_offset,
+        code,
+        header_rev,
+        number,
+        strings,
+        paths,
+        families,
+    );
     flat_symbol(read)
 }
 
@@ -69,13 +87,22 @@ pub extern "C" fn falgnust_path_number(
     number: usize,
     strings: &mut [u64],
     paths: &mut [u64],
+    families: &mut [u8],
 ) -> Path
     ensures { λ r.
         ⌜ Reads (λ x. flatPath (headIn x)) (pathNumber number) «base_offset» «header_rev» (now (code .entry))
-        (tables (now (strings .entry)) (now (paths .entry)))
-        (tables (now (strings .exit)) (now (paths .exit))) r ⌝ }
+        (tables (now (strings .entry)) (now (paths .entry)) (now (families .entry)))
+        (tables (now (strings .exit)) (now (paths .exit)) (now (families .exit))) r ⌝ }
 {
-    let read = path_number(base_offset, code, header_rev, number, strings, paths);
+    let read = path_number(
+        base_offset,
+        code,
+        header_rev,
+        number,
+        strings,
+        paths,
+        families,
+    );
     flat_path(read)
 }
 
@@ -88,11 +115,12 @@ pub extern "C" fn falgnust_component_number(
     component: usize,
     strings: &mut [u64],
     paths: &mut [u64],
+    families: &mut [u8],
 ) -> Component
     ensures { λ r.
         ⌜ Reads (λ x. flatComponent (takenIn x)) (componentNumber number component) «base_offset» «header_rev» (now (code .entry))
-        (tables (now (strings .entry)) (now (paths .entry)))
-        (tables (now (strings .exit)) (now (paths .exit))) r ⌝ }
+        (tables (now (strings .entry)) (now (paths .entry)) (now (families .entry)))
+        (tables (now (strings .exit)) (now (paths .exit)) (now (families .exit))) r ⌝ }
 {
     let read = component_number(
         base_offset,
@@ -102,6 +130,7 @@ pub extern "C" fn falgnust_component_number(
         component,
         strings,
         paths,
+        families,
     );
     flat_component(read)
 }

@@ -5,7 +5,7 @@ ghost use Rattle.falgnust.specs.Maps.{kindNumber, flatRefusal, noRefusal
 use local_format::refusal::Kind;
 
 // The kinds are numbered in document 01's order: 0 Invalid, 1 Limit, 2 Strings, 3 Debug, 4 Ownership, 5 Added; then those of
-// document 02: 6 Truncated, 7 Name.
+// document 02: 6 Truncated, 7 Name, 8 Signature.
 #[repr(C)]
 pub struct Refusal {
     pub kind: u8,
@@ -25,6 +25,7 @@ fn kind_number(kind: Kind) -> u8
         Kind::Added => 5,
         Kind::Truncated => 6,
         Kind::Name => 7,
+        Kind::Signature => 8,
     }
 }
 

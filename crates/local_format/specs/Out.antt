@@ -1,7 +1,7 @@
 -- What a reader answers: a value, or a refusal.
 use Prim.Native.Nat.{ℕ, _+_, min}
 use mathlib.Core.Bool.{Bool, true, false}
-use Rattle.local_format.specs.Refusal.{Refusal, refusal}
+use Rattle.local_format.specs.Refusal.{Kind, Refusal, refusal}
 
 pub data Out (A : Type 0) : Type 0 where
   ok : A → Out A
@@ -25,6 +25,11 @@ refuse n at = refused (refusal n at)
 abbrev pub check : Bool → ℕ → ℕ → Out (Unit {0})
 check true n at = ok tt
 check false n at = refuse n at
+
+-- the same of a refusal whose kind does not follow from its number
+abbrev pub checkAs : Kind → Bool → ℕ → ℕ → Out (Unit {0})
+checkAs kind true n at = ok tt
+checkAs kind false n at = refused (record { kind = kind; number = n; offset = at })
 
 -- ---- From a place in a part to an offset in the whole
 

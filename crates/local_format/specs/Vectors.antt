@@ -3,7 +3,7 @@ use mathlib.Core.Path.{_≡_, refl}
 use Prim.Native.Nat.{ℕ, zero, suc, _+_}
 use mathlib.Core.List.{List, [], _∷_, map}
 use Rattle.utf8.specs.Utf8.{decode, decodeFrom, stepOf, leadOf, laterOf, table, isControl, anyControl}
-use Rattle.local_format.specs.Refusal.{invalid, limit, strings, debug, ownership, added, truncated, name, among, kindOf}
+use Rattle.local_format.specs.Refusal.{invalid, limit, strings, debug, ownership, added, truncated, name, signature, among, kindOf}
 use Rattle.local_format.specs.Out.{ok, refuse}
 use Rattle.local_format.specs.Field.{le, fieldAt}
 use Rattle.local_format.specs.Text.{textAt, decodeAt, stringAt}
@@ -45,18 +45,19 @@ function-strings : map (λ (s : List ℕ). stringAt s 0) (
 unfolding stringAt decodeAt fieldAt le decode decodeFrom stepOf leadOf laterOf table
 function-strings = refl
 
--- ---- The kind of each refusal from 1 to 65
+-- ---- The kind of each refusal from 1 to 73
 upFrom : ℕ → ℕ → List ℕ
 upFrom c zero = []
 upFrom c (suc n) = c ∷ upFrom (c + 1) n
 
-kinds : map kindOf (upFrom 1 65) ≡
+kinds : map kindOf (upFrom 1 73) ≡
     invalid ∷ invalid ∷ limit ∷ invalid ∷ invalid ∷ invalid ∷ invalid ∷ invalid ∷ invalid ∷ invalid ∷
     invalid ∷ limit ∷ invalid ∷ limit ∷ limit ∷ invalid ∷ invalid ∷ invalid ∷ invalid ∷ invalid ∷
     invalid ∷ invalid ∷ invalid ∷ invalid ∷ invalid ∷ invalid ∷ limit ∷ invalid ∷ invalid ∷ strings ∷
     limit ∷ strings ∷ strings ∷ strings ∷ debug ∷ limit ∷ debug ∷ debug ∷ debug ∷ ownership ∷
     ownership ∷ ownership ∷ ownership ∷ ownership ∷ ownership ∷ ownership ∷ ownership ∷ ownership ∷ ownership ∷ ownership ∷
     ownership ∷ ownership ∷ ownership ∷ ownership ∷ ownership ∷ ownership ∷ ownership ∷ ownership ∷ ownership ∷ ownership ∷
-    added ∷ added ∷ truncated ∷ name ∷ limit ∷ []
+    added ∷ added ∷ truncated ∷ name ∷ limit ∷ added ∷ added ∷ added ∷ added ∷ added ∷
+    signature ∷ signature ∷ limit ∷ []
 unfolding upFrom kindOf among
 kinds = refl

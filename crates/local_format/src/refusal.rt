@@ -13,6 +13,7 @@ pub enum Kind {
     Added,
     Truncated,
     Name,
+    Signature,
 }
 
 pub struct Refusal {
@@ -26,7 +27,7 @@ fn is_limit(number: u8) -> bool
     ensures { λ r. ⌜ r ≡ among limits number ⌝ }
 {
     match number {
-        3 | 12 | 14 | 15 | 27 | 31 | 36 | 65 => true,
+        3 | 12 | 14 | 15 | 27 | 31 | 36 | 65 | 73 => true,
         _ => false,
     }
 }
@@ -59,6 +60,12 @@ pub fn kind_of(number: u8) -> Kind
     if number <= 64 {
         return Kind::Name;
     }
+    if number <= 70 {
+        return Kind::Added;
+    }
+    if number <= 72 {
+        return Kind::Signature;
+    }
     Kind::Added
 }
 
@@ -67,6 +74,17 @@ pub fn refuse(number: u8, offset: usize) -> Refusal
 {
     Refusal {
         kind: kind_of(number),
+        number,
+        offset,
+    }
+}
+
+// A refusal whose kind does not follow from its number.
+pub fn refuse_as(kind: Kind, number: u8, offset: usize) -> Refusal
+    ensures { λ r. ⌜ refusalOut r ≡ record { kind = kindOut kind; number = number; offset = offset } ⌝ }
+{
+    Refusal {
+        kind,
         number,
         offset,
     }

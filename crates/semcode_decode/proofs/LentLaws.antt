@@ -5,7 +5,7 @@ use lib.ListN.{length, length-map}
 use Rattle.local_format.specs.Out.{Out, ok, refused, based}
 use Rattle.local_format.proofs.OutLaws.{never, ok-same}
 use Rattle.semcode_decode.specs.Block.{Block}
-use Rattle.semcode_decode.specs.Layout.{Layout, layout, stringStarts, pathStarts, Lent, Leaves}
+use Rattle.semcode_decode.specs.Layout.{Layout, layout, stringStarts, pathStarts, blockFamilies, Lent, Leaves}
 
 module _ (base : ℕ) where
   -- an accepted block is the same at every base
@@ -13,10 +13,12 @@ module _ (base : ℕ) where
       → (ok l ≡ layout (based base x))
       × (stringStarts x ≡ stringStarts (based base x))
       × (pathStarts x ≡ pathStarts (based base x))
+      × (blockFamilies x ≡ blockFamilies (based base x))
       × (length (stringStarts x) ≡ l .strings)
       × (length (pathStarts x) ≡ l .paths)
   accepted (ok b) e = (
     e,
+    refl,
     refl,
     refl,
     length-map (b .strings .entries) _ ∙ ap (λ (l : Layout). l .strings) (sym (ok-same e)),
@@ -27,4 +29,4 @@ module _ (base : ℕ) where
 -- the same is left where a map of the answer is told
 pub mapped : {A B : Type 0} (f : A → B) {block : Out Block} {before after : Lent} {told due : A} {answer : B} → Leaves block before after told due
     → answer ≡ f told → Leaves block before after answer (f due)
-mapped f l e = record { answer = e ∙ ap f (l .answer); strings = l .strings; paths = l .paths }
+mapped f l e = record { answer = e ∙ ap f (l .answer); strings = l .strings; paths = l .paths; families = l .families }

@@ -7,9 +7,10 @@ use mathlib.Core.List.{List}
 use lib.Dec.{leb}
 use lib.ListN.{length, getD}
 use borrow.Author.Tests.{leb-true, leb-false}
-use Rattle.local_format.specs.Out.{Out, ok, _>>=_, _>>_}
+use Rattle.local_format.specs.Refusal as kind
+use Rattle.local_format.specs.Out.{Out, ok, check, checkAs, _>>=_, _>>_}
 use Rattle.local_format.specs.Field.{field}
-use Rattle.local_format.specs.Tag.{tagAt, dbg0, own0}
+use Rattle.local_format.specs.Tag.{tagAt, dbg0, own0, sig0}
 use Rattle.local_format.specs.Text.{Span}
 use Rattle.local_format.specs.Number.{numbered}
 use Rattle.local_format.proofs.OutLaws.{never, ok-same, bind-ok, checked-ok}
@@ -18,7 +19,20 @@ use Rattle.semcode_records.specs.Symbol.{Symbol, symbolAt}
 use Rattle.semcode_records.specs.Path.{Path, pathAt}
 use Rattle.semcode_records.proofs.RecordsLaws.{none-left, ends-before, as-many}
 use Rattle.semcode_records.proofs.SymbolLaws.{symbols-cut}
-use Rattle.semcode_decode.specs.Block.{Rooms, stringRecord, stringTable, symbolTable, pathTable, Section, sectionAt, Block, blockOf}
+use Rattle.semcode_decode.specs.Block.{
+  Rooms,
+  stringRecord,
+  stringTable,
+  symbolTable,
+  pathTable,
+  Section,
+  sectionAt,
+  familyAt,
+  familyTable,
+  signatureAt,
+  Block,
+  blockOf,
+}
 use Rattle.semcode_decode.specs.Layout.{startsOf}
 
 -- ---- A record of a table
@@ -130,18 +144,51 @@ module _ (revision : ℕ) (rooms : Rooms) (s : List ℕ) where
       let b = checked-ok (leb (c .0 .value) entries) 61 (c .0 .next) _ (c .2) in
       read-by (pathAt revision s) (c .0 .value) (c .0 .next) (b .1)
 
+  families-read : (entries at : ℕ) (t : Table ℕ) → familyTable s entries at ≡ ok t → ReadBy (familyAt s) t × (length (t .entries) ≤ entries)
+  unfolding familyTable
+  families-read entries at t h =
+      let (count, c, h1) = bind-ok (field 72 2 s at) _ h in
+      let (a, h2) = checked-ok (leb (count .value) 4096) 73 (count .next) _ h1 in
+      let (b, h3) = checked-ok (leb (count .value) entries) 61 (count .next) _ h2 in
+      let l : count .value ≤ entries = leb-true (count .value) entries b in
+      (read-by (familyAt s) (count .value) (count .next) h3, rw (as-many (familyAt s) (count .value) (count .next) h3 .0) l)
+
+  signature-read : (ownership : Bool) (entries at : ℕ) (x : Section ℕ) → signatureAt revision ownership s entries at ≡ ok x
+      → ReadBy (familyAt s) (x .table) × (length (x .table .entries) ≤ entries)
+  unfolding signatureAt
+  signature-read ownership entries at x h = go (leb 20 revision) ownership h
+    where
+      go : (b o : Bool)
+          → cond b
+          (checkAs kind.ownership o 71 at
+          >> (check (tagAt sig0 s at) 71 at >> (familyTable s entries (at + length sig0) >>= λ t. ok (record { found = true; table = t }))))
+          (ok (record { found = false; table = noRecords at }))
+          ≡ ok x
+          → ReadBy (familyAt s) (x .table) × (length (x .table .entries) ≤ entries)
+      go true true k =
+          let (a, k1) = checked-ok (tagAt sig0 s at) 71 at _ k in
+          let (t, f, k2) = bind-ok (familyTable s entries (at + length sig0)) _ k1 in
+          rw (← ok-same k2) (families-read entries (at + length sig0) t f)
+      go true false k = absurd (never k)
+      go false o k = rw (← ok-same k) ((0, none-left (familyAt s) at), omega arith)
+
   pub tables-read : {b : Block} → blockOf revision rooms s ≡ ok b
-      → ReadBy (stringRecord s) (b .strings) × ReadBy (symbolAt s) (b .debug .table) × ReadBy (pathAt revision s) (b .ownership .table)
+      → ReadBy (stringRecord s) (b .strings)
+      × ReadBy (symbolAt s) (b .debug .table)
+      × ReadBy (pathAt revision s) (b .ownership .table)
+      × ReadBy (familyAt s) (b .signature .table)
+      × (length (b .signature .table .entries) ≤ rooms .families)
   unfolding blockOf
   tables-read h =
-      let t = bind-ok (stringTable s (rooms .strings) 0) _ h in
-      let d = bind-ok (sectionAt dbg0 (symbolTable s (rooms .symbols)) s (t .0 .end)) _ (t .2) in
-      let o = bind-ok (sectionAt own0 (pathTable revision s (rooms .paths)) s (d .0 .table .end)) _ (d .2) in
-      let strings = strings-read (rooms .strings) 0 (t .0) (t .1) in
-      let symbols = section-read (symbolAt s) dbg0 (symbolTable s (rooms .symbols)) s (t .0 .end) (d .0) (symbols-read (rooms .symbols)) (d .1) in
-      let paths = section-read (pathAt revision s) own0 (pathTable revision s (rooms .paths)) s (d .0 .table .end) (o .0) (paths-read (rooms .paths))
-      (o .1) in
-      rw (← ok-same (o .2)) (strings, symbols, paths)
+      let (t, is-t, h1) = bind-ok (stringTable s (rooms .strings) 0) _ h in
+      let (d, is-d, h2) = bind-ok (sectionAt dbg0 (symbolTable s (rooms .symbols)) s (t .end)) _ h1 in
+      let (o, is-o, h3) = bind-ok (sectionAt own0 (pathTable revision s (rooms .paths)) s (d .table .end)) _ h2 in
+      let (g, is-g, h4) = bind-ok (signatureAt revision (o .found) s (rooms .families) (o .table .end)) _ h3 in
+      let strings = strings-read (rooms .strings) 0 t is-t in
+      let symbols = section-read (symbolAt s) dbg0 (symbolTable s (rooms .symbols)) s (t .end) d (symbols-read (rooms .symbols)) is-d in
+      let paths = section-read (pathAt revision s) own0 (pathTable revision s (rooms .paths)) s (d .table .end) o (paths-read (rooms .paths)) is-o in
+      let families = signature-read (o .found) (rooms .families) (o .table .end) g is-g in
+      rw (← ok-same h4) (strings, symbols, paths, families .0, families .1)
 
 -- ---- Symbols: each starts 10 bytes after the one before
 pub symbol-start : (s : List ℕ) (count at i : ℕ) {t : Table Symbol} (h : records (symbolAt s) count at ≡ ok t) → i < count

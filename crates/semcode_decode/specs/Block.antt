@@ -1,13 +1,14 @@
--- The tables at the front of a function's block. Document 01, "Function tables".
+-- The tables at the front of a function's block. Document 01, "Function tables"; document 02, Slip 9.
 use Prim.Native.Nat.{ℕ, _+_}
 use mathlib.Core.List.{List}
-use mathlib.Core.Bool.{Bool, true, false, cond}
+use mathlib.Core.Bool.{Bool, true, false, cond, _&&_}
 use lib.ListN.{length}
 use lib.Dec.{leb}
-use Rattle.local_format.specs.Out.{Out, ok, check, based, _>>=_, _>>_}
+use Rattle.local_format.specs.Refusal as kind
+use Rattle.local_format.specs.Out.{Out, ok, check, checkAs, based, _>>=_, _>>_}
 use Rattle.local_format.specs.Field.{field}
 use Rattle.local_format.specs.Text.{Span, stringAt}
-use Rattle.local_format.specs.Tag.{tagAt, dbg0, own0}
+use Rattle.local_format.specs.Tag.{tagAt, dbg0, own0, sig0}
 use Rattle.semcode_records.specs.Records.{Taken, taken, Table, noRecords, records}
 use Rattle.semcode_records.specs.Symbol.{Symbol, symbolAt}
 use Rattle.semcode_records.specs.Path.{Path, pathAt}
@@ -17,6 +18,7 @@ pub record Rooms : Type 0 where
   pub strings : ℕ
   pub symbols : ℕ
   pub paths : ℕ
+  pub families : ℕ
 
 -- 61: a lent table shorter than its count
 abbrev pub room : ℕ → ℕ → ℕ → Out (Unit {0})
@@ -64,12 +66,39 @@ sectionAt tag tableAt s at =
       ok (record { found = true; table = table }))
     (ok (record { found = false; table = noRecords at }))
 
+-- ---- The section SIG0: the families of a function's parameters
+
+-- a byte from 1 to 15
+unfoldable pub familyAt : List ℕ → ℕ → Out (Taken ℕ)
+familyAt s at = do
+  family ← field 72 1 s at
+  check (leb 1 (family .value) && leb (family .value) 15) 72 at
+  taken (family .value) (family .next)
+
+unfoldable pub familyTable : List ℕ → ℕ → ℕ → Out (Table ℕ)
+familyTable s entries at = do
+  count ← field 72 2 s at
+  check (leb (count .value) 4096) 73 (count .next)
+  room (count .value) entries (count .next)
+  records (familyAt s) (count .value) (count .next)
+
+-- from revision 20 on it has to be there, behind OWN0, which has to be there too; below 20 there is none
+unfoldable pub signatureAt : ℕ → Bool → List ℕ → ℕ → ℕ → Out (Section ℕ)
+signatureAt revision ownership s entries at =
+    cond (leb 20 revision) (do
+      checkAs kind.ownership ownership 71 at
+      check (tagAt sig0 s at) 71 at
+      table ← familyTable s entries (at + length sig0)
+      ok (record { found = true; table = table }))
+    (ok (record { found = false; table = noRecords at }))
+
 -- ---- The block
 
 pub record Block : Type 0 where
   pub strings : Table Span
   pub debug : Section Symbol
   pub ownership : Section Path
+  pub signature : Section ℕ
 
 -- with places in the block
 unfoldable pub blockOf : ℕ → Rooms → List ℕ → Out Block
@@ -77,7 +106,8 @@ blockOf revision rooms s = do
   strings ← stringTable s (rooms .strings) 0
   debug ← sectionAt dbg0 (symbolTable s (rooms .symbols)) s (strings .end)
   ownership ← sectionAt own0 (pathTable revision s (rooms .paths)) s (debug .table .end)
-  ok (record { strings = strings; debug = debug; ownership = ownership })
+  signature ← signatureAt revision (ownership .found) s (rooms .families) (ownership .table .end)
+  ok (record { strings = strings; debug = debug; ownership = ownership; signature = signature })
 
 -- of a block at a base: a refusal's offset is base plus place, held
 abbrev pub decodeBlock : ℕ → ℕ → Rooms → List ℕ → Out Block

@@ -9,7 +9,7 @@ use Rattle.lent_table.specs.Lent.{lent, Front}
 use Rattle.semcode_records.specs.Records.{Table}
 use Rattle.semcode_decode.specs.Block.{Rooms, Section, Block, decodeBlock}
 
--- the result: three counts, whether each tag was found, and places in the block
+-- the result: four counts, whether each tag was found, and places in the block
 pub record Layout : Type 0 where
   pub strings : ℕ
   pub stringsEnd : ℕ
@@ -18,6 +18,9 @@ pub record Layout : Type 0 where
   pub symbolsStart : ℕ
   pub ownership : Bool
   pub paths : ℕ
+  pub signature : Bool
+  pub families : ℕ
+  pub familiesStart : ℕ
   pub instructions : ℕ
 
 abbrev pub layoutOf : Block → Layout
@@ -30,7 +33,10 @@ layoutOf b =
       symbolsStart = b .debug .table .start;
       ownership = b .ownership .found;
       paths = length (b .ownership .table .entries);
-      instructions = b .ownership .table .end;
+      signature = b .signature .found;
+      families = length (b .signature .table .entries);
+      familiesStart = b .signature .table .start;
+      instructions = b .signature .table .end;
     }
 
 abbrev pub layout : Out Block → Out Layout
@@ -83,26 +89,39 @@ stringStarts x = starts (x >>= λ b. ok (b .strings))
 abbrev pub pathStarts : Out Block → List ℕ
 pathStarts x = starts (x >>= λ b. ok (b .ownership .table))
 
+-- the families themselves
+abbrev pub familiesOf : Block → List ℕ
+familiesOf b = map (λ e. e .value) (b .signature .table .entries)
+
+abbrev pub blockFamilies : Out Block → List ℕ
+blockFamilies (ok b) = familiesOf b
+blockFamilies (refused r) = []
+
 -- ---- The lent tables
 
 -- the tables, as brought or as left
 pub record Lent : Type 0 where
   pub strings : List ℕ
   pub paths : List ℕ
+  pub families : List ℕ
 
-abbrev pub tables : List ℕ → List ℕ → Lent
-tables strings paths = record { strings = strings; paths = paths }
+abbrev pub tables : List ℕ → List ℕ → List ℕ → Lent
+tables strings paths families = record { strings = strings; paths = paths; families = families }
+
+abbrev pub rooms : ℕ → ℕ → ℕ → ℕ → Rooms
+rooms strings symbols paths families = record { strings = strings; symbols = symbols; paths = paths; families = families }
 
 -- how many entries they have, beside a lent list of so many symbols
 abbrev pub roomsOf : Lent → ℕ → Rooms
 roomsOf brought symbols =
-    record { strings = length (brought .strings); symbols = symbols; paths = length (brought .paths) }
+    rooms (length (brought .strings)) symbols (length (brought .paths)) (length (brought .families))
 
--- what a call leaves: the answer that is due, and in each table the block's starts and then zeros; a refused block has no starts
+-- what a call leaves: the answer that is due, and in each table the block's starts or families and then zeros; a refused block has none
 pub record Leaves {A : Type 0} (block : Out Block) (before after : Lent) (told due : A) : Type 0 where
   pub answer : told ≡ due
   pub strings : after .strings ≡ lent (length (before .strings)) (stringStarts block)
   pub paths : after .paths ≡ lent (length (before .paths)) (pathStarts block)
+  pub families : after .families ≡ lent (length (before .families)) (blockFamilies block)
 
 -- a block at a base, with a lent list of so many symbols, is decoded, and this is told of it
 abbrev pub Decodes : {A : Type 0} → (Out Block → A) → ℕ → ℕ → ℕ → List ℕ → Lent → Lent → A → Type 0
@@ -110,8 +129,8 @@ Decodes told base revision symbols code before after answer =
     let block = decodeBlock base revision (roomsOf before symbols) code in
     Leaves block before after answer (told block)
 
--- before the tables are cleared past the starts
-pub record Begins (block : Out Block) (after : Lent) (told : Out Layout) : Type 0 where
+-- before the tables of starts are cleared past them, and the families are copied
+pub record Begins (block : Out Block) (strings paths : List ℕ) (told : Out Layout) : Type 0 where
   pub answer : told ≡ layout block
-  pub strings : Front (stringStarts block) (after .strings)
-  pub paths : Front (pathStarts block) (after .paths)
+  pub of-strings : Front (stringStarts block) strings
+  pub of-paths : Front (pathStarts block) paths

@@ -14,10 +14,10 @@ use Rattle.local_format.proofs.OutLaws.{never, refused-same, ok-same, on-ok, on
 use Rattle.lent_table.specs.Lent.{Front}
 use Rattle.semcode_records.specs.Records.{Taken, Entry}
 use Rattle.semcode_decode.specs.Block.{Rooms}
-use Rattle.semcode_decode.specs.Layout.{layoutOf, startsOf, Lent}
+use Rattle.semcode_decode.specs.Layout.{layoutOf, startsOf}
 use Rattle.semcode_functions.specs.Function.{Function, functionAt, functionsFrom}
 use Rattle.semcode_functions.specs.File.{lastOr, Last, nothing, block, placed, File, fileOf, file, functionStarts, lastStrings, lastPaths}
-use Rattle.semcode_functions.specs.Turn.{Next, nextOf, BeginsFunction, lastStringCount, lastPathCount}
+use Rattle.semcode_functions.specs.Turn.{Next, nextOf, BeginsFunction, lastLayout}
 use Rattle.semcode_functions.proofs.FunctionLaws.{none-left}
 
 -- what is told of some functions: the answer, their starts, and the starts of the last one's strings and paths
@@ -112,8 +112,8 @@ here i at last functions strings paths =
     record {
       file = record { functions = i; cursor = at; last = last };
       starts = take i functions;
-      strings = take (lastStringCount last) strings;
-      paths = take (lastPathCount last) paths;
+      strings = take (lastLayout last .strings) strings;
+      paths = take (lastLayout last .paths) paths;
     }
 
 module _ (revision : ℕ) (rooms : Rooms) (s : List ℕ) (left free cursor : ℕ) where
@@ -178,15 +178,15 @@ module _ (revision : ℕ) (rooms : Rooms) (s : List ℕ) (left free cursor : ℕ
           ∙ tells-one (here i at last functions strings paths) (record { start = at; value = t .value; next = t .next }) (from (i + 1) (t .next))
           ∙ rw (w, ss, ps)
 
-      module _ {lent : Lent} {told : Out Next} (begins : BeginsFunction (functionAt revision rooms s at) lent told) where
+      module _ {strings′ paths′ : List ℕ} {told : Out Next} (begins : BeginsFunction (functionAt revision rooms s at) strings′ paths′ told) where
         pub read-refused : {r : Refusal} → told ≡ refused r → functionsFrom revision rooms s left free cursor ≡ refused r
         read-refused e = whole-refused (turn ∙ on-refused _ (next-refused (functionAt revision rooms s at) (sym (begins .answer) ∙ e)))
 
         pub read-on : {n : Next} → told ≡ ok n → i < length functions
-            → Reading (i + 1) (n .next) (block (n .code) (n .layout)) (set functions i at) (lent .strings) (lent .paths)
+            → Reading (i + 1) (n .next) (block (n .code) (n .layout)) (set functions i at) strings′ paths′
         read-on e room =
             let (t, f, same) = next-ok (functionAt revision rooms s at) (sym (begins .answer) ∙ e) in
-            rw (← same) (read-one t f room (lent .strings) (lent .paths) (rw f at (begins .strings)) (rw f at (begins .paths)))
+            rw (← same) (read-one t f room strings′ paths′ (rw f at (begins .of-strings)) (rw f at (begins .of-paths)))
 
     -- the end
     pub read-all : length s ≤ at
@@ -201,6 +201,6 @@ module _ (revision : ℕ) (rooms : Rooms) (s : List ℕ) (left free cursor : ℕ
         rw e (
           ap ok (begun-file cursor fs ∙ ap (λ (t : Told). t .file) same),
           rw (ap (λ (t : Told). t .starts) same) (front-take i functions),
-          rw (ap (λ (t : Told). t .strings) same) (front-take (lastStringCount last) strings),
-          rw (ap (λ (t : Told). t .paths) same) (front-take (lastPathCount last) paths),
+          rw (ap (λ (t : Told). t .strings) same) (front-take (lastLayout last .strings) strings),
+          rw (ap (λ (t : Told). t .paths) same) (front-take (lastLayout last .paths) paths),
         )

@@ -25,7 +25,13 @@ module _ (n cursor : ℕ) {before between : FileLent} {told : Out File} where
   unfolding functionNumber
   file-refused (ok fs) l t a = absurd (never (sym t ∙ l .answer))
   file-refused (refused q) l t a =
-      record { answer = a ∙ ap refused (refused-same (sym t ∙ l .answer)); functions = l .functions; strings = l .strings; paths = l .paths }
+      record {
+        answer = a ∙ ap refused (refused-same (sym t ∙ l .answer));
+        functions = l .functions;
+        strings = l .strings;
+        paths = l .paths;
+        families = l .families;
+      }
 
   pub not-in-file : (x : Out (List (Entry Function))) {f : File} {after : FileLent} → LeavesFile x before between told (file cursor x) → told ≡ ok f
       → f .functions ≤ n → AsLong before between → after ≡ zeros between → {answer : Out (Taken Head)} → answer ≡ refuse 62 0
@@ -63,6 +69,7 @@ module _ (n cursor revision symbols : ℕ) (s : List ℕ) (before after : FileLe
               functions = rw k (l .functions);
               strings = rw k (l .strings);
               paths = rw k (l .paths);
+              families = rw k (l .families);
             },
           )
       go (refused r) d l = absurd (never (sym (l .answer) ∙ t))

@@ -9,7 +9,7 @@ use Rattle.local_format.specs.Out.{Out, ok, refused, held, atOffset, based, _>>
 use Rattle.local_format.proofs.OutLaws.{never, ok-same}
 use Rattle.semcode_records.specs.Records.{Taken, taken}
 use Rattle.semcode_decode.specs.Block.{Rooms, Block, blockOf}
-use Rattle.semcode_decode.specs.Layout.{Layout, Lent, Begins}
+use Rattle.semcode_decode.specs.Layout.{Layout, Begins}
 use Rattle.semcode_decode.proofs.BlockLaws.{layout-refused}
 use Rattle.semcode_functions.specs.Function.{Head, headAt, functionAt}
 use Rattle.semcode_functions.specs.Turn.{BeginsFunction}
@@ -32,16 +32,16 @@ module _ (revision : ℕ) (rooms : Rooms) (s : List ℕ) (at : ℕ) where
         let z : h .next - h .value .code ≡ h .value .size = omega arith in
         rw (e, z)
 
-    pub block-refused : {after : Lent} {told : Out Layout} {r : Refusal} → Begins part after told → told ≡ refused r
+    pub block-refused : {strings paths : List ℕ} {told : Out Layout} {r : Refusal} → Begins part strings paths told → told ≡ refused r
         → functionAt revision rooms s at ≡ refused (atOffset r (held (h .value .code) (r .offset)))
     block-refused b t = is-function ∙ rw (layout-refused part (sym (b .answer) ∙ t))
 
-    pub block-read : {after : Lent} {told : Out Layout} {l : Layout} → Begins part after told → told ≡ ok l
-        → BeginsFunction (functionAt revision rooms s at) after (ok (record { code = h .value .code; layout = l; next = h .next }))
+    pub block-read : {strings paths : List ℕ} {told : Out Layout} {l : Layout} → Begins part strings paths told → told ≡ ok l
+        → BeginsFunction (functionAt revision rooms s at) strings paths (ok (record { code = h .value .code; layout = l; next = h .next }))
     block-read b t = rw is-function (go part b t)
       where
-        go : (x : Out Block) {after : Lent} {told : Out Layout} {l : Layout} → Begins x after told → told ≡ ok l
-            → BeginsFunction (based (h .value .code) x >>= λ b. taken (record { head = h .value; block = b }) (h .next)) after
+        go : (x : Out Block) {strings paths : List ℕ} {told : Out Layout} {l : Layout} → Begins x strings paths told → told ≡ ok l
+            → BeginsFunction (based (h .value .code) x >>= λ b. taken (record { head = h .value; block = b }) (h .next)) strings paths
             (ok (record { code = h .value .code; layout = l; next = h .next }))
-        go (ok x) b t = record { answer = rw (ok-same (sym t ∙ b .answer)); strings = b .strings; paths = b .paths }
+        go (ok x) b t = record { answer = rw (ok-same (sym t ∙ b .answer)); of-strings = b .of-strings; of-paths = b .of-paths }
         go (refused r) b t = absurd (never (sym (b .answer) ∙ t))

@@ -2,11 +2,13 @@
 use mathlib.Core.Path.{_≡_}
 use Prim.Native.Nat.{ℕ}
 use mathlib.Core.List.{List, []}
-use lib.ListN.{length, take}
+use mathlib.Core.Bool.{false}
+use lib.ListN.{length, take, drop}
 use Rattle.local_format.specs.Out.{Out, ok, _>>=_}
+use Rattle.local_format.specs.Text.{bytesAt}
 use Rattle.lent_table.specs.Lent.{lent, Front}
 use Rattle.semcode_records.specs.Records.{Taken, Entry}
-use Rattle.semcode_decode.specs.Layout.{Layout, layoutOf, stringStarts, pathStarts, Lent}
+use Rattle.semcode_decode.specs.Layout.{Layout, layoutOf, stringStarts, pathStarts}
 use Rattle.semcode_functions.specs.Function.{Function}
 use Rattle.semcode_functions.specs.File.{Last, nothing, block, File, file, functionStarts, lastStrings, lastPaths, FileLent, fileTables}
 
@@ -22,35 +24,59 @@ nextOf x = do
   ok (record { code = f .value .head .code; layout = layoutOf (f .value .block); next = f .next })
 
 -- one function was read
-pub record BeginsFunction (function : Out (Taken Function)) (after : Lent) (told : Out Next) : Type 0 where
+pub record BeginsFunction (function : Out (Taken Function)) (strings paths : List ℕ) (told : Out Next) : Type 0 where
   pub answer : told ≡ nextOf function
-  pub strings : Front (stringStarts (function >>= λ f. ok (f .value .block))) (after .strings)
-  pub paths : Front (pathStarts (function >>= λ f. ok (f .value .block))) (after .paths)
+  pub of-strings : Front (stringStarts (function >>= λ f. ok (f .value .block))) strings
+  pub of-paths : Front (pathStarts (function >>= λ f. ok (f .value .block))) paths
 
 -- all functions were read
-pub record BeginsFile (cursor : ℕ) (decoded : Out (List (Entry Function))) (after : FileLent) (told : Out File) : Type 0 where
+pub record BeginsFile (cursor : ℕ) (decoded : Out (List (Entry Function))) (functions strings paths : List ℕ) (told : Out File) : Type 0 where
   pub answer : told ≡ file cursor decoded
-  pub functions : Front (functionStarts decoded) (after .functions)
-  pub strings : Front (lastStrings decoded) (after .block .strings)
-  pub paths : Front (lastPaths decoded) (after .block .paths)
+  pub of-functions : Front (functionStarts decoded) functions
+  pub of-strings : Front (lastStrings decoded) strings
+  pub of-paths : Front (lastPaths decoded) paths
 
--- how many strings and paths the last block has
-abbrev pub lastStringCount : Last → ℕ
-lastStringCount nothing = 0
-lastStringCount (block code layout) = layout .strings
+-- ---- The last block, and zeros where there is none
+abbrev pub noLayout : Layout
+noLayout =
+    record {
+      strings = 0;
+      stringsEnd = 0;
+      debug = false;
+      symbols = 0;
+      symbolsStart = 0;
+      ownership = false;
+      paths = 0;
+      signature = false;
+      families = 0;
+      familiesStart = 0;
+      instructions = 0;
+    }
 
-abbrev pub lastPathCount : Last → ℕ
-lastPathCount nothing = 0
-lastPathCount (block code layout) = layout .paths
+abbrev pub lastCode : Last → ℕ
+lastCode nothing = 0
+lastCode (block code layout) = code
+
+abbrev pub lastLayout : Last → Layout
+lastLayout nothing = noLayout
+lastLayout (block code layout) = layout
+
+-- the bytes where its families stand
+abbrev pub familyBytes : List ℕ → Last → List ℕ
+familyBytes s last = bytesAt (drop (lastCode last) s) (lastLayout last .familiesStart) (lastLayout last .families)
+
+-- ---- How the tables are left
 
 -- zeros in every table
 abbrev pub zeros : FileLent → FileLent
 zeros t =
     fileTables (lent (length (t .functions)) []) (lent (length (t .block .strings)) []) (lent (length (t .block .paths)) [])
+    (lent (length (t .block .families)) [])
 
--- zeros past as many starts as an answer counts
-abbrev pub zerosPast : File → FileLent → FileLent
-zerosPast f t =
+-- zeros past as many starts as an answer counts, and the last function's families from their place in the bytes
+abbrev pub leftOf : File → List ℕ → FileLent → FileLent
+leftOf f s t =
     fileTables (lent (length (t .functions)) (take (f .functions) (t .functions)))
-    (lent (length (t .block .strings)) (take (lastStringCount (f .last)) (t .block .strings)))
-    (lent (length (t .block .paths)) (take (lastPathCount (f .last)) (t .block .paths)))
+    (lent (length (t .block .strings)) (take (lastLayout (f .last) .strings) (t .block .strings)))
+    (lent (length (t .block .paths)) (take (lastLayout (f .last) .paths) (t .block .paths)))
+    (lent (length (t .block .families)) (take (length (t .block .families)) (familyBytes s (f .last))))

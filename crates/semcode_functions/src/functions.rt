@@ -3,7 +3,10 @@ use crate::head::Function;
 use crate::head::function_refusal;
 use crate::head::read_function;
 use lent_table::clear;
+use lent_table::clear_bytes;
 use lent_table::clear_from;
+use lent_table::copy_bytes;
+use local_format::part::tail;
 use local_format::refusal::Refusal;
 use local_format::refusal::based;
 use local_format::refusal::refuse;
@@ -12,12 +15,14 @@ use semcode_decode::decode::StringTableDebugOwnershipParse;
 use semcode_decode::decode::parse_refusal;
 use semcode_decode::decode::parse_tables;
 ghost use mathlib.Core.Path.{_≡_};
+ghost use lib.ListN.{length};
 ghost use Rattle.local_format.specs.Maps.{refusalOf, refusalOut};
-ghost use Rattle.semcode_decode.specs.Layout.{tables, roomsOf};
-ghost use Rattle.semcode_functions.specs.Function.{functionAt};
-ghost use Rattle.semcode_functions.specs.File.{file, fileTables, functionsOf, DecodesFile};
+ghost use Rattle.semcode_decode.specs.Layout.{rooms};
+ghost use Rattle.semcode_functions.specs.Function.{functionAt, decodeFunctions};
+ghost use Rattle.semcode_functions.specs.File.{file, fileTables, DecodesFile};
+ghost use Rattle.semcode_decode.specs.Maps.{layoutIs};
 ghost use Rattle.semcode_functions.specs.Maps.{lastIs, fileIs, functionsOut, nextOut};
-ghost use Rattle.semcode_functions.specs.Turn.{BeginsFunction, BeginsFile, lastStringCount, lastPathCount, zeros, zerosPast};
+ghost use Rattle.semcode_functions.specs.Turn.{BeginsFunction, BeginsFile, lastCode, lastLayout, zeros, leftOf};
 
 pub const MAX_FUNCTIONS: usize = 1024;
 
@@ -84,17 +89,26 @@ fn next_function(
     symbols: usize,
     strings: &mut [u64],
     paths: &mut [u64],
+    families: usize,
 ) -> Next
     ensures { λ r.
-        ⌜ BeginsFunction (functionAt «header_rev» (roomsOf (tables (now (strings .entry)) (now (paths .entry))) symbols) (now (bytes .entry)) at)
-        (tables (now (strings .exit)) (now (paths .exit))) (nextOut r) ⌝ }
+        ⌜ BeginsFunction
+        (functionAt «header_rev» (rooms (length (now (strings .entry))) symbols (length (now (paths .entry))) families) (now (bytes .entry)) at)
+        (now (strings .exit)) (now (paths .exit)) (nextOut r) ⌝ }
 {
     let function = read_function(bytes, at);
     let Function::Whole { head, next } = function else {
         return Next::Refused(function_refusal(function));
     };
     let code = head.code;
-    let answer = parse_tables(&bytes[code..next], header_rev, symbols, strings, paths);
+    let answer = parse_tables(
+        &bytes[code..next],
+        header_rev,
+        symbols,
+        strings,
+        paths,
+        families,
+    );
     let Parse::Whole(parsed) = answer else {
         return Next::Refused(based(parse_refusal(answer), code));
     };
@@ -112,11 +126,13 @@ fn each_function(
     functions: &mut [u64],
     strings: &mut [u64],
     paths: &mut [u64],
+    families: usize,
 ) -> Functions
     ensures { λ r.
         ⌜ BeginsFile cursor
-        (functionsOf cursor «header_rev» symbols (now (bytes .entry)) (fileTables (now (functions .entry)) (now (strings .entry)) (now (paths .entry))))
-        (fileTables (now (functions .exit)) (now (strings .exit)) (now (paths .exit))) (functionsOut r) ⌝ }
+        (decodeFunctions «header_rev» (rooms (length (now (strings .entry))) symbols (length (now (paths .entry))) families)
+        (length (now (functions .entry))) (now (bytes .entry)) cursor)
+        (now (functions .exit)) (now (strings .exit)) (now (paths .exit)) (functionsOut r) ⌝ }
 {
     let mut at = cursor;
     let mut count: usize = 0;
@@ -128,7 +144,7 @@ fn each_function(
         if functions.len() <= count {
             return Functions::Refused(refuse(61, at));
         }
-        let answer = next_function(bytes, at, header_rev, symbols, strings, paths);
+        let answer = next_function(bytes, at, header_rev, symbols, strings, paths, families);
         let Next::Whole { code, parsed, next } = answer else {
             return Functions::Refused(next_refusal(answer));
         };
@@ -144,49 +160,78 @@ fn each_function(
     })
 }
 
-fn string_count(last: Last) -> usize
-    ensures { λ r. ⌜ r ≡ lastStringCount (lastIs last) ⌝ }
+// The last block's place and what it holds, or zeros.
+struct LastBlock {
+    code: usize,
+    parsed: StringTableDebugOwnershipParse,
+}
+
+fn last_block(last: Last) -> LastBlock
+    ensures { λ r. ⌜ (r .code ≡ lastCode (lastIs last)) × (layoutIs (r .parsed) ≡ lastLayout (lastIs last)) ⌝ }
 {
     match last {
-        Last::Nothing => 0,
-        Last::Block { code: _, parsed } => parsed.string_count,
+        Last::Block { code, parsed } => LastBlock { code, parsed },
+        Last::Nothing => LastBlock {
+            code: 0,
+            parsed: StringTableDebugOwnershipParse {
+                string_count: 0,
+                string_table_end_offset: 0,
+                has_debug_section: false,
+                debug_symbol_count: 0,
+                debug_symbols_start: 0,
+                has_ownership_section: false,
+                path_count: 0,
+                has_signature: false,
+                parameter_count: 0,
+                families_start: 0,
+                instr_start_offset: 0,
+            },
+        },
     }
 }
 
-fn path_count(last: Last) -> usize
-    ensures { λ r. ⌜ r ≡ lastPathCount (lastIs last) ⌝ }
-{
-    match last {
-        Last::Nothing => 0,
-        Last::Block { code: _, parsed } => parsed.path_count,
-    }
-}
-
-// Zeros in all three tables.
-pub fn clear_all(functions: &mut [u64], strings: &mut [u64], paths: &mut [u64])
+// Zeros in all four tables.
+pub fn clear_all(functions: &mut [u64], strings: &mut [u64], paths: &mut [u64], families: &mut [u8])
     ensures { λ _.
-        ⌜ fileTables (now (functions .exit)) (now (strings .exit)) (now (paths .exit)) ≡
-        zeros (fileTables (now (functions .entry)) (now (strings .entry)) (now (paths .entry))) ⌝ }
+        ⌜ fileTables (now (functions .exit)) (now (strings .exit)) (now (paths .exit)) (now (families .exit)) ≡
+        zeros (fileTables (now (functions .entry)) (now (strings .entry)) (now (paths .entry)) (now (families .entry))) ⌝ }
 {
     clear(functions);
     clear(strings);
     clear(paths);
+    clear_bytes(families);
 }
 
-// Zeros past the starts.
-fn clear_past(found: File, functions: &mut [u64], strings: &mut [u64], paths: &mut [u64])
+// Zeros past the starts, and the last function's families.
+fn leave(
+    found: File,
+    bytes: &[u8],
+    functions: &mut [u64],
+    strings: &mut [u64],
+    paths: &mut [u64],
+    families: &mut [u8],
+)
     ensures { λ _.
-        ⌜ fileTables (now (functions .exit)) (now (strings .exit)) (now (paths .exit)) ≡
-        zerosPast (fileIs found) (fileTables (now (functions .entry)) (now (strings .entry)) (now (paths .entry))) ⌝ }
+        ⌜ fileTables (now (functions .exit)) (now (strings .exit)) (now (paths .exit)) (now (families .exit)) ≡
+        leftOf (fileIs found) (now (bytes .entry))
+        (fileTables (now (functions .entry)) (now (strings .entry)) (now (paths .entry)) (now (families .entry))) ⌝ }
 {
-    let last = found.last;
+    let read = found.last;
+    let last = last_block(read);
+    let parsed = last.parsed;
     clear_from(functions, found.functions);
-    clear_from(strings, string_count(last));
-    clear_from(paths, path_count(last));
+    clear_from(strings, parsed.string_count);
+    clear_from(paths, parsed.path_count);
+    copy_bytes(
+        families,
+        tail(bytes, last.code),
+        parsed.families_start,
+        parsed.parameter_count,
+    );
 }
 
-// The functions from a cursor to the end, with a lent list of so many symbols: their starts go to a lent table, and the last one's
-// string starts and path starts to two. The tables are cleared once, at the end.
+// The functions from a cursor to the end, with a lent list of so many symbols: their starts go to a lent table, the last one's
+// string starts and path starts to two, and its families to a table of bytes. The tables are cleared once, at the end.
 pub fn read_functions(
     bytes: &[u8],
     cursor: usize,
@@ -195,11 +240,12 @@ pub fn read_functions(
     functions: &mut [u64],
     strings: &mut [u64],
     paths: &mut [u64],
+    families: &mut [u8],
 ) -> Functions
     ensures { λ r.
         ⌜ DecodesFile (file cursor) cursor «header_rev» symbols (now (bytes .entry))
-        (fileTables (now (functions .entry)) (now (strings .entry)) (now (paths .entry)))
-        (fileTables (now (functions .exit)) (now (strings .exit)) (now (paths .exit))) (functionsOut r) ⌝ }
+        (fileTables (now (functions .entry)) (now (strings .entry)) (now (paths .entry)) (now (families .entry)))
+        (fileTables (now (functions .exit)) (now (strings .exit)) (now (paths .exit)) (now (families .exit))) (functionsOut r) ⌝ }
 {
     let answer = each_function(
         bytes,
@@ -209,11 +255,12 @@ pub fn read_functions(
         functions,
         strings,
         paths,
+        families.len(),
     );
     let Functions::Whole(found) = answer else {
-        clear_all(functions, strings, paths);
+        clear_all(functions, strings, paths, families);
         return Functions::Refused(functions_refusal(answer));
     };
-    clear_past(found, functions, strings, paths);
+    leave(found, bytes, functions, strings, paths, families);
     Functions::Whole(found)
 }

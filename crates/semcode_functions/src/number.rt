@@ -21,11 +21,12 @@ pub fn function_number(
     functions: &mut [u64],
     strings: &mut [u64],
     paths: &mut [u64],
+    families: &mut [u8],
 ) -> Function
     ensures { λ r.
         ⌜ ReadsFunction headIn number cursor «header_rev» (now (bytes .entry))
-        (fileTables (now (functions .entry)) (now (strings .entry)) (now (paths .entry)))
-        (fileTables (now (functions .exit)) (now (strings .exit)) (now (paths .exit))) (functionOut r) ⌝ }
+        (fileTables (now (functions .entry)) (now (strings .entry)) (now (paths .entry)) (now (families .entry)))
+        (fileTables (now (functions .exit)) (now (strings .exit)) (now (paths .exit)) (now (families .exit))) (functionOut r) ⌝ }
 {
     let answer = read_functions(
         bytes,
@@ -35,6 +36,7 @@ pub fn function_number(
         functions,
         strings,
         paths,
+        families,
     );
     let Functions::Whole(found) = answer else {
         return Function::Refused(functions_refusal(answer));
@@ -42,6 +44,6 @@ pub fn function_number(
     if number < found.functions {
         return read_function(bytes, functions[number] as usize);
     }
-    clear_all(functions, strings, paths);
+    clear_all(functions, strings, paths, families);
     Function::Refused(refuse(62, 0))
 }

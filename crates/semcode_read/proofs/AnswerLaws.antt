@@ -18,20 +18,26 @@ use Rattle.semcode_records.specs.Path.{Head, headAt}
 use Rattle.semcode_decode.specs.Block.{Rooms, Block, blockOf}
 use Rattle.semcode_decode.specs.Layout.{Layout, layoutOf, layout, stringStarts, pathStarts, Lent, roomsOf, Leaves, Decodes}
 use Rattle.semcode_decode.specs.Number.{decodeAnew, Asked, blockIn, stringNumber, symbolNumber, pathNumber, takenIn, textIn, headIn}
-use Rattle.semcode_read.proofs.NumberLaws.{block-refused, not-picked, layout-ok, string-found, symbol-found, path-found}
+use Rattle.semcode_decode.proofs.BlockLaws.{layout-ok}
+use Rattle.semcode_read.proofs.NumberLaws.{block-refused, not-picked, string-found, symbol-found, path-found}
 
 module _ {A B : Type 0} (tell : Out (Asked A) → B) (asked : Out (Asked A)) (before : Lent) {answer : B} where
   -- the tables are the block's
   pub kept : {C : Type 0} {block : Out Block} {after : Lent} {told due : C} → Leaves block before after told due → blockIn asked ≡ block → answer ≡ tell asked
       → Leaves (blockIn asked) before after answer (tell asked)
-  kept d e h = record { answer = h; strings = rw e (d .strings); paths = rw e (d .paths) }
+  kept d e h = record { answer = h; strings = rw e (d .strings); paths = rw e (d .paths); families = rw e (d .families) }
 
   -- they are cleared
   pub cleared : {C : Type 0} (between : Lent) {after : Lent} {told due : C} → Leaves (refuse 62 0) between after told due → asked ≡ refuse 62 0
-      → length (between .strings) ≡ length (before .strings) → length (between .paths) ≡ length (before .paths) → answer ≡ tell (refuse 62 0)
-      → Leaves (blockIn asked) before after answer (tell asked)
-  cleared between d e l m h =
-      rw e (record { answer = h; strings = d .strings ∙ ap (λ (n : ℕ). lent n []) l; paths = d .paths ∙ ap (λ (n : ℕ). lent n []) m })
+      → length (between .strings) ≡ length (before .strings) → length (between .paths) ≡ length (before .paths)
+      → length (between .families) ≡ length (before .families) → answer ≡ tell (refuse 62 0) → Leaves (blockIn asked) before after answer (tell asked)
+  cleared between d e l m n h =
+      rw e (record {
+        answer = h;
+        strings = d .strings ∙ ap (λ (n : ℕ). lent n []) l;
+        paths = d .paths ∙ ap (λ (n : ℕ). lent n []) m;
+        families = d .families ∙ ap (λ (n : ℕ). lent n []) n;
+      })
 
 module _ (base revision : ℕ) (s : List ℕ) (before after : Lent) {told : Out Layout} (left : Decodes layout base revision 8192 s before after told) where
   abbrev block : Out Block

@@ -8,14 +8,14 @@ use Rattle.local_format.specs.Refusal.{Refusal}
 use Rattle.local_format.specs.Out.{Out, ok, refused, refuse}
 use Rattle.local_format.specs.Text.{Span, stringAt}
 use Rattle.local_format.specs.Number.{numbered, choose}
-use Rattle.local_format.proofs.OutLaws.{never, ok-same, bind-ok}
+use Rattle.local_format.proofs.OutLaws.{ok-same, bind-ok}
 use Rattle.semcode_records.specs.Records.{Taken, taken, Entry}
 use Rattle.semcode_records.specs.Symbol.{symbolAt}
 use Rattle.semcode_records.specs.Path.{pathAt, headAt}
 use Rattle.semcode_records.proofs.RecordsLaws.{as-many}
 use Rattle.semcode_records.proofs.SymbolLaws.{symbols-whole}
 use Rattle.semcode_decode.specs.Block.{Rooms, Block, stringRecord, blockOf}
-use Rattle.semcode_decode.specs.Layout.{Layout, layoutOf, layout, stringStarts, pathStarts}
+use Rattle.semcode_decode.specs.Layout.{layout, stringStarts, pathStarts}
 use Rattle.semcode_decode.specs.Number.{stringNumber, symbolNumber, pathNumber, blockIn, takenIn, textIn, headIn}
 use Rattle.semcode_decode.proofs.BlockLaws.{layout-refused}
 use Rattle.semcode_decode.proofs.ReadLaws.{there, tables-read, symbol-start}
@@ -31,10 +31,6 @@ module _ {A : Type 0} (pick : Block → Out (Entry A)) (x : Out Block) where
 
   pub not-picked : {b : Block} → x ≡ ok b → pick b ≡ refuse 62 0 → choose pick x ≡ refuse 62 0
   not-picked h k = rw (h, k)
-
-pub layout-ok : (x : Out Block) {l : Layout} → layout x ≡ ok l → (b : Block) × (x ≡ ok b) × (layoutOf b ≡ l)
-layout-ok (ok b) h = (b, refl, ok-same h)
-layout-ok (refused r) h = absurd (never h)
 
 string-again : (s : List ℕ) (at : ℕ) {text : Span} {next : ℕ} → stringRecord s at ≡ taken text next → stringAt s at ≡ ok text
 string-again s at h =

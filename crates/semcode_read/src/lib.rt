@@ -1,5 +1,6 @@
 // A string, a debug symbol, a path and a path's component by number. Each decodes the block anew first.
 use lent_table::clear;
+use lent_table::clear_bytes;
 use local_format::refusal::Refusal;
 use local_format::refusal::refuse;
 use local_format::text::Text;
@@ -39,15 +40,16 @@ ghost use Rattle.semcode_read.specs.After.{componentAfter};
 // As many symbols as any block has: no list is lent for them.
 const SYMBOLS: usize = 8192;
 
-// A number that is not in the table: zeros in both lent tables.
-fn not_there(strings: &mut [u64], paths: &mut [u64]) -> Refusal
+// A number that is not in the table: zeros in the lent tables.
+fn not_there(strings: &mut [u64], paths: &mut [u64], families: &mut [u8]) -> Refusal
     ensures { λ r.
         ⌜ Leaves (refuse 62 0)
-        (tables (now (strings .entry)) (now (paths .entry)))
-        (tables (now (strings .exit)) (now (paths .exit))) (refusalOut r) (refusal 62 0) ⌝ }
+        (tables (now (strings .entry)) (now (paths .entry)) (now (families .entry)))
+        (tables (now (strings .exit)) (now (paths .exit)) (now (families .exit))) (refusalOut r) (refusal 62 0) ⌝ }
 {
     clear(strings);
     clear(paths);
+    clear_bytes(families);
     refuse(62, 0)
 }
 
@@ -58,20 +60,29 @@ pub fn string_number(
     number: usize,
     strings: &mut [u64],
     paths: &mut [u64],
+    families: &mut [u8],
 ) -> Text
     ensures { λ r.
         ⌜ Reads textIn (stringNumber number) «base_offset» «header_rev» (now (code .entry))
-        (tables (now (strings .entry)) (now (paths .entry)))
-        (tables (now (strings .exit)) (now (paths .exit))) (textOut r) ⌝ }
+        (tables (now (strings .entry)) (now (paths .entry)) (now (families .entry)))
+        (tables (now (strings .exit)) (now (paths .exit)) (now (families .exit))) (textOut r) ⌝ }
 {
-    let answer = parse_block(base_offset, code, header_rev, SYMBOLS, strings, paths);
+    let answer = parse_block(
+        base_offset,
+        code,
+        header_rev,
+        SYMBOLS,
+        strings,
+        paths,
+        families,
+    );
     let Parse::Whole(parsed) = answer else {
         return Text::Refused(parse_refusal(answer));
     };
     if number < parsed.string_count {
         return read_string(code, strings[number] as usize);
     }
-    Text::Refused(not_there(strings, paths))
+    Text::Refused(not_there(strings, paths, families))
 }
 
 pub fn symbol_number(
@@ -81,20 +92,29 @@ pub fn symbol_number(
     number: usize,
     strings: &mut [u64],
     paths: &mut [u64],
+    families: &mut [u8],
 ) -> Symbol
     ensures { λ r.
         ⌜ Reads takenIn (symbolNumber number) «base_offset» «header_rev» (now (code .entry))
-        (tables (now (strings .entry)) (now (paths .entry)))
-        (tables (now (strings .exit)) (now (paths .exit))) (symbolOut r) ⌝ }
+        (tables (now (strings .entry)) (now (paths .entry)) (now (families .entry)))
+        (tables (now (strings .exit)) (now (paths .exit)) (now (families .exit))) (symbolOut r) ⌝ }
 {
-    let answer = parse_block(base_offset, code, header_rev, SYMBOLS, strings, paths);
+    let answer = parse_block(
+        base_offset,
+        code,
+        header_rev,
+        SYMBOLS,
+        strings,
+        paths,
+        families,
+    );
     let Parse::Whole(parsed) = answer else {
         return Symbol::Refused(parse_refusal(answer));
     };
     if number < parsed.debug_symbol_count {
         return read_debug_symbol(code, parsed.debug_symbols_start + 10 * number);
     }
-    Symbol::Refused(not_there(strings, paths))
+    Symbol::Refused(not_there(strings, paths, families))
 }
 
 pub fn path_number(
@@ -104,20 +124,29 @@ pub fn path_number(
     number: usize,
     strings: &mut [u64],
     paths: &mut [u64],
+    families: &mut [u8],
 ) -> Path
     ensures { λ r.
         ⌜ Reads headIn (pathNumber number) «base_offset» «header_rev» (now (code .entry))
-        (tables (now (strings .entry)) (now (paths .entry)))
-        (tables (now (strings .exit)) (now (paths .exit))) (pathOut r) ⌝ }
+        (tables (now (strings .entry)) (now (paths .entry)) (now (families .entry)))
+        (tables (now (strings .exit)) (now (paths .exit)) (now (families .exit))) (pathOut r) ⌝ }
 {
-    let answer = parse_block(base_offset, code, header_rev, SYMBOLS, strings, paths);
+    let answer = parse_block(
+        base_offset,
+        code,
+        header_rev,
+        SYMBOLS,
+        strings,
+        paths,
+        families,
+    );
     let Parse::Whole(parsed) = answer else {
         return Path::Refused(parse_refusal(answer));
     };
     if number < parsed.path_count {
         return read_path(code, paths[number] as usize, header_rev);
     }
-    Path::Refused(not_there(strings, paths))
+    Path::Refused(not_there(strings, paths, families))
 }
 
 // The component after so many others.
@@ -142,13 +171,22 @@ pub fn component_number(
     component: usize,
     strings: &mut [u64],
     paths: &mut [u64],
+    families: &mut [u8],
 ) -> Component
     ensures { λ r.
         ⌜ Reads takenIn (componentNumber number component) «base_offset» «header_rev» (now (code .entry))
-        (tables (now (strings .entry)) (now (paths .entry)))
-        (tables (now (strings .exit)) (now (paths .exit))) (componentOut r) ⌝ }
+        (tables (now (strings .entry)) (now (paths .entry)) (now (families .entry)))
+        (tables (now (strings .exit)) (now (paths .exit)) (now (families .exit))) (componentOut r) ⌝ }
 {
-    let answer = path_number(base_offset, code, header_rev, number, strings, paths);
+    let answer = path_number(
+        base_offset,
+        code,
+        header_rev,
+        number,
+        strings,
+        paths,
+        families,
+    );
     let Path::Whole { path, next: _ } = answer else {
         return Component::Refused(path_refusal(answer));
     };
@@ -162,5 +200,5 @@ pub fn component_number(
             event_kind(event),
         );
     }
-    Component::Refused(not_there(strings, paths))
+    Component::Refused(not_there(strings, paths, families))
 }

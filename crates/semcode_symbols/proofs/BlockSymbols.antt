@@ -15,7 +15,7 @@ use Rattle.local_format.proofs.OutLaws.{ok-same, bind-ok, checked-ok}
 use Rattle.semcode_records.specs.Records.{Table, noRecords, records}
 use Rattle.semcode_records.specs.Symbol.{Symbol, symbolAt}
 use Rattle.semcode_records.proofs.RecordsLaws.{none-left, as-many}
-use Rattle.semcode_decode.specs.Block.{Rooms, stringTable, symbolTable, pathTable, Section, sectionAt, Block, blockOf, decodeBlock}
+use Rattle.semcode_decode.specs.Block.{Rooms, stringTable, symbolTable, pathTable, Section, sectionAt, signatureAt, Block, blockOf, decodeBlock}
 use Rattle.semcode_decode.specs.Layout.{Layout, layout}
 use Rattle.semcode_decode.proofs.ReadLaws.{tables-read, symbol-start}
 use Rattle.semcode_symbols.specs.Symbols.{blockSymbols, symbolCount, symbolsStart, Lies}
@@ -52,7 +52,8 @@ module _ (revision : ℕ) (rooms : Rooms) (s : List ℕ) where
       let t = bind-ok (stringTable s (rooms .strings) 0) _ h in
       let d = bind-ok (sectionAt dbg0 (symbolTable s (rooms .symbols)) s (t .0 .end)) _ (t .2) in
       let o = bind-ok (sectionAt own0 (pathTable revision s (rooms .paths)) s (d .0 .table .end)) _ (d .2) in
-      rw (← ok-same (o .2)) (section-room s (rooms .symbols) (t .0 .end) (d .0) (d .1))
+      let g = bind-ok (signatureAt revision (o .0 .found) s (rooms .families) (o .0 .table .end)) _ (o .2) in
+      rw (← ok-same (g .2)) (section-room s (rooms .symbols) (t .0 .end) (d .0) (d .1))
 
   -- all of so many symbols lie in the bytes
   within : (count at : ℕ) {t : Table Symbol} → records (symbolAt s) count at ≡ ok t → 10 * count ≤ length s - at

@@ -31,8 +31,8 @@ lastStart (block code layout) = code + layout .symbolsStart
 
 -- ---- What a call leaves
 
-abbrev pub fileLists : {S : Type 0} → List S → List ℕ → List ℕ → List ℕ → Lists S FileLent
-fileLists symbols functions strings paths = record { symbols = symbols; tables = fileTables functions strings paths }
+abbrev pub fileLists : {S : Type 0} → List S → List ℕ → List ℕ → List ℕ → List ℕ → Lists S FileLent
+fileLists symbols functions strings paths families = record { symbols = symbols; tables = fileTables functions strings paths families }
 
 -- the functions are decoded, and the list has the last one's symbols and then zeros; `is` carries the list's records over
 pub record FillsFile {S A : Type 0} (is : S → Symbol) (told : Out (List (Entry Function)) → A) (cursor revision : ℕ) (bytes : List ℕ)

@@ -42,8 +42,8 @@ pub record Lists (S T : Type 0) : Type 0 where
   pub symbols : List S
   pub tables : T
 
-abbrev pub lists : {S : Type 0} → List S → List ℕ → List ℕ → Lists S Lent
-lists symbols strings paths = record { symbols = symbols; tables = tables strings paths }
+abbrev pub lists : {S : Type 0} → List S → List ℕ → List ℕ → List ℕ → Lists S Lent
+lists symbols strings paths families = record { symbols = symbols; tables = tables strings paths families }
 
 -- the block is decoded, and the list has its symbols and then zeros; `is` carries the list's records over
 pub record Fills {S A : Type 0} (is : S → Symbol) (told : Out Block → A) (base revision : ℕ) (code : List ℕ)

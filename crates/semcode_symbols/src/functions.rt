@@ -63,11 +63,12 @@ fn functions_placed(
     functions: &mut [u64],
     strings: &mut [u64],
     paths: &mut [u64],
+    families: &mut [u8],
 ) -> PlacedFunctions
     ensures { λ r.
         ⌜ PlacedFile cursor «header_rev» symbols (now (bytes .entry))
-        (fileTables (now (functions .entry)) (now (strings .entry)) (now (paths .entry)))
-        (fileTables (now (functions .exit)) (now (strings .exit)) (now (paths .exit)))
+        (fileTables (now (functions .entry)) (now (strings .entry)) (now (paths .entry)) (now (families .entry)))
+        (fileTables (now (functions .exit)) (now (strings .exit)) (now (paths .exit)) (now (families .exit)))
         (functionsOut (r .answer)) (r .at) (r .count) ⌝ }
 {
     let answer = read_functions(
@@ -78,6 +79,7 @@ fn functions_placed(
         functions,
         strings,
         paths,
+        families,
     );
     let last = last_of(answer);
     let count = last_symbol_count(last);
@@ -94,8 +96,8 @@ fn functions_placed(
 
 // ---- The list
 
-// The functions from a cursor to the end: their starts go to a lent table, the last one's string starts and path starts to two, and
-// its symbols to a lent list.
+// The functions from a cursor to the end: their starts go to a lent table, the last one's string starts and path starts to two, its families
+// to a table of bytes, and its symbols to a lent list.
 pub fn decode_functions(
     bytes: &[u8],
     cursor: usize,
@@ -104,11 +106,12 @@ pub fn decode_functions(
     functions: &mut [u64],
     strings: &mut [u64],
     paths: &mut [u64],
+    families: &mut [u8],
 ) -> Functions
     ensures { λ r.
         ⌜ FillsFile symbolIs (file cursor) cursor «header_rev» (now (bytes .entry))
-        (fileLists (now (symbols .entry)) (now (functions .entry)) (now (strings .entry)) (now (paths .entry)))
-        (fileLists (now (symbols .exit)) (now (functions .exit)) (now (strings .exit)) (now (paths .exit))) (functionsOut r) ⌝ }
+        (fileLists (now (symbols .entry)) (now (functions .entry)) (now (strings .entry)) (now (paths .entry)) (now (families .entry)))
+        (fileLists (now (symbols .exit)) (now (functions .exit)) (now (strings .exit)) (now (paths .exit)) (now (families .exit))) (functionsOut r) ⌝ }
 {
     let placed = functions_placed(
         bytes,
@@ -118,6 +121,7 @@ pub fn decode_functions(
         functions,
         strings,
         paths,
+        families,
     );
     fill_symbols(symbols, bytes, placed.at, placed.count);
     placed.answer

@@ -61,13 +61,22 @@ fn parse_placed(
     symbols: usize,
     strings: &mut [u64],
     paths: &mut [u64],
+    families: &mut [u8],
 ) -> PlacedParse
     ensures { λ r.
         ⌜ Placed «base_offset» «header_rev» symbols (now (code .entry))
-        (tables (now (strings .entry)) (now (paths .entry)))
-        (tables (now (strings .exit)) (now (paths .exit))) (parseOut (r .answer)) (r .at) (r .count) ⌝ }
+        (tables (now (strings .entry)) (now (paths .entry)) (now (families .entry)))
+        (tables (now (strings .exit)) (now (paths .exit)) (now (families .exit))) (parseOut (r .answer)) (r .at) (r .count) ⌝ }
 {
-    let answer = parse_block(base_offset, code, header_rev, symbols, strings, paths);
+    let answer = parse_block(
+        base_offset,
+        code,
+        header_rev,
+        symbols,
+        strings,
+        paths,
+        families,
+    );
     let at = symbols_start(answer);
     let count = symbol_count(answer);
     PlacedParse { answer, at, count }
@@ -123,7 +132,7 @@ fn fill_symbols(symbols: &mut [DecodedDebugSymbol], code: &[u8], at: usize, coun
     }
 }
 
-// A block at a base: string starts and path starts go to two lent tables, the symbols to a lent list.
+// A block at a base: string starts and path starts go to two lent tables, the families to a table of bytes, the symbols to a lent list.
 pub fn parse_string_table_debug_and_ownership(
     base_offset: usize,
     code: &[u8],
@@ -131,13 +140,22 @@ pub fn parse_string_table_debug_and_ownership(
     symbols: &mut [DecodedDebugSymbol],
     strings: &mut [u64],
     paths: &mut [u64],
+    families: &mut [u8],
 ) -> Parse
     ensures { λ r.
         ⌜ Fills symbolIs layout «base_offset» «header_rev» (now (code .entry))
-        (lists (now (symbols .entry)) (now (strings .entry)) (now (paths .entry)))
-        (lists (now (symbols .exit)) (now (strings .exit)) (now (paths .exit))) (parseOut r) ⌝ }
+        (lists (now (symbols .entry)) (now (strings .entry)) (now (paths .entry)) (now (families .entry)))
+        (lists (now (symbols .exit)) (now (strings .exit)) (now (paths .exit)) (now (families .exit))) (parseOut r) ⌝ }
 {
-    let placed = parse_placed(base_offset, code, header_rev, symbols.len(), strings, paths);
+    let placed = parse_placed(
+        base_offset,
+        code,
+        header_rev,
+        symbols.len(),
+        strings,
+        paths,
+        families,
+    );
     fill_symbols(symbols, code, placed.at, placed.count);
     placed.answer
 }

@@ -14,6 +14,6 @@ abbrev pub answered : ℕ → Specimen → Specimen
 answered base (section x) = section (evr0.answered x)
 answered base (block x) = block (semcode.answered base x)
 
--- what they leave free is any: the free bytes of 1 to 8, the base of 9 to 12, the revision of 9 to 11
-unfoldable pub specimens : Free → ℕ → ℕ → ℕ → List Specimen
-specimens free byte base revision = map section (evr0.specimens free byte) ++ map block (semcode.specimens base revision)
+-- what they leave free is any: the free bytes of 1 to 8, the base of 9 to 12, the revision of 9 and 11, and those of 10
+unfoldable pub specimens : Free → ℕ → ℕ → ℕ → ℕ → ℕ → List Specimen
+specimens free byte base revision low high = map section (evr0.specimens free byte) ++ map block (semcode.specimens base revision low high)

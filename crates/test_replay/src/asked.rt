@@ -3,8 +3,8 @@ use local_format::field::le16;
 use local_format::field::le32;
 use local_format::refusal::diag_offset;
 
-// 0 is a section, whose tables are those of propositions, proofs and depths; 1 is a block, with strings, symbols and paths; 2 is a file, with
-// functions, strings and paths.
+// 0 is a section, whose tables are those of propositions, proofs and depths; 1 is a block, with strings, symbols, paths and families; 2 is a
+// file, with functions, strings, paths and families.
 pub struct Asked {
     pub decoder: u8,
     pub revision: u16,
@@ -12,6 +12,7 @@ pub struct Asked {
     pub first: usize,
     pub second: usize,
     pub third: usize,
+    pub fourth: usize,
     pub start: usize,
     pub len: usize,
 }
@@ -41,7 +42,7 @@ fn joined(low: u32, high: u32) -> usize {
     (low as usize) + 4294967296 * (high as usize)
 }
 
-// Decoder (1 byte), revision (2), cursor or base (8), three lengths (2 each), the input's length (4), and the input.
+// Decoder (1 byte), revision (2), cursor or base (8), four lengths (2 each), the input's length (4), and the input.
 pub fn read_asked(list: &[u8], at: usize) -> Asked {
     Asked {
         decoder: byte(list, at),
@@ -53,7 +54,8 @@ pub fn read_asked(list: &[u8], at: usize) -> Asked {
         first: two(list, diag_offset(at, 11)) as usize,
         second: two(list, diag_offset(at, 13)) as usize,
         third: two(list, diag_offset(at, 15)) as usize,
-        start: diag_offset(at, 21),
-        len: four(list, diag_offset(at, 17)) as usize,
+        fourth: two(list, diag_offset(at, 17)) as usize,
+        start: diag_offset(at, 23),
+        len: four(list, diag_offset(at, 19)) as usize,
     }
 }

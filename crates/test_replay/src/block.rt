@@ -9,14 +9,18 @@ const STRINGS: usize = 300;
 
 const PATHS: usize = 65536;
 
+const FAMILIES: usize = 4100;
+
 // What a lent table holds before the call.
 const OLD: u64 = 11936128518282651045;
+
+const OLD_BYTE: u8 = 165;
 
 fn flag(value: bool) -> usize {
     if value { 1 } else { 0 }
 }
 
-// Number 0, both tags, the counts and the places.
+// Number 0, the tags, the counts and the places.
 pub fn layout(list: &[u8], held: Held, block: StringTableDebugOwnershipParse) -> Held {
     crate::held::numbers(
         list,
@@ -25,11 +29,14 @@ pub fn layout(list: &[u8], held: Held, block: StringTableDebugOwnershipParse) ->
             0,
             flag(block.has_debug_section),
             flag(block.has_ownership_section),
+            flag(block.has_signature),
             block.string_count,
             block.string_table_end_offset,
             block.debug_symbol_count,
             block.debug_symbols_start,
             block.path_count,
+            block.parameter_count,
+            block.families_start,
             block.instr_start_offset,
         ],
     )
@@ -60,16 +67,19 @@ pub fn symbols(list: &[u8], held: Held, code: &[u8], start: usize, count: usize)
     so_far
 }
 
-pub fn strings_and_paths(
+pub fn tables(
     list: &[u8],
     held: Held,
     string_count: usize,
     path_count: usize,
+    parameter_count: usize,
     strings: &[u64],
     paths: &[u64],
+    families: &[u8],
 ) -> Held {
     let placed = crate::held::table(list, held, strings, string_count);
-    crate::held::table(list, placed, paths, path_count)
+    let paths_held = crate::held::table(list, placed, paths, path_count);
+    crate::held::byte_table(list, paths_held, families, parameter_count)
 }
 
 // The whole answer, which stands in the list from `at` on.
@@ -80,22 +90,25 @@ fn answer(
     parsed: Parse,
     strings: &[u64],
     paths: &[u64],
+    families: &[u8],
 ) -> Held {
     let start = Held { at, same: true };
     match parsed {
         Parse::Refused(refused) => {
             let told = crate::held::refusal(list, start, refused);
-            strings_and_paths(list, told, 0, 0, strings, paths)
+            tables(list, told, 0, 0, 0, strings, paths, families)
         }
         Parse::Whole(b) => {
             let told = layout(list, start, b);
-            let placed = strings_and_paths(
+            let placed = tables(
                 list,
                 told,
                 b.string_count,
                 b.path_count,
+                b.parameter_count,
                 strings,
                 paths,
+                families,
             );
             symbols(
                 list,
@@ -115,6 +128,7 @@ fn parsed(
     asked: Asked,
     strings: &mut [u64],
     paths: &mut [u64],
+    families: &mut [u8],
 ) -> Held {
     let parsed = semcode_decode::decode::parse_block(
         asked.origin,
@@ -123,19 +137,32 @@ fn parsed(
         asked.second,
         strings,
         paths,
+        families,
     );
-    answer(list, at, input, parsed, strings, paths)
+    answer(list, at, input, parsed, strings, paths, families)
 }
 
 // An entry that asks for longer tables than there are is not the same.
 pub fn block(list: &[u8], at: usize, input: &[u8], asked: Asked) -> Held {
     let a = asked.first;
     let c = asked.third;
+    let d = asked.fourth;
     if a <= STRINGS {
         if c <= PATHS {
-            let mut strings = [OLD; STRINGS];
-            let mut paths = [OLD; PATHS];
-            return parsed(list, at, input, asked, &mut strings[..a], &mut paths[..c]);
+            if d <= FAMILIES {
+                let mut strings = [OLD; STRINGS];
+                let mut paths = [OLD; PATHS];
+                let mut families = [OLD_BYTE; FAMILIES];
+                return parsed(
+                    list,
+                    at,
+                    input,
+                    asked,
+                    &mut strings[..a],
+                    &mut paths[..c],
+                    &mut families[..d],
+                );
+            }
         }
     }
     Held { at, same: false }

@@ -14,8 +14,12 @@ const SYMBOLS: usize = 8192;
 
 const PATHS: usize = 65536;
 
+const FAMILIES: usize = 4100;
+
 // What a lent table holds before the call.
 const OLD: u64 = 11936128518282651045;
+
+const OLD_BYTE: u8 = 165;
 
 // Number 0, the functions and the cursor.
 fn counted(list: &[u8], held: Held, file: File) -> Held {
@@ -36,16 +40,19 @@ fn last_block(
     b: StringTableDebugOwnershipParse,
     strings: &[u64],
     paths: &[u64],
+    families: &[u8],
 ) -> Held {
     let placed = crate::held::numbers(list, held, &[code]);
     let told = crate::block::layout(list, placed, b);
-    let tables = crate::block::strings_and_paths(
+    let tables = crate::block::tables(
         list,
         told,
         b.string_count,
         b.path_count,
+        b.parameter_count,
         strings,
         paths,
+        families,
     );
     crate::block::symbols(
         list,
@@ -57,11 +64,19 @@ fn last_block(
 }
 
 // What follows the starts of all functions.
-fn last(list: &[u8], held: Held, input: &[u8], last: Last, strings: &[u64], paths: &[u64]) -> Held {
+fn last(
+    list: &[u8],
+    held: Held,
+    input: &[u8],
+    last: Last,
+    strings: &[u64],
+    paths: &[u64],
+    families: &[u8],
+) -> Held {
     match last {
-        Last::Nothing => crate::block::strings_and_paths(list, held, 0, 0, strings, paths),
+        Last::Nothing => crate::block::tables(list, held, 0, 0, 0, strings, paths, families),
         Last::Block { code, parsed } => {
-            last_block(list, held, input, code, parsed, strings, paths)
+            last_block(list, held, input, code, parsed, strings, paths, families)
         }
     }
 }
@@ -75,19 +90,20 @@ fn answer(
     functions: &[u64],
     strings: &[u64],
     paths: &[u64],
+    families: &[u8],
 ) -> Held {
     let start = Held { at, same: true };
     match decoded {
         Functions::Refused(refused) => {
             let told = crate::held::refusal(list, start, refused);
             let starts = crate::held::table(list, told, functions, 0);
-            crate::block::strings_and_paths(list, starts, 0, 0, strings, paths)
+            crate::block::tables(list, starts, 0, 0, 0, strings, paths, families)
         }
         Functions::Whole(file) => {
             let told = counted(list, start, file);
             let starts = crate::held::table(list, told, functions, file.functions);
             let block = file.last;
-            last(list, starts, input, block, strings, paths)
+            last(list, starts, input, block, strings, paths, families)
         }
     }
 }
@@ -100,6 +116,7 @@ fn decoded(
     functions: &mut [u64],
     strings: &mut [u64],
     paths: &mut [u64],
+    families: &mut [u8],
 ) -> Held {
     let decoded = semcode_functions::functions::read_functions(
         input,
@@ -109,8 +126,18 @@ fn decoded(
         functions,
         strings,
         paths,
+        families,
     );
-    answer(list, at, input, decoded, functions, strings, paths)
+    answer(
+        list,
+        at,
+        input,
+        decoded,
+        functions,
+        strings,
+        paths,
+        families,
+    )
 }
 
 // An entry that asks for longer tables than there are is not the same.
@@ -118,21 +145,26 @@ pub fn functions(list: &[u8], at: usize, input: &[u8], asked: Asked) -> Held {
     let a = asked.first;
     let b = asked.second;
     let c = asked.third;
+    let d = asked.fourth;
     if a <= FUNCTIONS {
         if b <= STRINGS {
             if c <= PATHS {
-                let mut starts = [OLD; FUNCTIONS];
-                let mut strings = [OLD; STRINGS];
-                let mut paths = [OLD; PATHS];
-                return decoded(
-                    list,
-                    at,
-                    input,
-                    asked,
-                    &mut starts[..a],
-                    &mut strings[..b],
-                    &mut paths[..c],
-                );
+                if d <= FAMILIES {
+                    let mut starts = [OLD; FUNCTIONS];
+                    let mut strings = [OLD; STRINGS];
+                    let mut paths = [OLD; PATHS];
+                    let mut families = [OLD_BYTE; FAMILIES];
+                    return decoded(
+                        list,
+                        at,
+                        input,
+                        asked,
+                        &mut starts[..a],
+                        &mut strings[..b],
+                        &mut paths[..c],
+                        &mut families[..d],
+                    );
+                }
             }
         }
     }

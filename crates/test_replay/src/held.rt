@@ -1,4 +1,5 @@
 // An answer held against the list, number by number.
+use local_format::field::U8;
 use local_format::field::U32;
 use local_format::refusal::Kind;
 use local_format::refusal::Refusal;
@@ -76,6 +77,36 @@ pub fn table(list: &[u8], held: Held, table: &[u64], count: usize) -> Held {
     so_far
 }
 
+// A byte of the list below the count, 0 from there on.
+fn byte_entry(list: &[u8], held: Held, i: usize, count: usize, value: u8) -> Held {
+    if i < count {
+        let read = local_format::field::read_u8(list, held.at);
+        let U8::Value {
+            value: stored,
+            next,
+        } = read
+        else {
+            return Held {
+                at: list.len(),
+                same: false,
+            };
+        };
+        return kept(held, next, stored == value);
+    }
+    kept(held, held.at, value == 0)
+}
+
+// A lent table of bytes, whole.
+pub fn byte_table(list: &[u8], held: Held, table: &[u8], count: usize) -> Held {
+    let mut so_far = held;
+    let mut i: usize = 0;
+    while i < table.len() {
+        so_far = byte_entry(list, so_far, i, count, table[i]);
+        i += 1;
+    }
+    so_far
+}
+
 fn kind_number(kind: Kind) -> usize {
     match kind {
         Kind::Invalid => 0,
@@ -86,6 +117,7 @@ fn kind_number(kind: Kind) -> usize {
         Kind::Added => 5,
         Kind::Truncated => 6,
         Kind::Name => 7,
+        Kind::Signature => 8,
     }
 }
 

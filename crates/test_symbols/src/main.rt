@@ -4,8 +4,14 @@ use libc::STDOUT_FILENO;
 use semcode_records::symbol::DecodedDebugSymbol;
 ghost use Prim.Native.Nat.{_<_};
 
-// Entry `i` of the list after a block at base 0, revision 22.
-fn entry(code: &[u8], strings: &mut [u64], paths: &mut [u64], i: usize) -> DecodedDebugSymbol
+// Entry `i` of the list after a block at base 0, at the last revision without signatures.
+fn entry(
+    code: &[u8],
+    strings: &mut [u64],
+    paths: &mut [u64],
+    families: &mut [u8],
+    i: usize,
+) -> DecodedDebugSymbol
     requires { ⌜ i < 4 ⌝ }
 {
     let mut symbols = [DecodedDebugSymbol {
@@ -16,10 +22,11 @@ fn entry(code: &[u8], strings: &mut [u64], paths: &mut [u64], i: usize) -> Decod
     semcode_symbols::parse_string_table_debug_and_ownership(
         0,
         code,
-        22,
+        19,
         &mut symbols,
         strings,
         paths,
+        families,
     );
     symbols[i]
 }
@@ -29,7 +36,8 @@ fn print_entry(code: &[u8], i: usize)
 {
     let mut strings = [0u64; 4];
     let mut paths = [0u64; 4];
-    let symbol = entry(code, &mut strings, &mut paths, i);
+    let mut families = [0u8; 4];
+    let symbol = entry(code, &mut strings, &mut paths, &mut families, i);
     io::print_decimal(STDOUT_FILENO, symbol.pc as u64);
     io::write_all(STDOUT_FILENO, b" ");
     io::print_decimal(STDOUT_FILENO, symbol.line as u64);

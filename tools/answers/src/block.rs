@@ -1,6 +1,6 @@
 //! Function tables. Places are places in the block.
 
-/// The result: three counts, whether each tag was found, and places.
+/// The result: four counts, whether each tag was found, and places.
 #[derive(Debug, Clone, Copy, PartialEq, Eq)]
 pub struct Layout {
     pub strings: usize,
@@ -10,6 +10,9 @@ pub struct Layout {
     pub symbols_start: usize,
     pub has_ownership: bool,
     pub paths: usize,
+    pub has_signature: bool,
+    pub families: usize,
+    pub families_start: usize,
     pub instructions: usize,
 }
 
@@ -23,6 +26,8 @@ pub struct Block {
     /// The places of the paths' event kinds, and the paths.
     pub path_starts: Vec<u64>,
     pub paths: Vec<Path>,
+    /// The parameters' families, as bytes.
+    pub families: Vec<u8>,
 }
 
 #[derive(Debug, Clone, Copy, PartialEq, Eq)]

@@ -12,10 +12,11 @@ pub enum Kind {
     Added,
     Truncated,
     Name,
+    Signature,
 }
 
 impl Kind {
-    pub const ALL: [Kind; 8] = [
+    pub const ALL: [Kind; 9] = [
         Kind::Invalid,
         Kind::Limit,
         Kind::Strings,
@@ -24,6 +25,7 @@ impl Kind {
         Kind::Added,
         Kind::Truncated,
         Kind::Name,
+        Kind::Signature,
     ];
 }
 

@@ -1,9 +1,10 @@
 //! Files of functions. The Rust copies names, strings, symbols and paths into vectors; the port writes the functions' starts and the last
 //! one's tables to lent tables, whose lengths a row states.
 
+use crate::blocks::few_families;
 use crate::rows::{Plan, Row, calls, plan};
 use answers::Answer;
-use inputs::block::{large, small_at};
+use inputs::block::{Block, large, small_at};
 use inputs::functions::Function;
 use inputs::random::Random;
 use inputs::text::Text;
@@ -15,15 +16,15 @@ use std::hint::black_box;
 
 const REVISION: u16 = 22;
 
-/// Room for functions, strings, symbols and paths.
-type Rooms = [usize; 4];
-const LONGEST: Rooms = [1024, 256, 8192, 65_535];
+/// Room for functions, strings, symbols, paths and families.
+type Rooms = [usize; 5];
+const LONGEST: Rooms = [1024, 256, 8192, 65_535, 4096];
 
 pub fn rows() -> Vec<Plan> {
     vec![
         of(
             "functions, 1,024 small, tables fitted",
-            [1024, 4, 3, 5],
+            [1024, 4, 3, 5, 4],
             || many(1024),
         ),
         of("functions, 1,024 small, tables longest", LONGEST, || {
@@ -31,7 +32,7 @@ pub fn rows() -> Vec<Plan> {
         }),
         of(
             "functions, 1,024 small, refused in the last, tables fitted",
-            [1024, 4, 3, 5],
+            [1024, 4, 3, 5, 4],
             || {
                 let mut file = many(1023);
                 let block = b"\x01\x00\x01\x00\xff";
@@ -42,7 +43,7 @@ pub fn rows() -> Vec<Plan> {
         ),
         of(
             "functions, one with a block of 65,535 paths",
-            [1, 0, 0, 65_535],
+            [1, 0, 0, 65_535, 3],
             || {
                 let mut file = Vec::new();
                 Function {
@@ -65,11 +66,20 @@ fn many(count: usize) -> Vec<u8> {
         Function {
             name: Text::new(format!("function_{number}").as_bytes()),
             size: None,
-            block: small_at(r, REVISION),
+            block: small_block(r),
         }
         .write(&mut file);
     }
     file
+}
+
+fn small_block(r: &mut Random) -> Block {
+    loop {
+        let block = small_at(r, REVISION);
+        if few_families(&block) {
+            return block;
+        }
+    }
 }
 
 fn of(name: &str, rooms: Rooms, file: fn() -> Vec<u8>) -> Plan {
@@ -101,6 +111,7 @@ struct Tables {
     strings: Vec<u64>,
     symbols: Vec<DebugSymbol>,
     paths: Vec<u64>,
+    families: Vec<u8>,
 }
 
 impl Tables {
@@ -110,6 +121,7 @@ impl Tables {
             strings: vec![0; rooms[1]],
             symbols: vec![DebugSymbol::default(); rooms[2]],
             paths: vec![0; rooms[3]],
+            families: vec![0; rooms[4]],
         }
     }
 }
@@ -120,6 +132,7 @@ fn port(file: &[u8], tables: &mut Tables) -> Answer<Decoded> {
         strings: &mut tables.strings,
         symbols: &mut tables.symbols,
         paths: &mut tables.paths,
+        families: &mut tables.families,
     };
     decode_functions(file, 0, REVISION, lent).0
 }

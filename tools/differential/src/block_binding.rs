@@ -4,6 +4,7 @@ use crate::block_compare::what;
 use crate::tally::Tally;
 use falgnust::semcode_decode as port;
 use inputs::cases::BlockCase;
+use oracle::local_format as rust_format;
 use oracle::semcode_decode as rust;
 
 /// An answer in the Rust's own types, with document 01's number of an error.
@@ -34,6 +35,9 @@ fn rust_error(error: port::DecodeError) -> rust::DecodeError {
         port::DecodeError::InvalidOwnershipSection { offset, msg } => {
             rust::DecodeError::InvalidOwnershipSection { offset, msg }
         }
+        port::DecodeError::InvalidSignatureSection { offset, msg } => {
+            rust::DecodeError::InvalidSignatureSection { offset, msg }
+        }
         port::DecodeError::ResourceLimit { offset, msg } => {
             rust::DecodeError::ResourceLimit { offset, msg }
         }
@@ -47,7 +51,7 @@ fn rust_error(error: port::DecodeError) -> rust::DecodeError {
     }
 }
 
-/// All fields of the Rust's result, but for the signature.
+/// All fields of the Rust's result.
 #[derive(Debug, PartialEq)]
 struct Fields {
     strings: Vec<String>,
@@ -55,6 +59,7 @@ struct Fields {
     borrowed_paths: Vec<rust::DecodedAccessPath>,
     write_paths: Vec<rust::DecodedAccessPath>,
     has: [bool; 2],
+    signature: Option<rust_format::CallableSignature>,
     places: [usize; 2],
 }
 
@@ -70,6 +75,7 @@ pub fn compare(tally: &mut Tally, case: &BlockCase) {
         borrowed_paths: b.borrowed_paths,
         write_paths: b.write_paths,
         has: [b.has_debug_section, b.has_ownership_section],
+        signature: b.signature,
         places: [b.string_table_end_offset, b.instr_start_offset],
     });
     let port = port::parse_string_table_debug_and_ownership(base, code, revision);
@@ -79,9 +85,23 @@ pub fn compare(tally: &mut Tally, case: &BlockCase) {
         borrowed_paths: b.borrowed_paths.into_iter().map(path).collect(),
         write_paths: b.write_paths.into_iter().map(path).collect(),
         has: [b.has_debug_section, b.has_ownership_section],
+        signature: b.signature.map(signature),
         places: [b.string_table_end_offset, b.instr_start_offset],
     });
     tally.same(&rust, &port, || format!("the binding, {}", what(case)));
+}
+
+/// By the name of each family.
+pub fn signature(s: port::CallableSignature) -> rust_format::CallableSignature {
+    let family = |family: port::CallableValueFamily| {
+        let rust = rust_format::CallableValueFamily::from_byte(family.byte());
+        let rust = rust.expect("a family of the Rust");
+        assert_eq!(format!("{family:?}"), format!("{rust:?}"));
+        rust
+    };
+    rust_format::CallableSignature {
+        families: s.families.into_iter().map(family).collect(),
+    }
 }
 
 pub fn symbol(s: port::DecodedDebugSymbol) -> rust::DecodedDebugSymbol {

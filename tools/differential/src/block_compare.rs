@@ -6,6 +6,7 @@ use crate::tally::{Tally, hex};
 use answers::Answer;
 use answers::block::{Block, Event, Layout, Path, Symbol};
 use answers::refusal::{Kind, Refusal};
+use falgnust::calls::BlockTables;
 use inputs::block_conditions::{accepted, condition};
 use inputs::cases::BlockCase;
 use port::block::{
@@ -24,8 +25,14 @@ pub const OLD_SYMBOL: DebugSymbol = DebugSymbol {
     col: OLD as u16,
 };
 
-/// The most strings, symbols and paths that a block may have.
-pub const MOST: [usize; 3] = [256, 8192, 65_535];
+/// What a lent table of bytes holds before a call.
+pub const OLD_BYTE: u8 = OLD as u8;
+
+/// The most strings, symbols, paths and families that a block may have.
+pub const MOST: Rooms = [256, 8192, 65_535, 4096];
+
+/// The lengths of the lent tables, in that order.
+pub type Rooms = [usize; 4];
 
 pub fn compare(tally: &mut Tally, case: &BlockCase) {
     let rust = oracle::block::block(&case.code, case.base, case.revision);
@@ -47,40 +54,55 @@ pub fn compare(tally: &mut Tally, case: &BlockCase) {
 
 /// Room enough, and for symbols and paths not much more than that: a symbol takes 10 bytes and a path 7 at least, so a larger count is
 /// refused after all, unless its table is too short for the count.
-pub fn rooms(case: &BlockCase) -> [usize; 3] {
+pub fn rooms(case: &BlockCase) -> Rooms {
     let length = case.code.len();
-    let rooms = [MOST[0] + length % 3, length / 10 + 3, length / 7 + 3];
+    let rooms = [
+        MOST[0] + length % 3,
+        length / 10 + 3,
+        length / 7 + 3,
+        length + length % 3,
+    ];
     match call(case, rooms).0 {
         Err(Refusal { number: 61, .. }) => MOST,
         _ => rooms,
     }
 }
 
-/// An answer, and after it the lent strings, symbols and paths.
-type Called = (Answer<Layout>, Vec<u64>, Vec<DebugSymbol>, Vec<u64>);
+/// An answer, and after it the lent strings, symbols, paths and families.
+type Called = (
+    Answer<Layout>,
+    Vec<u64>,
+    Vec<DebugSymbol>,
+    Vec<u64>,
+    Vec<u8>,
+);
 
-/// The port's answer with so much room for strings, symbols and paths.
-fn call(case: &BlockCase, rooms: [usize; 3]) -> Called {
+/// The port's answer with so much room.
+fn call(case: &BlockCase, rooms: Rooms) -> Called {
     let (mut strings, mut paths) = (vec![OLD; rooms[0]], vec![OLD; rooms[2]]);
-    let mut symbols = vec![OLD_SYMBOL; rooms[1]];
+    let (mut symbols, mut families) = (vec![OLD_SYMBOL; rooms[1]], vec![OLD_BYTE; rooms[3]]);
     let answer = parse_string_table_debug_and_ownership(
         case.base,
         &case.code,
         case.revision,
         &mut symbols,
-        &mut strings,
-        &mut paths,
+        BlockTables {
+            strings: &mut strings,
+            paths: &mut paths,
+            families: &mut families,
+        },
     );
-    (answer, strings, symbols, paths)
+    (answer, strings, symbols, paths, families)
 }
 
-fn with_rooms(tally: &mut Tally, case: &BlockCase, rooms: [usize; 3], rust: &Answer<Block>) {
+fn with_rooms(tally: &mut Tally, case: &BlockCase, rooms: Rooms, rust: &Answer<Block>) {
     let expected = match rust {
         Ok(b) => (
             Ok(b.layout),
             lent(&b.string_starts, rooms[0]),
             listed(&b.symbols, rooms[1]),
             lent(&b.path_starts, rooms[2]),
+            lent(&b.families, rooms[3]),
         ),
         Err(refusal) => refused(*refusal, rooms),
     };
@@ -88,12 +110,13 @@ fn with_rooms(tally: &mut Tally, case: &BlockCase, rooms: [usize; 3], rust: &Ans
 }
 
 /// A refusal, and zeros in every table.
-fn refused(refusal: Refusal, rooms: [usize; 3]) -> Called {
+fn refused(refusal: Refusal, rooms: Rooms) -> Called {
     (
         Err(refusal),
         lent(&[], rooms[0]),
         listed(&[], rooms[1]),
         lent(&[], rooms[2]),
+        lent(&[], rooms[3]),
     )
 }
 
@@ -112,9 +135,9 @@ pub fn listed(symbols: &[Symbol], room: usize) -> Vec<DebugSymbol> {
 }
 
 /// Entries, and zeros past them.
-pub fn lent(entries: &[u64], room: usize) -> Vec<u64> {
+pub fn lent<T: Copy + Default>(entries: &[T], room: usize) -> Vec<T> {
     let mut table = entries.to_vec();
-    table.resize(room, 0);
+    table.resize(room, T::default());
     table
 }
 
@@ -174,17 +197,18 @@ fn path_at(case: &BlockCase, start: usize) -> Answer<Path> {
     })
 }
 
-const SHORT: [&str; 3] = [
+const SHORT: [&str; 4] = [
     "strings, no Rust side",
     "symbols, no Rust side",
     "paths, no Rust side",
+    "families, no Rust side",
 ];
 
 /// 61, which the Rust does not have: one table an entry too short, the others just long enough.
 fn short_tables(tally: &mut Tally, case: &BlockCase, layout: &Layout) {
-    let counts = [layout.strings, layout.symbols, layout.paths];
-    let places = [2, layout.symbols_start, paths_start(layout)];
-    for table in 0..3 {
+    let counts = counts(layout);
+    let places = places(layout);
+    for table in 0..4 {
         if counts[table] == 0 {
             continue;
         }
@@ -202,7 +226,18 @@ fn short_tables(tally: &mut Tally, case: &BlockCase, layout: &Layout) {
     }
 }
 
-/// The place after the path count of a block that has paths.
-pub fn paths_start(layout: &Layout) -> usize {
-    layout.symbols_start + 10 * layout.symbols + 4 + 2
+/// Strings, symbols, paths and families.
+pub fn counts(layout: &Layout) -> Rooms {
+    [
+        layout.strings,
+        layout.symbols,
+        layout.paths,
+        layout.families,
+    ]
+}
+
+/// The place after each count of a block that has these records.
+pub fn places(layout: &Layout) -> Rooms {
+    let paths = layout.symbols_start + 10 * layout.symbols + 4 + 2;
+    [2, layout.symbols_start, paths, layout.families_start]
 }

@@ -1,7 +1,7 @@
 //! The records of a block by number: those of the Rust's vectors, 62 past their end, and the block's own refusal where it has one.
 
 use crate::block_binding_numbers;
-use crate::block_compare::{OLD, lent, what};
+use crate::block_compare::{OLD, OLD_BYTE, Rooms, lent, what};
 use crate::tally::Tally;
 use answers::Answer;
 use answers::block::Block;
@@ -19,24 +19,28 @@ pub const NOT_THERE: Refusal = Refusal {
     offset: 0,
 };
 
-/// A block, the Rust's answer, and room for its strings and paths.
+/// A block, the Rust's answer, and room for its strings, paths and families.
 struct Read<'a> {
     case: &'a BlockCase,
     rust: &'a Answer<Block>,
-    rooms: [usize; 2],
+    rooms: [usize; 3],
 }
 
-pub fn compare(tally: &mut Tally, case: &BlockCase, rust: &Answer<Block>, rooms: [usize; 3]) {
+pub fn compare(tally: &mut Tally, case: &BlockCase, rust: &Answer<Block>, rooms: Rooms) {
     match rust {
         Ok(block) if records(block) <= MOST => {
             block_binding_numbers::compare(tally, case, rust);
-            let rooms = [block.strings.len() + 1, block.paths.len() + 1];
+            let rooms = [
+                block.strings.len() + 1,
+                block.paths.len() + 1,
+                block.families.len() + 1,
+            ];
             numbers(tally, &Read { case, rust, rooms }, block);
         }
         Ok(_) => (),
         Err(refusal) => {
             block_binding_numbers::compare(tally, case, rust);
-            let rooms = [rooms[0], rooms[2]];
+            let rooms = [rooms[0], rooms[2], rooms[3]];
             let read = Read { case, rust, rooms };
             read.check(
                 tally,
@@ -104,7 +108,7 @@ pub fn past(count: usize) -> impl Iterator<Item = usize> {
 }
 
 impl Read<'_> {
-    /// What a reader answers, and both tables after it: the starts, or zeros where it refuses.
+    /// What a reader answers, and the tables after it: starts and families, or zeros where it refuses.
     fn check<T: PartialEq + Debug>(
         &self,
         tally: &mut Tally,
@@ -113,25 +117,28 @@ impl Read<'_> {
         read: impl FnOnce(&mut Lent) -> Answer<T>,
     ) {
         let (mut strings, mut paths) = (vec![OLD; self.rooms[0]], vec![OLD; self.rooms[1]]);
+        let mut families = vec![OLD_BYTE; self.rooms[2]];
         let answer = read(&mut Lent {
             base_offset: self.case.base,
             code: &self.case.code,
             header_rev: self.case.revision,
             strings: &mut strings,
             paths: &mut paths,
+            families: &mut families,
         });
         let number = expected.as_ref().err().map_or(0, |refusal| refusal.number);
         let starts = match (self.rust, &expected) {
-            (Ok(b), Ok(_)) => (&b.string_starts[..], &b.path_starts[..]),
-            _ => (&[][..], &[][..]),
+            (Ok(b), Ok(_)) => (&b.string_starts[..], &b.path_starts[..], &b.families[..]),
+            _ => (&[][..], &[][..], &[][..]),
         };
         let expected = (
             expected,
             lent(starts.0, self.rooms[0]),
             lent(starts.1, self.rooms[1]),
+            lent(starts.2, self.rooms[2]),
         );
         tally.input((number, reader));
-        tally.same(&expected, &(answer, strings, paths), || {
+        tally.same(&expected, &(answer, strings, paths, families), || {
             format!("{reader}, {}", what(self.case))
         });
     }

@@ -53,7 +53,8 @@ fn outcome(case: &BlockCase) -> Outcome {
     }
 }
 
-/// Every block of up to 2 bytes; every string of 1 byte; every first two bytes of a path, with what they need after them.
+/// Every block of up to 2 bytes; every string of 1 byte; every first two bytes of a path, with what they need after them;
+/// every family.
 fn exhaustive(tally: &mut Tally) {
     compare(tally, &[], 1000, 22);
     for a in 0..=255 {
@@ -64,11 +65,19 @@ fn exhaustive(tally: &mut Tally) {
             let mut path = b"\0\0OWN0\x01\0".to_vec();
             path.extend([a, b]);
             path.resize(path.len() + 10, 0);
-            for revision in [20, 21, 22] {
+            for revision in [19, 20, 21, 22] {
                 compare(tally, &path, 1000, revision);
             }
+            compare(tally, &signature(a, b), 1000, 20);
         }
     }
+}
+
+/// A block whose first family and the byte after it are these.
+fn signature(first: u8, second: u8) -> Vec<u8> {
+    let mut block = b"\0\0OWN0\0\0SIG0\x01\0".to_vec();
+    block.extend([first, second]);
+    block
 }
 
 fn compare(tally: &mut Tally, code: &[u8], base: usize, revision: u16) {
@@ -122,6 +131,13 @@ fn large(tally: &mut Tally, r: &mut Random) {
     for length in 1023..=1025 {
         let mut block = block::large(r, 22, [3, 3, 3], 3);
         block.strings[1] = Text::new(&vec![b'x'; length]);
+        compare(tally, &block.bytes(), 0, 22);
+    }
+    for families in 4095..=4097 {
+        let mut block = block::large(r, 22, [3, 3, 3], 3);
+        if let Some(signature) = &mut block.signature {
+            signature.items = vec![15; families];
+        }
         compare(tally, &block.bytes(), 0, 22);
     }
     for revision in REVISIONS {

@@ -1,6 +1,6 @@
 //! A file through the crate that callers link: the Rust's functions field for field, or its error with message and number.
 
-use crate::block_binding::{Told, path, rust_told, symbol, told};
+use crate::block_binding::{Told, path, rust_told, signature, symbol, told};
 use crate::function_compare::what;
 use crate::tally::Tally;
 use answers::Answer;
@@ -32,7 +32,7 @@ pub fn by_number(tally: &mut Tally, case: &FileCase, rust: &Answer<File>, number
     });
 }
 
-/// As the Rust has it, without a signature.
+/// As the Rust has it.
 fn envelope(f: port::DecodedFunctionEnvelope) -> rust::DecodedFunctionEnvelope {
     rust::DecodedFunctionEnvelope {
         name: f.name,
@@ -46,7 +46,7 @@ fn envelope(f: port::DecodedFunctionEnvelope) -> rust::DecodedFunctionEnvelope {
         has_ownership_section: f.has_ownership_section,
         has_debug_section: f.has_debug_section,
         string_table_end_offset: f.string_table_end_offset,
-        signature: None,
+        signature: f.signature.map(signature),
         instr_start_offset: f.instr_start_offset,
         code_slice: f.code_slice,
     }

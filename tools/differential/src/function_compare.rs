@@ -1,6 +1,8 @@
 //! One file on both sides: the result, every entry of the lent list and of the three lent tables, and every head.
 
-use crate::block_compare::{MOST, OLD, OLD_SYMBOL, lent, listed, paths_start};
+use crate::block_compare::{
+    MOST, OLD, OLD_BYTE, OLD_SYMBOL, counts, lent, listed, places as block_places,
+};
 use crate::function_binding;
 use crate::function_numbers;
 use crate::tally::{Tally, hex};
@@ -15,8 +17,8 @@ use port::functions::{Decoded, Lent, decode_functions, read_function};
 /// The most functions of a file.
 const FUNCTIONS: usize = 1024;
 
-/// The lengths of the lent tables: functions, strings, symbols, paths.
-pub type Rooms = [usize; 4];
+/// The lengths of the lent tables: functions, strings, symbols, paths, families.
+pub type Rooms = [usize; 5];
 
 pub fn compare(tally: &mut Tally, case: &FileCase) {
     let rust = oracle::functions::functions(&case.file, case.cursor, case.revision);
@@ -54,14 +56,25 @@ pub fn compare(tally: &mut Tally, case: &FileCase) {
 pub fn rooms(case: &FileCase) -> Rooms {
     let rest = case.file.len().saturating_sub(case.cursor);
     let functions = (rest / 9 + 1).min(FUNCTIONS);
-    let rooms = [functions, MOST[0] + rest % 3, rest / 10 + 3, rest / 7 + 3];
+    let rooms = [
+        functions,
+        MOST[0] + rest % 3,
+        rest / 10 + 3,
+        rest / 7 + 3,
+        rest + rest % 3,
+    ];
     match call(case, rooms).answer {
-        Err(Refusal { number: 61, .. }) => [functions, MOST[0], MOST[1], MOST[2]],
+        Err(Refusal { number: 61, .. }) => longest(functions),
         _ => rooms,
     }
 }
 
-/// An answer with the cursor, and after it the lent functions, strings, symbols and paths.
+/// Tables that no block is too large for.
+fn longest(functions: usize) -> Rooms {
+    [functions, MOST[0], MOST[1], MOST[2], MOST[3]]
+}
+
+/// An answer with the cursor, and after it all that was lent.
 #[derive(Debug, PartialEq)]
 struct Called {
     answer: Answer<Decoded>,
@@ -70,17 +83,19 @@ struct Called {
     strings: Vec<u64>,
     symbols: Vec<DebugSymbol>,
     paths: Vec<u64>,
+    families: Vec<u8>,
 }
 
 fn call(case: &FileCase, rooms: Rooms) -> Called {
     let [mut functions, mut strings, mut paths] =
         [rooms[0], rooms[1], rooms[3]].map(|room| vec![OLD; room]);
-    let mut symbols = vec![OLD_SYMBOL; rooms[2]];
+    let (mut symbols, mut families) = (vec![OLD_SYMBOL; rooms[2]], vec![OLD_BYTE; rooms[4]]);
     let tables = Lent {
         functions: &mut functions,
         strings: &mut strings,
         symbols: &mut symbols,
         paths: &mut paths,
+        families: &mut families,
     };
     let (answer, cursor) = decode_functions(&case.file, case.cursor, case.revision, tables);
     Called {
@@ -90,6 +105,7 @@ fn call(case: &FileCase, rooms: Rooms) -> Called {
         strings,
         symbols,
         paths,
+        families,
     }
 }
 
@@ -116,6 +132,7 @@ fn answered(file: &File, rooms: Rooms) -> Called {
         strings: lent(block.map_or(&[], |b| &b.string_starts), rooms[1]),
         symbols: listed(block.map_or(&[], |b| &b.symbols), rooms[2]),
         paths: lent(block.map_or(&[], |b| &b.path_starts), rooms[3]),
+        families: lent(block.map_or(&[], |b| &b.families), rooms[4]),
     }
 }
 
@@ -128,6 +145,7 @@ fn refused(case: &FileCase, refusal: Refusal, rooms: Rooms) -> Called {
         strings: lent(&[], rooms[1]),
         symbols: listed(&[], rooms[2]),
         paths: lent(&[], rooms[3]),
+        families: lent(&[], rooms[4]),
     }
 }
 
@@ -154,18 +172,14 @@ fn heads(tally: &mut Tally, case: &FileCase, file: &File) {
 /// 61, which the Rust does not have: one table too short for the first function, for one between or for the last.
 fn short_tables(tally: &mut Tally, case: &FileCase, file: &File) {
     let count = file.functions.len();
-    let counts = |f: &Function| {
-        let layout = f.block.layout;
-        [layout.strings, layout.symbols, layout.paths]
-    };
     let mut places = vec![0, count / 2, count.saturating_sub(1)];
     places.dedup();
     for place in places.into_iter().filter(|place| *place < count) {
-        for table in 0..4 {
-            let mut rooms = [count, MOST[0], MOST[1], MOST[2]];
+        for table in 0..5 {
+            let mut rooms = longest(count);
             rooms[table] = match table {
                 0 => place,
-                _ => match counts(&file.functions[place])[table - 1] {
+                _ => match counts(&file.functions[place].block.layout)[table - 1] {
                     0 => continue,
                     needed => needed - 1,
                 },
@@ -189,19 +203,13 @@ fn short_tables(tally: &mut Tally, case: &FileCase, file: &File) {
 /// The first function that a table is too short for, and the refusal: for its own entry at its start, then for its block after the count.
 fn short(file: &File, rooms: Rooms) -> Option<(usize, Refusal)> {
     let at = |(number, function): (usize, &Function)| {
-        let (layout, code) = (function.block.layout, function.head.code);
         if number >= rooms[0] {
-            Some(function.start)
-        } else if layout.strings > rooms[1] {
-            Some(code + 2)
-        } else if layout.symbols > rooms[2] {
-            Some(code + layout.symbols_start)
-        } else if layout.paths > rooms[3] {
-            Some(code + paths_start(&layout))
-        } else {
-            None
+            return Some((number, added(function.start)));
         }
-        .map(|offset| (number, added(offset)))
+        let layout = &function.block.layout;
+        let table = (0..4).find(|&table| counts(layout)[table] > rooms[1 + table])?;
+        let offset = function.head.code + block_places(layout)[table];
+        Some((number, added(offset)))
     };
     file.functions.iter().enumerate().find_map(at)
 }
@@ -224,7 +232,7 @@ fn up_to(tally: &mut Tally, case: &FileCase, offset: usize) {
         offset,
     };
     for entries in [0, 1, 512, FUNCTIONS - 1, FUNCTIONS, FUNCTIONS + 1, 2000] {
-        let rooms = [entries, MOST[0], MOST[1], 10];
+        let rooms = [entries, MOST[0], MOST[1], 10, MOST[3]];
         let refusal = match before.functions.get(entries) {
             Some(function) => added(function.start),
             None => limit,

@@ -1,6 +1,6 @@
 //! Functions by number: those of the Rust's vector, 62 past its end, and the file's own refusal where it has one.
 
-use crate::block_compare::{OLD, lent};
+use crate::block_compare::{OLD, OLD_BYTE, lent};
 use crate::block_numbers::{NOT_THERE, past};
 use crate::function_binding;
 use crate::function_compare::{Rooms, what};
@@ -28,13 +28,15 @@ pub fn compare(tally: &mut Tally, case: &FileCase, rust: &Answer<File>, rooms: R
     }
 }
 
-/// What the reader answers, and the three tables after it: as after the decoder, or zeros where it refuses.
+/// What the reader answers, and the four tables after it: as after the decoder, or zeros where it refuses.
 fn one(tally: &mut Tally, case: &FileCase, rust: &Answer<File>, rooms: Rooms, number: usize) {
     let [mut functions, mut strings, mut paths] =
         [rooms[0], rooms[1], rooms[3]].map(|room| vec![OLD; room]);
+    let mut families = vec![OLD_BYTE; rooms[4]];
     let tables = BlockTables {
         strings: &mut strings,
         paths: &mut paths,
+        families: &mut families,
     };
     let port = function_number(
         &case.file,
@@ -61,6 +63,7 @@ fn one(tally: &mut Tally, case: &FileCase, rust: &Answer<File>, rooms: Rooms, nu
         lent(&starts, rooms[0]),
         lent(block.map_or(&[], |b| &b.string_starts), rooms[1]),
         lent(block.map_or(&[], |b| &b.path_starts), rooms[3]),
+        lent(block.map_or(&[], |b| &b.families), rooms[4]),
     );
     let refused = expected
         .0
@@ -68,7 +71,9 @@ fn one(tally: &mut Tally, case: &FileCase, rust: &Answer<File>, rooms: Rooms, nu
         .err()
         .map_or(0, |refusal| refusal.number);
     tally.input((refused, READER));
-    tally.same(&expected, &(port, functions, strings, paths), || {
-        format!("{READER} {number}, {}", what(case))
-    });
+    tally.same(
+        &expected,
+        &(port, functions, strings, paths, families),
+        || format!("{READER} {number}, {}", what(case)),
+    );
 }

@@ -11,9 +11,9 @@ pub type Outcome = (u8, &'static str);
 /// How many inputs of each condition a whole run has at least.
 pub const LEAST: u64 = 1000;
 
-/// Whether the Rust has a number: all of document 01's but 61 and 62, and Slip 1's.
+/// Whether the Rust has a number: all of document 01's but 61 and 62, and those of Slips 1 and 9.
 fn has_rust_side(number: u8) -> bool {
-    matches!(number, 0..=60 | 63..=65)
+    matches!(number, 0..=60 | 63..=65 | 71..=73)
 }
 
 pub struct Tally {

@@ -41,6 +41,8 @@ pub struct Block {
     pub strings: Vec<Text>,
     pub debug: Option<Table<Symbol>>,
     pub ownership: Option<Table<Path>>,
+    /// The families of the parameters.
+    pub signature: Option<Table<u8>>,
     /// The instructions, and how many bytes are left out at the block's end.
     pub more: Vec<u8>,
     pub cut: usize,
@@ -48,6 +50,9 @@ pub struct Block {
 
 /// Both sides of each border that the revision has.
 pub const REVISIONS: [u16; 7] = [0, 19, 20, 21, 22, 23, 65_535];
+
+/// The first revision with signatures.
+const SIGNED: u16 = 20;
 
 impl Block {
     pub fn bytes(&self) -> Vec<u8> {
@@ -71,6 +76,11 @@ impl Block {
             for path in &table.items {
                 path.write(&mut out);
             }
+        }
+        if let Some(table) = &self.signature {
+            out.extend(table.tag);
+            count(&mut out, table.count, table.items.len());
+            out.extend(&table.items);
         }
         out.extend(&self.more);
         out.truncate(out.len().saturating_sub(self.cut));
@@ -105,7 +115,7 @@ pub fn small_at(r: &mut Random, revision: u16) -> Block {
     let strings = (0..r.below(5)).map(|_| string(r)).collect();
     let debug =
         (!r.one_in(3)).then(|| table(*b"DBG0", (0..r.below(4)).map(|_| symbol(r)).collect()));
-    let ownership = (!r.one_in(5)).then(|| {
+    let ownership = (revision >= SIGNED || !r.one_in(5)).then(|| {
         table(
             *b"OWN0",
             (0..r.below(6)).map(|_| path(r, revision)).collect(),
@@ -118,9 +128,21 @@ pub fn small_at(r: &mut Random, revision: u16) -> Block {
         strings,
         debug,
         ownership,
+        signature: signature(r, revision),
         more,
         cut: 0,
     }
+}
+
+/// The signature that a revision asks for; most have a few parameters.
+fn signature(r: &mut Random, revision: u16) -> Option<Table<u8>> {
+    let parameters = if r.one_in(400) {
+        r.within(4094, 4096)
+    } else {
+        r.below(5)
+    };
+    let families = (0..parameters).map(|_| r.within(1, 15) as u8).collect();
+    (revision >= SIGNED).then(|| table(*b"SIG0", families))
 }
 
 /// A block with each form that a revision has: both events with each mode, each component, strings that are empty and that are not.
@@ -154,6 +176,7 @@ pub fn each_form(r: &mut Random, revision: u16) -> Block {
         strings: vec![Text::new(b""), Text::new("k\u{85}\u{e9}".as_bytes())],
         debug: Some(table(*b"DBG0", vec![symbol(r), symbol(r)])),
         ownership: Some(table(*b"OWN0", paths)),
+        signature: (revision >= SIGNED).then(|| table(*b"SIG0", vec![1, 15])),
         more: vec![0x44],
         cut: 0,
     }
@@ -176,6 +199,7 @@ pub fn large(r: &mut Random, revision: u16, counts: [usize; 3], components: usiz
         strings: (0..counts[0]).map(|_| string(r)).collect(),
         debug: Some(table(*b"DBG0", (0..counts[1]).map(|_| symbol(r)).collect())),
         ownership: Some(table(*b"OWN0", paths)),
+        signature: (revision >= SIGNED).then(|| table(*b"SIG0", vec![7, 8, 9])),
         more: Vec::new(),
         cut: 0,
     }

@@ -6,7 +6,7 @@ use crate::text::{ILL_FORMED, put};
 
 pub type Fault = fn(&mut Block, &mut Random);
 
-pub const FAULTS: [Fault; 17] = [
+pub const FAULTS: [Fault; 22] = [
     cut,
     cut_late,
     cut_late,
@@ -24,6 +24,11 @@ pub const FAULTS: [Fault; 17] = [
     component_kind,
     component_of_other_revision,
     revision,
+    ownership_left_out,
+    signature_left_out,
+    signature_tag,
+    parameter_count,
+    family,
 ];
 
 /// A block with one fault, often with a second one.
@@ -169,6 +174,49 @@ fn component_of_other_revision(b: &mut Block, r: &mut Random) {
             path.event = 2;
             path.mode.clear();
         }
+    }
+}
+
+fn ownership_left_out(b: &mut Block, _: &mut Random) {
+    b.ownership = None;
+}
+
+fn signature_left_out(b: &mut Block, _: &mut Random) {
+    b.signature = None;
+}
+
+/// A tag that is changed, or one that no revision asks for.
+fn signature_tag(b: &mut Block, r: &mut Random) {
+    match &mut b.signature {
+        Some(table) => table.tag[r.below(4)] ^= 1 << r.below(8),
+        None => {
+            b.signature = Some(Table {
+                tag: *b"SIG0",
+                count: None,
+                items: vec![1],
+            })
+        }
+    }
+}
+
+fn parameter_count(b: &mut Block, r: &mut Random) {
+    if let Some(table) = &mut b.signature {
+        match r.below(4) {
+            0 => table.count = Some(r.pick(&[4095, 4096, 4097, 65_535])),
+            1 => table.items.resize(r.within(4095, 4097), 5),
+            2 => {
+                b.more.clear();
+                b.cut = r.within(1, table.items.len() + 6);
+            }
+            _ => table.count = other(r, table.items.len()),
+        }
+    }
+}
+
+fn family(b: &mut Block, r: &mut Random) {
+    if let Some(table) = &mut b.signature {
+        let at = r.below(table.items.len() + 1);
+        table.items.insert(at, r.pick(&[0, 1, 15, 16, 255]));
     }
 }
 

@@ -6,7 +6,7 @@ use answers::refusal::Refusal;
 const LATER: &str = "in a function after the first";
 
 /// The lent tables in the order of 61's conditions, each with the first function, one between and the last too many for it.
-pub const SHORT: [[&str; 3]; 4] = [
+pub const SHORT: [[&str; 3]; 5] = [
     [
         "functions, the first, no Rust side",
         "functions, one between, no Rust side",
@@ -27,10 +27,15 @@ pub const SHORT: [[&str; 3]; 4] = [
         "paths of one between, no Rust side",
         "paths of the last, no Rust side",
     ],
+    [
+        "families of the first, no Rust side",
+        "families of one between, no Rust side",
+        "families of the last, no Rust side",
+    ],
 ];
 
 /// Every condition that has to be met often: those of a head, each refusal of a later block, and 61.
-pub const REACHABLE: [(u8, &str); 51] = [
+pub const REACHABLE: [(u8, &str); 57] = [
     (30, LATER),
     (31, LATER),
     (32, LATER),
@@ -74,6 +79,9 @@ pub const REACHABLE: [(u8, &str); 51] = [
     (61, SHORT[3][0]),
     (61, SHORT[3][1]),
     (61, SHORT[3][2]),
+    (61, SHORT[4][0]),
+    (61, SHORT[4][1]),
+    (61, SHORT[4][2]),
     (63, "name length cut"),
     (63, "code length cut"),
     (63, "block past the end"),
@@ -82,6 +90,9 @@ pub const REACHABLE: [(u8, &str); 51] = [
     (64, "name cut"),
     (64, "name not UTF-8"),
     (65, ""),
+    (71, LATER),
+    (72, LATER),
+    (73, LATER),
 ];
 
 /// The condition behind a refusal; none where its offset is not one of the format's.
@@ -108,7 +119,7 @@ fn walked(file: &[u8], cursor: usize, refusal: &Refusal) -> Option<&'static str>
         if refusal.number == 63 && offset == name + 4 {
             return Some("block past the end");
         }
-        if refusal.number <= 60 && offset <= end {
+        if !matches!(refusal.number, 63 | 64) && offset <= end {
             return (count > 0).then_some(LATER);
         }
         (at, count) = (end, count + 1);

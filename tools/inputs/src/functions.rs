@@ -97,24 +97,21 @@ pub fn many(r: &mut Random, count: usize) -> File {
     file
 }
 
-/// A function whose block has no tables, or a string.
+/// A function whose block has no records, or a string.
 fn tiny(r: &mut Random, revision: u16) -> Function {
     let strings = if r.one_in(8) {
         vec![Text::new(b"s")]
     } else {
         Vec::new()
     };
+    let mut block = block::large(r, revision, [0, 0, 0], 0);
+    block.strings = strings;
+    if block.signature.is_none() {
+        (block.debug, block.ownership) = (None, None);
+    }
     Function {
         name: Text::new(&[b'a' + r.below(26) as u8]),
         size: None,
-        block: Block {
-            revision,
-            count: None,
-            strings,
-            debug: None,
-            ownership: None,
-            more: Vec::new(),
-            cut: 0,
-        },
+        block,
     }
 }

@@ -7,10 +7,11 @@ pub struct Block {
     pub has_debug_section: bool,
     pub has_ownership_section: bool,
     pub string_table_end_offset: usize,
+    pub signature: Option<CallableSignature>,
     pub instr_start_offset: usize,
 }
 
-/// `parse_string_table_debug_and_ownership`, stopped before its signature step.
+/// `parse_string_table_debug_and_ownership`.
 pub fn block(base_offset: usize, code: &[u8], header_rev: u16) -> Result<Block, DecodeError> {
     let parsed = parse_string_table_debug_and_ownership(base_offset, code, header_rev)?;
     Ok(Block {
@@ -21,6 +22,7 @@ pub fn block(base_offset: usize, code: &[u8], header_rev: u16) -> Result<Block, 
         has_debug_section: parsed.has_debug_section,
         has_ownership_section: parsed.has_ownership_section,
         string_table_end_offset: parsed.string_table_end_offset,
+        signature: parsed.signature,
         instr_start_offset: parsed.instr_start_offset,
     })
 }
@@ -35,6 +37,7 @@ pub fn block_of(function: DecodedFunctionEnvelope) -> Block {
         has_debug_section: function.has_debug_section,
         has_ownership_section: function.has_ownership_section,
         string_table_end_offset: function.string_table_end_offset,
+        signature: function.signature,
         instr_start_offset: function.instr_start_offset,
     }
 }

@@ -25,12 +25,20 @@ pub(crate) fn answer(code: &[u8], parsed: semcode_decode::Block) -> Block {
         } else {
             0
         };
-    let (path_starts, paths) = in_order(
+    let (path_starts, paths, paths_end) = in_order(
         code,
         paths_start,
         &parsed.borrowed_paths,
         &parsed.write_paths,
     );
+    let has_signature = parsed.signature.is_some();
+    let families_start = paths_end + if has_signature { 4 + 2 } else { 0 };
+    let families: Vec<u8> = parsed
+        .signature
+        .into_iter()
+        .flat_map(|signature| signature.families)
+        .map(|family| family.byte())
+        .collect();
     let symbols: Vec<Symbol> = parsed.debug_symbols.iter().map(symbol).collect();
     Block {
         layout: Layout {
@@ -41,6 +49,9 @@ pub(crate) fn answer(code: &[u8], parsed: semcode_decode::Block) -> Block {
             symbols_start,
             has_ownership: parsed.has_ownership_section,
             paths: paths.len(),
+            has_signature,
+            families: families.len(),
+            families_start,
             instructions: parsed.instr_start_offset,
         },
         string_starts,
@@ -48,6 +59,7 @@ pub(crate) fn answer(code: &[u8], parsed: semcode_decode::Block) -> Block {
         symbols,
         path_starts,
         paths,
+        families,
     }
 }
 
@@ -59,13 +71,13 @@ fn symbol(s: &DecodedDebugSymbol) -> Symbol {
     }
 }
 
-/// The Rust's two lists as one: each path's event kind byte says which of the two has it.
+/// The Rust's two lists as one, and the place after them: each path's event kind byte says which of the two has it.
 fn in_order(
     code: &[u8],
     first: usize,
     borrows: &[DecodedAccessPath],
     writes: &[DecodedAccessPath],
-) -> (Vec<u64>, Vec<Path>) {
+) -> (Vec<u64>, Vec<Path>, usize) {
     let (mut starts, mut paths) = (Vec::new(), Vec::new());
     let (mut borrows, mut writes, mut at) = (borrows.iter(), writes.iter(), first);
     while !borrows.as_slice().is_empty() || !writes.as_slice().is_empty() {
@@ -80,7 +92,7 @@ fn in_order(
         });
         at += size(path);
     }
-    (starts, paths)
+    (starts, paths, at)
 }
 
 fn event(write: bool, path: &DecodedAccessPath) -> Event {

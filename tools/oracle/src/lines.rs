@@ -55,8 +55,8 @@ fn block_fields(b: &Block) -> String {
     let strings = b.strings.iter().zip(&b.string_starts);
     let paths = b.paths.iter().zip(&b.path_starts);
     format!(
-        "counts={},{},{} debug={} ownership={} strings_end={} symbols_start={} instructions={} \
-         strings={} symbols={} paths={}",
+        "counts={},{},{} debug={} ownership={} strings_end={} symbols_start={} signature={} \
+         families_start={} instructions={} strings={} symbols={} paths={} families={}",
         b.layout.strings,
         b.layout.symbols,
         b.layout.paths,
@@ -64,6 +64,8 @@ fn block_fields(b: &Block) -> String {
         b.layout.has_ownership,
         b.layout.strings_end,
         b.layout.symbols_start,
+        b.layout.has_signature,
+        b.layout.families_start,
         b.layout.instructions,
         list(strings.map(|(text, start)| format!("{start}:{}", hex(text.as_bytes())))),
         list(
@@ -72,6 +74,7 @@ fn block_fields(b: &Block) -> String {
                 .map(|s| format!("{}:{}:{}", s.pc, s.line, s.column))
         ),
         list(paths.map(|(path, start)| format!("{start}:{}", path_item(path)))),
+        list(&b.families),
     )
 }
 

@@ -62,7 +62,7 @@ const SECTION: &[Message] = &[
     ("EVR0 witness polarity contradicts rule", 29),
 ];
 
-/// Those of `parse_string_table_debug_and_ownership` before its signature step, in its order.
+/// Those of `parse_string_table_debug_and_ownership`, in its order.
 const BLOCK: &[Message] = &[
     ("missing string table header", 30),
     ("too many strings in function: ", 31),
@@ -104,6 +104,15 @@ const BLOCK: &[Message] = &[
     ("missing ownership sequence index", 58),
     ("unsupported ownership path component kind", 59),
     ("unsupported ownership event kind", 60),
+    (
+        "header requires per-function ownership-path metadata but no OWN0 section is present",
+        71,
+    ),
+    ("missing SIG0 section tag", 71),
+    ("missing parameter count", 72),
+    ("too many callable-signature parameters: ", 73),
+    ("missing parameter family tag", 72),
+    ("unknown parameter family tag", 72),
 ];
 
 /// Those of the loop over functions, in its order.
@@ -151,6 +160,7 @@ pub fn of_block(error: DecodeError) -> Refusal {
         DecodeError::InvalidStringTable { offset, msg } => (Kind::Strings, *offset, *msg),
         DecodeError::InvalidDebugSection { offset, msg } => (Kind::Debug, *offset, *msg),
         DecodeError::InvalidOwnershipSection { offset, msg } => (Kind::Ownership, *offset, *msg),
+        DecodeError::InvalidSignatureSection { offset, msg } => (Kind::Signature, *offset, *msg),
         DecodeError::ResourceLimit { offset, msg } => (Kind::Limit, *offset, msg.as_str()),
         DecodeError::TruncatedFunction { offset, msg } => (Kind::Truncated, *offset, *msg),
         DecodeError::InvalidFunctionName { offset, msg } => (Kind::Name, *offset, *msg),

@@ -8,17 +8,15 @@ use falgnust::raw;
 
 pub use falgnust::raw::DebugSymbol;
 
-/// The symbols go to the lent list, the starts to the lent tables.
+/// The symbols go to the lent list, starts and families to the lent tables.
 #[inline]
 pub fn parse_string_table_debug_and_ownership(
     base_offset: usize,
     code: &[u8],
     header_rev: u16,
     symbols: &mut [DebugSymbol],
-    strings: &mut [u64],
-    paths: &mut [u64],
+    lent: BlockTables,
 ) -> Answer<Layout> {
-    let lent = BlockTables { strings, paths };
     let b =
         calls::parse_string_table_debug_and_ownership(base_offset, code, header_rev, symbols, lent);
     if !b.accepted {
@@ -36,6 +34,9 @@ pub(crate) fn layout(b: raw::Block) -> Layout {
         symbols_start: b.debug_symbols_start,
         has_ownership: b.has_ownership_section,
         paths: b.path_count,
+        has_signature: b.has_signature,
+        families: b.parameter_count,
+        families_start: b.families_start,
         instructions: b.instr_start_offset,
     }
 }

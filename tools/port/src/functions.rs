@@ -22,6 +22,7 @@ pub struct Lent<'a> {
     pub strings: &'a mut [u64],
     pub symbols: &'a mut [DebugSymbol],
     pub paths: &'a mut [u64],
+    pub families: &'a mut [u8],
 }
 
 /// The answer, and the cursor after the call.
@@ -35,6 +36,7 @@ pub fn decode_functions(
     let tables = BlockTables {
         strings: lent.strings,
         paths: lent.paths,
+        families: lent.families,
     };
     let f = calls::decode_functions(
         bytes,

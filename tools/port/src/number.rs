@@ -14,6 +14,7 @@ pub struct Lent<'a> {
     pub header_rev: u16,
     pub strings: &'a mut [u64],
     pub paths: &'a mut [u64],
+    pub families: &'a mut [u8],
 }
 
 impl Lent<'_> {
@@ -26,6 +27,7 @@ impl Lent<'_> {
         let tables = BlockTables {
             strings: self.strings,
             paths: self.paths,
+            families: self.families,
         };
         read(self.base_offset, self.code, self.header_rev, number, tables)
     }
@@ -47,6 +49,7 @@ impl Lent<'_> {
         let tables = BlockTables {
             strings: self.strings,
             paths: self.paths,
+            families: self.families,
         };
         block::component(calls::component_number(
             self.base_offset,

@@ -27,6 +27,8 @@ pub fn decode_functions(
             lent.strings.len(),
             lent.paths.as_mut_ptr(),
             lent.paths.len(),
+            lent.families.as_mut_ptr(),
+            lent.families.len(),
         )
     }
 }
@@ -60,6 +62,8 @@ pub fn function_number(
             lent.strings.len(),
             lent.paths.as_mut_ptr(),
             lent.paths.len(),
+            lent.families.as_mut_ptr(),
+            lent.families.len(),
         )
     }
 }

@@ -14,6 +14,8 @@ pub struct Block {
     pub has_debug_section: bool,
     /// Whether OWN0 follows that.
     pub has_ownership_section: bool,
+    /// Whether a signature follows that: from revision 20 on.
+    pub has_signature: bool,
     /// How many strings there are.
     pub string_count: usize,
     /// The place after the strings.
@@ -24,6 +26,10 @@ pub struct Block {
     pub debug_symbols_start: usize,
     /// How many paths there are.
     pub path_count: usize,
+    /// How many parameters the signature has.
+    pub parameter_count: usize,
+    /// Where the first one's family stands, or would.
+    pub families_start: usize,
     /// Where the instructions start.
     pub instr_start_offset: usize,
 }
@@ -115,7 +121,7 @@ pub struct Component {
     pub next: usize,
 }
 
-/// A function that asks for one record of a block by its number. It decodes the block anew, fills the two tables as
+/// A function that asks for one record of a block by its number. It decodes the block anew, fills the three tables as
 /// [`falgnust_parse_string_table_debug_and_ownership`] does, and refuses with 62 a number that the block does not have.
 pub type OfBlock<T> = unsafe extern "C" fn(
     base_offset: usize,
@@ -127,11 +133,13 @@ pub type OfBlock<T> = unsafe extern "C" fn(
     strings_len: usize,
     paths: *mut u64,
     paths_len: usize,
+    families: *mut u8,
+    families_len: usize,
 ) -> T;
 
 unsafe extern "C" {
     /// A block: counts, tags found and places. Each debug symbol goes to the list, the start of each string and of each path to the two
-    /// tables.
+    /// tables, and the families to the table of bytes.
     pub fn falgnust_parse_string_table_debug_and_ownership(
         base_offset: usize,
         code: *const u8,
@@ -143,6 +151,8 @@ unsafe extern "C" {
         strings_len: usize,
         paths: *mut u64,
         paths_len: usize,
+        families: *mut u8,
+        families_len: usize,
     ) -> Block;
 
     /// The debug symbol at a place of a block.
@@ -171,6 +181,8 @@ unsafe extern "C" {
         strings_len: usize,
         paths: *mut u64,
         paths_len: usize,
+        families: *mut u8,
+        families_len: usize,
     ) -> Component;
 }
 
@@ -190,6 +202,8 @@ macro_rules! of_block {
                     strings_len: usize,
                     paths: *mut u64,
                     paths_len: usize,
+                    families: *mut u8,
+                    families_len: usize,
                 ) -> $answer;
             )*
         }

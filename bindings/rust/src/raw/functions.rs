@@ -39,7 +39,7 @@ pub struct Function {
 }
 
 unsafe extern "C" {
-    /// All functions from a cursor to the end. The start of each goes to `functions`; the list and the other two tables end as the last
+    /// All functions from a cursor to the end. The start of each goes to `functions`; the list and the other three tables end as the last
     /// function's block leaves them.
     pub fn falgnust_decode_functions(
         bytes: *const u8,
@@ -54,6 +54,8 @@ unsafe extern "C" {
         strings_len: usize,
         paths: *mut u64,
         paths_len: usize,
+        families: *mut u8,
+        families_len: usize,
     ) -> Functions;
 
     /// The head of the function at a place of a file, as its start in the table is. Its block is not decoded.
@@ -72,5 +74,7 @@ unsafe extern "C" {
         strings_len: usize,
         paths: *mut u64,
         paths_len: usize,
+        families: *mut u8,
+        families_len: usize,
     ) -> Function;
 }

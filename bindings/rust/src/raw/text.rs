@@ -1,13 +1,13 @@
 //! Fields, fixed byte strings and texts: crates/falgnust/src/{refusal,field,tag,utf8,text}.rt
 
-/// A refusal: its kind (0 Invalid, 1 Limit, 2 Strings, 3 Debug, 4 Ownership, 5 Added, as document 01 has them; 6 Truncated, 7 Name), its
+/// A refusal: its kind (0 Invalid, 1 Limit, 2 Strings, 3 Debug, 4 Ownership, 5 Added, as document 01 has them; 6 Truncated, 7 Name, 8 Signature), its
 /// number (0 where nothing is refused) and its offset.
 #[repr(C)]
 #[derive(Debug, Default, Clone, Copy, PartialEq, Eq)]
 pub struct Refusal {
-    /// 0 to 7.
+    /// 0 to 8.
     pub kind: u8,
-    /// 1 to 65; 0 for none.
+    /// 1 to 73; 0 for none.
     pub number: u8,
     /// Where: a place in the file, or base plus place in the block.
     pub offset: usize,

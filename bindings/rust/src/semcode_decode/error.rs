@@ -1,12 +1,16 @@
 //! The original's errors.
 
-use super::{Block, MAX_DEBUG_SYMBOLS_PER_FUNCTION, MAX_STRINGS_PER_FUNCTION};
+use super::{
+    Block, MAX_DEBUG_SYMBOLS_PER_FUNCTION, MAX_SIGNATURE_PARAMETERS_PER_FUNCTION,
+    MAX_STRINGS_PER_FUNCTION,
+};
+use crate::calls;
 use crate::messages;
 use crate::raw::Refusal;
 use std::fmt;
 
 /// A refusal. The variants are all of the original's; a block is refused with `InvalidStringTable`, `InvalidDebugSection`,
-/// `InvalidOwnershipSection` and `ResourceLimit`, a file of functions with `TruncatedFunction` and `InvalidFunctionName` too.
+/// `InvalidOwnershipSection`, `InvalidSignatureSection` and `ResourceLimit`, a file of functions with `TruncatedFunction` and `InvalidFunctionName` too.
 #[derive(Debug, Clone, PartialEq, Eq)]
 #[allow(missing_docs)]
 pub enum DecodeError {
@@ -71,23 +75,49 @@ impl Block<'_> {
             number,
             offset,
         } = refusal;
-        let msg = messages::message(number);
+        let msg = match (kind, number) {
+            (4, 71) => messages::OWNERSHIP_ABSENT,
+            (8, 71) => messages::SIGNATURE_ABSENT,
+            (8, 72) => self.signature_cut(),
+            _ => messages::message(number),
+        };
         match (kind, number) {
             (1, 31) => self.limit(offset, msg, MAX_STRINGS_PER_FUNCTION),
             (1, 36) => self.limit(offset, msg, MAX_DEBUG_SYMBOLS_PER_FUNCTION),
+            (1, 73) => self.limit(offset, msg, MAX_SIGNATURE_PARAMETERS_PER_FUNCTION),
             (2, _) => DecodeError::InvalidStringTable { offset, msg },
             (3, _) => DecodeError::InvalidDebugSection { offset, msg },
             (4, _) => DecodeError::InvalidOwnershipSection { offset, msg },
+            (8, _) => DecodeError::InvalidSignatureSection { offset, msg },
             _ => panic!("a block has no refusal {number} of kind {kind} here"),
         }
     }
 
-    /// The count that was refused ends where the refusal stands. At base 0 this is its place in the block, at others it may be held at
-    /// 2^64 - 1.
-    fn limit(&self, offset: usize, msg: &str, max: usize) -> DecodeError {
+    /// Where in the block it is refused: the offset at base 0, since at others it may be held at 2^64 - 1.
+    fn refused_at(&self) -> usize {
         let here = Block::new(0, self.code, self.header_rev);
-        let refused = here.lend(|lent| here.decode(lent));
-        let count = refused.map_or_else(|refusal| here.count_before(refusal), |_| 0);
+        match here.lend(|lent| here.decode(lent)) {
+            Err(refusal) => refusal.offset,
+            Ok(_) => panic!("a block is refused at every base or at none"),
+        }
+    }
+
+    /// Which of the three causes of 72: the tag ends where the count is cut, and nowhere before a family, since its letters are no
+    /// families and as a count they are too many.
+    fn signature_cut(&self) -> &'static str {
+        let at = self.refused_at();
+        if at >= 4 && calls::tag_at(self.code, at - 4, b"SIG0") {
+            return messages::PARAMETER_COUNT_CUT;
+        }
+        match calls::read_u8(self.code, at).whole {
+            false => messages::FAMILY_CUT,
+            true => messages::FAMILY_UNKNOWN,
+        }
+    }
+
+    /// The count that was refused ends where the refusal stands.
+    fn limit(&self, offset: usize, msg: &str, max: usize) -> DecodeError {
+        let count = calls::read_u16_le(self.code, self.refused_at() - 2).value;
         DecodeError::ResourceLimit {
             offset,
             msg: format!("{msg}{count} (max {max})"),

@@ -1,9 +1,9 @@
 //! All functions of a file.
 
 use super::{
-    Block, DecodeError, DecodedAccessPath, DecodedDebugSymbol, MAX_DEBUG_SYMBOLS_PER_FUNCTION,
-    MAX_FUNCTIONS, MAX_STRING_LEN, MAX_STRINGS_PER_FUNCTION,
-    parse_string_table_debug_and_ownership,
+    Block, CallableSignature, DecodeError, DecodedAccessPath, DecodedDebugSymbol,
+    MAX_DEBUG_SYMBOLS_PER_FUNCTION, MAX_FUNCTIONS, MAX_SIGNATURE_PARAMETERS_PER_FUNCTION,
+    MAX_STRING_LEN, MAX_STRINGS_PER_FUNCTION, parse_string_table_debug_and_ownership,
 };
 use crate::calls::{self, BlockTables};
 use crate::messages;
@@ -35,7 +35,9 @@ pub struct DecodedFunctionEnvelope<'a> {
     pub has_debug_section: bool,
     /// The place in the block after the strings.
     pub string_table_end_offset: usize,
-    /// The place in the block after OWN0's paths, or where they would be.
+    /// The signature, from revision 20 on.
+    pub signature: Option<CallableSignature>,
+    /// The place in the block after all of these.
     pub instr_start_offset: usize,
     /// The block.
     pub code_slice: &'a [u8],
@@ -78,6 +80,7 @@ pub fn decode_functions(
             BlockTables {
                 strings: &mut tables.strings,
                 paths: &mut tables.paths,
+                families: &mut tables.families,
             },
         );
         (answer, answer.refusal)
@@ -110,6 +113,7 @@ pub fn function_number(
         let lent = BlockTables {
             strings: &mut tables.strings,
             paths: &mut tables.paths,
+            families: &mut tables.families,
         };
         let functions = &mut tables.functions;
         let head = calls::function_number(bytes, cursor, header_rev, number, functions, lent);
@@ -128,17 +132,19 @@ struct Tables {
     strings: Vec<u64>,
     symbols: Vec<raw::DebugSymbol>,
     paths: Vec<u64>,
+    families: Vec<u8>,
 }
 
 impl Tables {
     /// Room for the functions of so many bytes, and for a block of so many. An accepted function takes 9 bytes at least, and one that is
-    /// refused has an entry before it is read; a string takes 2, a symbol 10, a path 7.
+    /// refused has an entry before it is read; a string takes 2, a symbol 10, a path 7, a family 1.
     fn of(length: usize, block: usize) -> Self {
         Tables {
             functions: vec![0; MAX_FUNCTIONS.min(length / 9 + 1)],
             strings: vec![0; MAX_STRINGS_PER_FUNCTION.min(block / 2)],
             symbols: vec![Default::default(); MAX_DEBUG_SYMBOLS_PER_FUNCTION.min(block / 10)],
             paths: vec![0; (u16::MAX as usize).min(block / 7)],
+            families: vec![0; MAX_SIGNATURE_PARAMETERS_PER_FUNCTION.min(block)],
         }
     }
 }
@@ -191,6 +197,7 @@ impl<'a> File<'a> {
             has_ownership_section: parsed.has_ownership_section,
             has_debug_section: parsed.has_debug_section,
             string_table_end_offset: parsed.string_table_end_offset,
+            signature: parsed.signature,
             instr_start_offset: parsed.instr_start_offset,
             code_slice,
         })
@@ -211,7 +218,7 @@ impl<'a> File<'a> {
         loop {
             let head = calls::read_function(self.bytes, at);
             match head.refusal.number {
-                0 if refusal.number <= 60 && offset <= head.next => {
+                0 if !matches!(refusal.number, 63 | 64) && offset <= head.next => {
                     let block = Block::new(head.code_offset, self.code(head), self.header_rev);
                     return block.error(refusal);
                 }

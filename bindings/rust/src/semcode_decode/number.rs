@@ -50,7 +50,7 @@ pub fn symbol_number(
 /// ```
 /// use falgnust::semcode_decode::{DecodedEvent, path_number};
 ///
-/// let block = b"\x00\x00OWN0\x01\x00\x00\x00\x09\x00\x00\x00\x00\x00";
+/// let block = b"\x00\x00OWN0\x01\x00\x00\x00\x09\x00\x00\x00\x00\x00SIG0\x00\x00";
 /// let Ok(Some(DecodedEvent::Borrow(path))) = path_number(0, block, 21, 0) else {
 ///     panic!("a borrow");
 /// };

@@ -4,6 +4,7 @@
 //! only where each string is (`stringAt` in crates/local_format/specs/Text.antt, refusal 34), and the words of a string that was read are
 //! its place and length (`string-words` in crates/record_words/proofs/Read.antt).
 
+use super::signature::signature;
 use super::tables::Lent;
 use super::{
     Block, DecodedAccessPath, DecodedAccessPathComponent, DecodedBorrowActivation,
@@ -47,6 +48,7 @@ impl Block<'_> {
             has_ownership_section: answer.has_ownership_section,
             has_debug_section: answer.has_debug_section,
             string_table_end_offset: answer.string_table_end_offset,
+            signature: signature(answer, lent.starts.families),
             instr_start_offset: answer.instr_start_offset,
         }
     }

@@ -1,6 +1,9 @@
 //! The tables that are lent.
 
-use super::{Block, MAX_DEBUG_SYMBOLS_PER_FUNCTION, MAX_STRINGS_PER_FUNCTION};
+use super::{
+    Block, MAX_DEBUG_SYMBOLS_PER_FUNCTION, MAX_SIGNATURE_PARAMETERS_PER_FUNCTION,
+    MAX_STRINGS_PER_FUNCTION,
+};
 use crate::calls::{self, BlockTables};
 use crate::raw::{DebugSymbol, Refusal};
 use crate::read::Read;
@@ -19,12 +22,13 @@ impl Lent<'_> {
             starts: BlockTables {
                 strings: self.starts.strings,
                 paths: self.starts.paths,
+                families: self.starts.families,
             },
         }
     }
 }
 
-/// How many strings, symbols and paths there is room for first.
+/// How many strings, symbols, paths and families there is room for first.
 const FEW: usize = 16;
 
 impl Block<'_> {
@@ -32,13 +36,14 @@ impl Block<'_> {
     /// again with room for that count. So no answer is 61.
     #[inline]
     pub fn lend<T>(&self, call: impl Fn(Lent) -> Read<T>) -> Read<T> {
-        let (mut symbols, mut strings, mut paths) =
-            ([DebugSymbol::default(); FEW], [0; FEW], [0; FEW]);
+        let (mut symbols, mut strings, mut paths, mut families) =
+            ([DebugSymbol::default(); FEW], [0; FEW], [0; FEW], [0; FEW]);
         let answer = call(Lent {
             symbols: &mut symbols,
             starts: BlockTables {
                 strings: &mut strings,
                 paths: &mut paths,
+                families: &mut families,
             },
         });
         match answer {
@@ -47,7 +52,7 @@ impl Block<'_> {
         }
     }
 
-    /// The count of the strings, which ends at place 2, or one of the others, which may be either; each refusal is of a later one.
+    /// The count of the strings, which ends at place 2, or one of the others, which may be any; each refusal is of a later one.
     fn lend_more<T>(&self, refused: Refusal, call: impl Fn(Lent) -> Read<T>) -> Read<T> {
         let (mut refused, mut strings, mut others) = (refused, FEW, FEW);
         loop {
@@ -65,6 +70,7 @@ impl Block<'_> {
                 starts: BlockTables {
                     strings: &mut vec![0; strings.min(MAX_STRINGS_PER_FUNCTION)],
                     paths: &mut vec![0; others],
+                    families: &mut vec![0; others.min(MAX_SIGNATURE_PARAMETERS_PER_FUNCTION)],
                 },
             });
             match answer {

@@ -1,7 +1,8 @@
-//! Specimens 9 to 12 of document 01.
+//! Specimens 9 to 12 of document 01, and signatures.
 
 use falgnust::semcode_decode::{
-    DecodeError, DecodedAccessPath, DecodedBorrowActivation, DecodedEvent, component_number,
+    CallableSignature, CallableValueFamily, DecodeError, DecodedAccessPath,
+    DecodedBorrowActivation, DecodedEvent, component_number,
     parse_string_table_debug_and_ownership, path_number, string_number, symbol_number,
 };
 
@@ -23,9 +24,15 @@ fn specimen_9() {
 
 #[test]
 fn specimen_10() {
-    let block = parse_string_table_debug_and_ownership(0, b"\x00\x00DBG", 22).unwrap();
+    let block = parse_string_table_debug_and_ownership(0, b"\x00\x00DBG", 19).unwrap();
     assert_eq!(block.instr_start_offset, 2);
     assert!(!block.has_debug_section && !block.has_ownership_section);
+    assert_eq!(block.signature, None);
+    for base in BASES {
+        let error = parse_string_table_debug_and_ownership(base, b"\x00\x00DBG", 20).unwrap_err();
+        assert_eq!((error.number(), error.offset()), (Some(71), Some(base + 2)));
+        assert!(matches!(error, DecodeError::InvalidOwnershipSection { .. }));
+    }
 }
 
 #[test]
@@ -40,7 +47,23 @@ fn specimen_11() {
 #[test]
 fn specimen_12() {
     let block = b"\x00\x00OWN0\x01\x00\x00\x00\x09\x00\x00\x00\x00\x00";
-    let at_21 = parse_string_table_debug_and_ownership(0, block, 21).unwrap();
+    for (revision, place) in [(21, 16), (20, 15)] {
+        let error = parse_string_table_debug_and_ownership(1000, block, revision).unwrap_err();
+        let expected = DecodeError::InvalidSignatureSection {
+            offset: 1000 + place,
+            msg: "missing SIG0 section tag",
+        };
+        assert_eq!(error, expected);
+        assert_eq!(error.number(), Some(71));
+    }
+
+    let at_19 = parse_string_table_debug_and_ownership(0, block, 19).unwrap();
+    assert_eq!(at_19.borrowed_paths[0].root_symbol_id, 2304);
+    assert_eq!(at_19.borrowed_paths[0].activation, None);
+    assert_eq!((at_19.signature, at_19.instr_start_offset), (None, 15));
+
+    let signed = [&block[..], b"SIG0\x00\x00"].concat();
+    let at_21 = parse_string_table_debug_and_ownership(0, &signed, 21).unwrap();
     let path = DecodedAccessPath {
         root_symbol_id: 9,
         components: vec![],
@@ -48,21 +71,70 @@ fn specimen_12() {
         write_execution: None,
     };
     assert_eq!(at_21.borrowed_paths, std::slice::from_ref(&path));
-    assert_eq!(at_21.instr_start_offset, 16);
+    let none = CallableSignature { families: vec![] };
     assert_eq!(
-        path_number(0, block, 21, 0),
+        (at_21.signature, at_21.instr_start_offset),
+        (Some(none), 22)
+    );
+    assert_eq!(
+        path_number(0, &signed, 21, 0),
         Ok(Some(DecodedEvent::Borrow(path)))
     );
+}
 
-    let at_20 = parse_string_table_debug_and_ownership(0, block, 20).unwrap();
-    assert_eq!(at_20.borrowed_paths[0].root_symbol_id, 2304);
-    assert_eq!(at_20.borrowed_paths[0].activation, None);
-    assert_eq!(at_20.instr_start_offset, 15);
+/// The block of no strings and no paths, with a signature of these families.
+fn signed(families: &[u8]) -> Vec<u8> {
+    let mut block = b"\x00\x00OWN0\x00\x00SIG0".to_vec();
+    block.extend((families.len() as u16).to_le_bytes());
+    block.extend(families);
+    block
+}
+
+#[test]
+fn every_family() {
+    let bytes: Vec<u8> = (1..=15).collect();
+    let block = parse_string_table_debug_and_ownership(0, &signed(&bytes), 20).unwrap();
+    let families = block.signature.unwrap().families;
+    let back: Vec<u8> = families.iter().map(|family| family.byte()).collect();
+    assert_eq!(back, bytes);
+    assert_eq!(families[0], CallableValueFamily::Quad);
+    assert_eq!(families[14], CallableValueFamily::Bytes);
+    for none in [0, 16, 255] {
+        assert_eq!(CallableValueFamily::from_byte(none), None);
+    }
+}
+
+/// Each message of 72 and that of 73, at a base where the offset does not give the place too.
+#[test]
+fn messages_of_signatures() {
+    let whole = signed(&[1, 16]);
+    let cases = [
+        (&whole[..12], 12, "missing parameter count"),
+        (&whole[..14], 14, "missing parameter family tag"),
+        (&whole[..], 15, "unknown parameter family tag"),
+    ];
+    for (block, place, msg) in cases {
+        for base in [0, 1000, usize::MAX] {
+            let error = parse_string_table_debug_and_ownership(base, block, 20).unwrap_err();
+            let offset = base.saturating_add(place);
+            let expected = DecodeError::InvalidSignatureSection { offset, msg };
+            assert_eq!(error, expected);
+            assert_eq!(error.number(), Some(72));
+        }
+    }
+    let many = parse_string_table_debug_and_ownership(0, &signed(&[1; 4097]), 20).unwrap_err();
+    let expected = DecodeError::ResourceLimit {
+        offset: 14,
+        msg: "too many callable-signature parameters: 4097 (max 4096)".into(),
+    };
+    assert_eq!((many.number(), many), (Some(73), expected));
+    let most = parse_string_table_debug_and_ownership(0, &signed(&[1; 4096]), 20).unwrap();
+    assert_eq!(most.signature.unwrap().families.len(), 4096);
 }
 
 #[test]
 fn numbers_that_are_not_there() {
-    let block = b"\x00\x00OWN0\x01\x00\x00\x00\x09\x00\x00\x00\x00\x00";
+    let block = b"\x00\x00OWN0\x01\x00\x00\x00\x09\x00\x00\x00\x00\x00SIG0\x00\x00";
     for past in [0, usize::MAX] {
         assert_eq!(string_number(0, block, 21, past), Ok(None));
         assert_eq!(symbol_number(0, block, 21, past), Ok(None));

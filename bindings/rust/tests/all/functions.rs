@@ -2,7 +2,9 @@
 
 use falgnust::calls::{BlockTables, decode_functions as decode};
 use falgnust::raw::DebugSymbol;
-use falgnust::semcode_decode::{DecodeError, MAX_FUNCTIONS, decode_functions, function_number};
+use falgnust::semcode_decode::{
+    CallableValueFamily, DecodeError, MAX_FUNCTIONS, decode_functions, function_number,
+};
 
 /// A function with a block at revision 19.
 fn function(name: &str, block: &[u8]) -> Vec<u8> {
@@ -18,25 +20,31 @@ const EXAMPLE: &[u8] = include_bytes!("../../../../examples/functions.semcode");
 
 #[test]
 fn the_example() {
-    let functions = decode_functions(EXAMPLE, 8, 19).unwrap();
+    let functions = decode_functions(EXAMPLE, 8, 22).unwrap();
     let names: Vec<&str> = functions.iter().map(|f| f.name.as_str()).collect();
     assert_eq!(names, ["l\u{e4}s_post", "namn", "st\u{e4}ng"]);
     assert_eq!(functions[0].strings, ["l\u{e5}s", ""]);
     assert_eq!(functions[0].debug_symbols.len(), 2);
     assert_eq!(functions[0].borrowed_paths[0].root_symbol_id, 9);
     assert_eq!(functions[0].write_paths[0].root_symbol_id, 11);
+    let families = [CallableValueFamily::Text, CallableValueFamily::Record];
+    let signature = functions[0].signature.as_ref().unwrap();
+    assert_eq!(signature.families, families);
     assert_eq!(functions[1].strings, ["\u{c5}sa"]);
-    assert_eq!(functions[2].code_slice, b"\x00\x00\x04\x05\x06");
+    assert_eq!(
+        functions[2].code_slice,
+        b"\x00\x00OWN0\x00\x00SIG0\x00\x00\x04\x05\x06"
+    );
     let mut at = 8;
     for (number, f) in functions.iter().enumerate() {
         assert_eq!((f.name_offset, f.code_len), (at, f.code_slice.len()));
         assert_eq!(f.code_offset, at + 2 + f.name.len() + 4);
-        assert_eq!(function_number(EXAMPLE, 8, 19, number), Ok(Some(f.clone())));
+        assert_eq!(function_number(EXAMPLE, 8, 22, number), Ok(Some(f.clone())));
         at = f.code_offset + f.code_len;
     }
     assert_eq!(at, EXAMPLE.len());
     for past in [3, usize::MAX] {
-        assert_eq!(function_number(EXAMPLE, 8, 19, past), Ok(None));
+        assert_eq!(function_number(EXAMPLE, 8, 22, past), Ok(None));
     }
 }
 
@@ -126,6 +134,7 @@ fn the_least_table() {
             let lent = BlockTables {
                 strings: &mut [],
                 paths: &mut [],
+                families: &mut [],
             };
             let symbols: &mut [DebugSymbol] = &mut [];
             let mut starts = vec![7; entries];

@@ -7,11 +7,12 @@ use f.Tie as tie
 
 pub parse-placed-spec : {M : Type 1} → f.Statement.statement M
 parse-placed-spec =
-    tie.close (tie.spec (search needs) (search needs) (search needs) (search needs) (search needs)
+    tie.close (tie.spec (search needs) (search needs) (search needs) (search needs) (search needs) (search needs)
     (λ c. let at = c .before in
-    let block = at .before .before .before .before .before in
-    let a = block .before .before .before .before .before .before .args in
-    let brought = tables (a .strings .now) (a .paths .now) in
+    let after = at .before .before .before in
+    let block = after .before .before .before .before in
+    let passed = block .before .before .before .before in
+    let a = passed .before .before .before .before .args in
+    let brought = tables (a .strings .now) (a .paths .now) (a .families .now) in
     let told = as-told (a .header-rev) (roomsOf brought (a .symbols)) (a .code .now) (a .base-offset) (block .parse-block .ensures .answer) in
-    rw (at .symbols-start .ensures, c .symbol-count .ensures)
-    (record { decoded = block .parse-block .ensures; lies = told })))
+    rw (at .symbols-start .ensures, c .symbol-count .ensures) (record { decoded = block .parse-block .ensures; lies = told })))

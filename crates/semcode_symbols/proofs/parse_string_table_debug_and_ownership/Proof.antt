@@ -1,5 +1,5 @@
--- A walk of the function's MIR, by hand: two calls in a row. The two tables of words go to the core for good, at their own lifetimes, the
--- list of records goes to `fill_symbols` for good, and the bytes are copied. All that is used of the callees is that each meets its contract.
+-- A walk of the function's MIR, by hand: two calls in a row. The three tables go to the core for good, at their own lifetimes, the list of
+-- records goes to `fill_symbols` for good, and the bytes are copied. All that is used of the callees is that each meets its contract.
 use denote.Struct.Laws as LL
 use denote.Enum.Laws as EL
 use Rattle.semcode_decode.proofs.decode.Parse as D
@@ -29,13 +29,13 @@ use f.Key.{name as #parse}
 use f.Statement as stated
 use f.Code as code
 
-abbrev spelt : (κs : Lfts 4) → Spells (typesAt (f.signature .params) κs)
-spelt κs = (uint-vals w64, (slice-vals, (uint-vals w16, (slice-vals, (slice-vals, (slice-vals, tt))))))
+abbrev spelt : (κs : Lfts 5) → Spells (typesAt (f.signature .params) κs)
+spelt κs = (uint-vals w64, (slice-vals, (uint-vals w16, (slice-vals, (slice-vals, (slice-vals, (slice-vals, tt)))))))
 
 module _ {M : Type 1} (𝓤 : URA M) (H : Heap 𝓤) (A : Atoms 𝓤) (W : Given 𝓤 H A) (mem : Memory → SProp 𝓤) (run : Routine → Fun 𝓤) (𝓣 : Tables 𝓤 H)
     (known-core : Triple 𝓤 (𝓣 .C #core) (Met 𝓤 H A core.ended (core.clauses 𝓤 H A mem run)))
     (known-fill : Triple 𝓤 (𝓣 .C #fill) (Met 𝓤 H A fill.ended (fill.clauses 𝓤 H A mem run))) where
-  module _ (κs : Lfts 4) (qs : Shares 4) (bounds : AllOutlive 4 (f.signature .outlives) κs) (a : Args f.signature κs)
+  module _ (κs : Lfts 5) (qs : Shares 5) (bounds : AllOutlive 5 (f.signature .outlives) κs) (a : Args f.signature κs)
       (are : Are (typesAt (f.signature .params) κs) (Ises (typesAt (f.signature .params) κs)) a
       (valss (typesAt (f.signature .params) κs) (spelt κs) a)) where
     abbrev vals : Vals f.signature κs
@@ -44,7 +44,7 @@ module _ {M : Type 1} (𝓤 : URA M) (H : Heap 𝓤) (A : Atoms 𝓤) (W : Given
     abbrev bound : Met 𝓤 H A f.ended (f.clauses 𝓤 H A mem run) .Ghost
     bound = ((κs, qs, bounds, a, vals), tt)
 
-    -- the bytes, the revision and the three tables
+    -- the bytes, the revision, the list and the three tables
     abbrev z : RefT (List ℕ)
     z = a .1 .0
 
@@ -59,6 +59,9 @@ module _ {M : Type 1} (𝓤 : URA M) (H : Heap 𝓤) (A : Atoms 𝓤) (W : Given
 
     abbrev x₃ : RefT (List ℕ)
     x₃ = a .1 .1 .1 .1 .1 .0
+
+    abbrev x₄ : RefT (List ℕ)
+    x₄ = a .1 .1 .1 .1 .1 .1 .0
 
     abbrev n : ℕ
     n = length (x₁ .now)
@@ -76,7 +79,7 @@ module _ {M : Type 1} (𝓤 : URA M) (H : Heap 𝓤) (A : Atoms 𝓤) (W : Given
         (κs .0, κs .1 .1),
         (qs .0, qs .1 .1),
         tt,
-        (a .0, (z, (rev, (n, (x₂, (x₃, tt)))))),
+        (a .0, (z, (rev, (n, (x₂, (x₃, (x₄, tt))))))),
         (vals .0, (vals .1 .0, (vals .1 .1 .0, (vint w64 n ∷ [], vals .1 .1 .1 .1)))),
       ),
       tt,
@@ -96,53 +99,53 @@ module _ {M : Type 1} (𝓤 : URA M) (H : Heap 𝓤) (A : Atoms 𝓤) (W : Given
 
     walk : ent 𝓤 (⋆ 𝓤 H A (had 𝓤 H A f.signature κs qs a vals (raw (emp 𝓤) ∷ [])))
         (WpFn 𝓤 H (𝓣 .C) (𝓣 .Λ) code.function (vint w64 (a .0) ∷ sliceVal (z .ptr) (length (z .now)) ∷ vint w16 rev ∷ sliceVal (x₁ .ptr) n
-        ∷ sliceVal (x₂ .ptr) (length (x₂ .now)) ∷ sliceVal (x₃ .ptr) (length (x₃ .now)) ∷ [])
+        ∷ sliceVal (x₂ .ptr) (length (x₂ .now)) ∷ sliceVal (x₃ .ptr) (length (x₃ .now)) ∷ sliceVal (x₄ .ptr) (length (x₄ .now)) ∷ [])
         (Met 𝓤 H A f.ended (f.clauses 𝓤 H A mem run) .post bound))
     walk =
         qed W (had 𝓤 H A f.signature κs qs a vals (raw (emp 𝓤) ∷ [])) ∵ enter ! (𝓣 .C) (𝓣 .Λ) code.function _ _ $
         alloc1 ! (λ l₀. alloc1 ! (λ l₁. alloc1 ! (λ l₂. alloc1 ! (λ l₃. alloc1 ! (λ l₄. alloc1 ! (λ l₅. alloc1 ! (λ l₆. alloc1 ! (λ l₇.
         alloc1 ! (λ l₈. alloc1 ! (λ l₉. alloc1 ! (λ l₁₀. alloc1 ! (λ l₁₁. alloc1 ! (λ l₁₂. alloc1 ! (λ l₁₃. alloc1 ! (λ l₁₄. alloc1 ! (λ l₁₅.
-        alloc0 ! $ params1 ! $ pass1 ! (init ! 28 refl (tt, record { fits = are .0 .1 })) $
-        pass1 ! (init ! 26 refl (tt, (tt, (record { fits = are .1 .0 .0 .1 .0 }, tt)))) $
-        pass1 ! (init ! 24 refl (tt, record { fits = are .1 .1 .0 .1 })) $
-        pass1 ! (init ! 22 refl (tt, (tt, (record { fits = n-fits }, tt)))) $
-        pass1 ! (init ! 20 refl (tt, (tt, (record { fits = are .1 .1 .1 .1 .0 .0 .1 .0 }, tt)))) $
-        pass1 ! (init ! 18 refl (tt, (tt, (record { fits = are .1 .1 .1 .1 .1 .0 .0 .1 .0 }, tt)))) $ pass0 ! $
-        -- [the locals, _15 at 0; the tokens 0 to 3; base, code, rev, symbols, strings, paths; nothing]
-        assigns ! (of-opd ! (load ! (from ! (fld ! refl (stop !))) (look-in ! 22 (sub ! 1 refl (whole !))))) (from ! (stop !))
-        (init ! 14 refl (tt, record { fits = n-fits })) $
-        lent-on ! 20 12 (are .1 .1 .1 .1 .0 .0 .1 .0) refl refl $ lent-on ! 18 8 (are .1 .1 .1 .1 .1 .0 .0 .1 .0) refl refl $
+        alloc1 ! (λ l₁₆. alloc1 ! (λ l₁₇. alloc1 ! (λ l₁₈. alloc0 ! $ params1 ! $
+        pass1 ! (init ! 34 refl (tt, record { fits = are .0 .1 })) $ pass1 ! (init ! 32 refl (tt, (tt, (record { fits = are .1 .0 .0 .1 .0 }, tt)))) $
+        pass1 ! (init ! 30 refl (tt, record { fits = are .1 .1 .0 .1 })) $ pass1 ! (init ! 28 refl (tt, (tt, (record { fits = n-fits }, tt)))) $
+        pass1 ! (init ! 26 refl (tt, (tt, (record { fits = are .1 .1 .1 .1 .0 .0 .1 .0 }, tt)))) $
+        pass1 ! (init ! 24 refl (tt, (tt, (record { fits = are .1 .1 .1 .1 .1 .0 .0 .1 .0 }, tt)))) $
+        pass1 ! (init ! 22 refl (tt, (tt, (record { fits = are .1 .1 .1 .1 .1 .1 .0 .0 .1 .0 }, tt)))) $ pass0 ! $
+        -- [the locals, _18 at 0; the tokens 0 to 4; base, code, rev, symbols, strings, paths, families; nothing]
+        assigns ! (of-opd ! (load ! (from ! (fld ! refl (stop !))) (look-in ! 28 (sub ! 1 refl (whole !))))) (from ! (stop !))
+        (init ! 18 refl (tt, record { fits = n-fits })) $
+        lent-on ! 26 16 (are .1 .1 .1 .1 .0 .0 .1 .0) refl refl $ lent-on ! 24 12 (are .1 .1 .1 .1 .1 .0 .0 .1 .0) refl refl $
+        lent-on ! 22 8 (are .1 .1 .1 .1 .1 .1 .0 .0 .1 .0) refl refl $
         -- the core
-        number ! w64 n n-fits $ move ! (38 ∷ []) $ use1 W (‵ O ⊛ ‵ O) (shr-slice-copy 𝓤 H A W (named 0) (κs .0) u8 .twice z (vals .1 .0)) $ split ! $
-        move ! (35 ∷ 37 ∷ 38 ∷ 39 ∷ 0 ∷ 40 ∷ 2 ∷ 42 ∷ 43 ∷ []) $
+        number ! w64 n n-fits $ move ! (45 ∷ []) $ use1 W (‵ O ⊛ ‵ O) (shr-slice-copy 𝓤 H A W (named 0) (κs .0) u8 .twice z (vals .1 .0)) $ split ! $
+        move ! (41 ∷ 43 ∷ 44 ∷ 45 ∷ 46 ∷ 0 ∷ 47 ∷ 2 ∷ 49 ∷ 50 ∷ 51 ∷ []) $
         called ! (fmOf 𝓤 H (W .laws) 𝓣) core.ended (core.clauses 𝓤 H A mem run) known-core to-core (id⊢ 𝓤 (emp 𝓤))
-        (and-then ! (local ! 30 refl) (and-then ! (local ! 28 refl)
-        (and-then ! (local ! 26 refl) (and-then ! (local ! 16 refl)
-        (and-then ! (local ! 12 refl) (and-then ! (local ! 8 refl) (no-more !))))))) (λ w r ws.
-        heard ! _ (λ e. move ! (5 ∷ []) $ facts ! P.the-row (Is P.the-row) (shows 𝓤 H A P.the-row) r (w ∷ []) (λ is.
-        -- [strings and paths at last; the tokens 0, 2, 3; code; the locals, _15 at 6; the token 1; symbols; nothing]
-        land ! (from ! (stop !)) (init ! 22 refl (LL.lawful P.the-type P′.the-laws 𝓤 H A W .typed r _ is .0)) $
-        rewrite ! 22 (λ (u : Val). ‵ (fat fullShare P′.mir l₇ 0 u)) (ap only (LL.tells P.the-type P′.the-laws r _ is)) refl $
-        lent-on ! 28 8 n-fits refl refl $
+        (and-then ! (local ! 36 refl) (and-then ! (local ! 34 refl) (and-then ! (local ! 32 refl) (and-then ! (local ! 20 refl)
+        (and-then ! (local ! 16 refl) (and-then ! (local ! 12 refl) (and-then ! (local ! 8 refl) (no-more !)))))))) (λ w r ws.
+        heard ! _ (λ e. move ! (7 ∷ []) $ facts ! P.the-row (Is P.the-row) (shows 𝓤 H A P.the-row) r (w ∷ []) (λ is.
+        -- [strings, paths and families at last; the tokens 0, 2, 3, 4; code; the locals, _18 at 8; the token 1; symbols; nothing]
+        land ! (from ! (stop !)) (init ! 28 refl (LL.lawful P.the-type P′.the-laws 𝓤 H A W .typed r _ is .0)) $
+        rewrite ! 28 (λ (u : Val). ‵ (fat fullShare P′.mir l₈ 0 u)) (ap only (LL.tells P.the-type P′.the-laws r _ is)) refl $
+        lent-on ! 36 10 n-fits refl refl $
         -- the list is filled
         number ! w64 (r .count) (LL.owed P.the-type P′.the-laws r _ is .1 .1 .0 .1) $ number ! w64 (r .at)
-        (LL.owed P.the-type P′.the-laws r _ is .1 .0 .1) $ move ! (40 ∷ 4 ∷ 41 ∷ 7 ∷ 0 ∷ 1 ∷ []) $
+        (LL.owed P.the-type P′.the-laws r _ is .1 .0 .1) $ move ! (48 ∷ 5 ∷ 49 ∷ 9 ∷ 0 ∷ 1 ∷ []) $
         called ! (fmOf 𝓤 H (W .laws) 𝓣) fill.ended (fill.clauses 𝓤 H A mem run) known-fill (to-fill (r .at) (r .count))
         (factI 𝓤 _ (emp 𝓤) (e .lies .inside, e .lies .fit))
-        (and-then ! (local ! 5 refl) (and-then ! (local ! 31 refl)
-        (and-then ! (load ! (from ! (fld ! refl (stop !))) (look-in ! 21 (sub ! 1 refl (whole !))))
-        (and-then ! (load ! (from ! (fld ! refl (stop !))) (look-in ! 21 (sub ! 2 refl (whole !)))) (no-more !))))) (λ u r′ ws′.
+        (and-then ! (local ! 7 refl) (and-then ! (local ! 39 refl)
+        (and-then ! (load ! (from ! (fld ! refl (stop !))) (look-in ! 27 (sub ! 1 refl (whole !))))
+        (and-then ! (load ! (from ! (fld ! refl (stop !))) (look-in ! 27 (sub ! 2 refl (whole !)))) (no-more !))))) (λ u r′ ws′.
         heard ! _ (λ e′. move ! (3 ∷ []) $ facts ! unit (Is unit) (shows 𝓤 H A unit) r′ (u ∷ []) (λ is′.
-        -- [symbols at last; the tokens 1, 0; strings and paths at last; the tokens 2, 3; the locals, _15 at 7; nothing]
-        land ! (from ! (stop !)) (init ! 11 refl (nothing-lawful 𝓤 H A W .typed r′ _ is′ .0)) $
-        assigns ! (of-opd ! (load ! (from ! (fld ! refl (stop !))) (look-in ! 23 (sub ! 0 refl (whole !))))) (from ! (stop !))
-        (init ! 37 refl (EL.lawful D.the-type D′.the-laws 𝓤 H A W tt .typed (r .answer) _ (LL.owed P.the-type P′.the-laws r _ is .0) .0)) $
-        returns ! (look ! 37 refl) $ freed ! 37 [] _ refl $
+        -- [symbols at last; the tokens 1, 0; strings, paths and families at last; the tokens 2, 3, 4; the locals, _18 at 9; nothing]
+        land ! (from ! (stop !)) (init ! 13 refl (nothing-lawful 𝓤 H A W .typed r′ _ is′ .0)) $
+        assigns ! (of-opd ! (load ! (from ! (fld ! refl (stop !))) (look-in ! 29 (sub ! 0 refl (whole !))))) (from ! (stop !))
+        (init ! 45 refl (EL.lawful D.the-type D′.the-laws 𝓤 H A W tt .typed (r .answer) _ (LL.owed P.the-type P′.the-laws r _ is .0) .0)) $
+        returns ! (look ! 45 refl) $ freed ! 45 [] _ refl $
         owned ! D.the-row (Is D.the-row) (EL.makes D.the-type D′.the-plain 𝓤 H A) (r .answer) _ (LL.owed P.the-type P′.the-laws r _ is .0) $
-        keep ! (1 ∷ 4 ∷ 5 ∷ 3 ∷ 2 ∷ 6 ∷ 7 ∷ 0 ∷ []) $
+        keep ! (1 ∷ 4 ∷ 5 ∷ 6 ∷ 3 ∷ 2 ∷ 7 ∷ 8 ∷ 9 ∷ 0 ∷ []) $
         by ! (leaves 𝓤 H A f.ended (f.clauses 𝓤 H A mem run) bound W _ (r .answer)
-        (tt, (tt, (tt, (ws′ .0, (ws .1 .1 .1 .1 .0, (ws .1 .1 .1 .1 .1 .0, tt))))))
-        (factI 𝓤 _ (emp 𝓤) (record { decoded = e .decoded; symbols = e′ ∙ ap (lentSymbols n) (e .lies .are) })))))))))))))))))))))))))
+        (tt, (tt, (tt, (ws′ .0, (ws .1 .1 .1 .1 .0, (ws .1 .1 .1 .1 .1 .0, (ws .1 .1 .1 .1 .1 .1 .0, tt)))))))
+        (factI 𝓤 _ (emp 𝓤) (record { decoded = e .decoded; symbols = e′ ∙ ap (lentSymbols n) (e .lies .are) }))))))))))))))))))))))))))))
 
   meets : Meets 𝓤 H A f.signature (WpFn 𝓤 H (𝓣 .C) (𝓣 .Λ) code.function) (f.spec 𝓤 H A mem run)
   meets =
@@ -155,7 +158,10 @@ module _ {M : Type 1} (𝓤 : URA M) (H : Heap 𝓤) (A : Atoms 𝓤) (W : Given
             uint-tells w16,
             (
               mut-slice-tells (named 1) (κs .1 .0) T.the-row,
-              (mut-slice-tells (named 2) (κs .1 .1 .0) u64, (mut-slice-tells (named 3) (κs .1 .1 .1 .0) u64, tt)),
+              (
+                mut-slice-tells (named 2) (κs .1 .1 .0) u64,
+                (mut-slice-tells (named 3) (κs .1 .1 .1 .0) u64, (mut-slice-tells (named 4) (κs .1 .1 .1 .1 .0) u8, tt)),
+              ),
             ),
           ),
         ),

@@ -23,7 +23,7 @@ const OTHERS: [&str; 9] = [
 pub fn check() -> Result<usize, String> {
     let body = SEMCODE_DECODE
         .split_once("\nfn parse_string_table_debug_and_ownership(")
-        .and_then(|(_, rest)| rest.split_once("    let signature = None;\n"))
+        .and_then(|(_, rest)| rest.split_once("    Ok(StringTableDebugOwnershipParse {\n"))
         .ok_or("the block function is not found")?
         .0;
     let steps = SEMCODE_DECODE

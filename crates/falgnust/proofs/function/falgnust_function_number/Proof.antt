@@ -6,6 +6,6 @@ use Rattle.falgnust.proofs.function.falgnust_function_number as f
 
 pub falgnust-function-number-spec : {M : Type 1} → f.Statement.statement M
 falgnust-function-number-spec =
-    f.Tie.close (f.Tie.spec (search needs) (search needs) (search needs) (search needs) (search needs)
-    λ c. let left = c .before .before .before in
-    mapped flatFunction (left .before .before .before .before .function-number .ensures) (c .flat-function .ensures))
+    f.Tie.close (f.Tie.spec (search needs) (search needs) (search needs) (search needs) (search needs) (search needs)
+    λ c. let left = c .before .before .before .before in
+    mapped flatFunction (left .before .before .before .before .before .function-number .ensures) (c .flat-function .ensures))

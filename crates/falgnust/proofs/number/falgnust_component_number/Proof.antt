@@ -6,5 +6,6 @@ use Rattle.falgnust.proofs.number.falgnust_component_number as f
 
 pub falgnust-component-number-spec : {M : Type 1} → f.Statement.statement M
 falgnust-component-number-spec =
-    f.Tie.close (f.Tie.spec (search needs) (search needs) (search needs) (search needs)
-    λ c. mapped flatComponent (c .before .before .before .before .before .component-number .ensures) (c .flat-component .ensures))
+    f.Tie.close (f.Tie.spec (search needs) (search needs) (search needs) (search needs) (search needs)
+    λ c. let left = c .before .before .before in
+    mapped flatComponent (left .before .before .before .before .component-number .ensures) (c .flat-component .ensures))

@@ -6,5 +6,6 @@ use Rattle.falgnust.proofs.number.falgnust_path_number as f
 
 pub falgnust-path-number-spec : {M : Type 1} → f.Statement.statement M
 falgnust-path-number-spec =
-    f.Tie.close (f.Tie.spec (search needs) (search needs) (search needs) (search needs)
-    λ c. mapped flatPath (c .before .before .before .before .before .path-number .ensures) (c .flat-path .ensures))
+    f.Tie.close (f.Tie.spec (search needs) (search needs) (search needs) (search needs) (search needs)
+    λ c. let left = c .before .before .before in
+    mapped flatPath (left .before .before .before .before .path-number .ensures) (c .flat-path .ensures))

@@ -6,5 +6,6 @@ use Rattle.falgnust.proofs.number.falgnust_string_number as f
 
 pub falgnust-string-number-spec : {M : Type 1} → f.Statement.statement M
 falgnust-string-number-spec =
-    f.Tie.close (f.Tie.spec (search needs) (search needs) (search needs) (search needs)
-    λ c. mapped flatText (c .before .before .before .before .before .string-number .ensures) (c .flat-text .ensures))
+    f.Tie.close (f.Tie.spec (search needs) (search needs) (search needs) (search needs) (search needs)
+    λ c. let left = c .before .before .before in
+    mapped flatText (left .before .before .before .before .string-number .ensures) (c .flat-text .ensures))

@@ -6,5 +6,6 @@ use Rattle.falgnust.proofs.number.falgnust_symbol_number as f
 
 pub falgnust-symbol-number-spec : {M : Type 1} → f.Statement.statement M
 falgnust-symbol-number-spec =
-    f.Tie.close (f.Tie.spec (search needs) (search needs) (search needs) (search needs)
-    λ c. mapped flatSymbol (c .before .before .before .before .before .symbol-number .ensures) (c .flat-symbol .ensures))
+    f.Tie.close (f.Tie.spec (search needs) (search needs) (search needs) (search needs) (search needs)
+    λ c. let left = c .before .before .before in
+    mapped flatSymbol (left .before .before .before .before .symbol-number .ensures) (c .flat-symbol .ensures))

@@ -11,10 +11,11 @@ use Rattle.local_format.proofs.refusal.is_limit as f
 use f.Tie as tie
 
 none : (n : ℕ) → (n ≡ 3 → ⊥) → (n ≡ 12 → ⊥) → (n ≡ 14 → ⊥) → (n ≡ 15 → ⊥) → (n ≡ 27 → ⊥) → (n ≡ 31 → ⊥) → (n ≡ 36 → ⊥) → (n ≡ 65 → ⊥)
+    → (n ≡ 73 → ⊥)
     → false ≡ among limits n
 unfolding among
-none n a b c d e f g h =
-    simp (ne-eqb n 3 a, ne-eqb n 12 b, ne-eqb n 14 c, ne-eqb n 15 d, ne-eqb n 27 e, ne-eqb n 31 f, ne-eqb n 36 g, ne-eqb n 65 h)
+none n a b c d e f g h i =
+    simp (ne-eqb n 3 a, ne-eqb n 12 b, ne-eqb n 14 c, ne-eqb n 15 d, ne-eqb n 27 e, ne-eqb n 31 f, ne-eqb n 36 g, ne-eqb n 65 h, ne-eqb n 73 i)
 
 is : (n m : ℕ) → among limits m ≡ true → n ≡ m → true ≡ among limits n
 is n m h e = sym (ap (among limits) e ∙ h)
@@ -34,9 +35,11 @@ unfolding among
 is-limit-spec =
     tie.close (tie.spec
     (λ c. let r = c .before .match .rest .1 in
-    none _ (λ e. r (inl e)) (λ e. r (inr (inl e))) (omega arith) (omega arith) (omega arith) (omega arith) (omega arith) (omega arith))
+    none _ (λ e. r (inl e)) (λ e. r (inr (inl e))) (omega arith) (omega arith) (omega arith) (omega arith) (omega arith) (omega arith)
+    (omega arith))
     (λ c. let r = c .before .before .match .rest .1 in
     none _ (omega arith) (omega arith) (omega arith) (omega arith) (λ e. r (inr (inr (inl e)))) (λ e. r (inr (inr (inr (inl e)))))
-    (λ e. r (inr (inr (inr (inr (inl e)))))) (λ e. r (inr (inr (inr (inr (inr e)))))))
-    (λ c. ⊎-elim (is _ 3 refl) (⊎-elim (is _ 12 refl) (⊎-elim (is _ 27 refl) (⊎-elim (is _ 31 refl) (⊎-elim (is _ 36 refl) (is _ 65 refl)))))
-    (c .match .keys1)) returns-4)
+    (λ e. r (inr (inr (inr (inr (inl e)))))) (λ e. r (inr (inr (inr (inr (inr (inl e)))))))
+    (λ e. r (inr (inr (inr (inr (inr (inr e))))))))
+    (λ c. ⊎-elim (is _ 3 refl) (⊎-elim (is _ 12 refl) (⊎-elim (is _ 27 refl) (⊎-elim (is _ 31 refl) (⊎-elim (is _ 36 refl)
+    (⊎-elim (is _ 65 refl) (is _ 73 refl)))))) (c .match .keys1)) returns-4)

@@ -9,7 +9,7 @@ use Rattle.local_format.specs.Refusal.{Refusal}
 use Rattle.local_format.specs.Out.{Out, ok, refused, refuse}
 use Rattle.semcode_records.specs.Records.{Entry}
 use Rattle.semcode_decode.specs.Block.{Rooms}
-use Rattle.semcode_decode.specs.Layout.{Lent, tables, roomsOf}
+use Rattle.semcode_decode.specs.Layout as of
 use Rattle.semcode_functions.specs.Function.{Function, functionAt, functionsFrom}
 use Rattle.semcode_functions.specs.File.{block}
 use Rattle.semcode_functions.specs.Turn.{Next, BeginsFunction}
@@ -19,15 +19,16 @@ use Rattle.semcode_functions.proofs.functions.each_function as f
 use f.Tie as tie
 
 abbrev Inv-loop : tie.InvT-loop
-Inv-loop bytes cursor header-rev symbols functions₀ strings₀ paths₀ at₀ count₀ last₀ functions strings paths at count last =
+Inv-loop bytes cursor header-rev symbols functions₀ strings₀ paths₀ families at₀ count₀ last₀ functions strings paths at count last =
     (count ≤ 1024)
     × (length functions ≡ length functions₀)
     × (length strings ≡ length strings₀)
     × (length paths ≡ length paths₀)
-    × Reading header-rev (roomsOf (tables strings₀ paths₀) symbols) bytes 1024 (length functions₀) cursor count at (lastIs last) functions strings paths
+    × Reading header-rev (of.rooms (length strings₀) symbols (length paths₀) families) bytes 1024 (length functions₀) cursor count at (lastIs last)
+    functions strings paths
 
 abbrev μ-loop : tie.MeasureT-loop
-μ-loop bytes cursor header-rev symbols functions₀ strings₀ paths₀ at₀ count₀ last₀ functions strings paths at count last = 1024 - count
+μ-loop bytes cursor header-rev symbols functions₀ strings₀ paths₀ families at₀ count₀ last₀ functions strings paths at count last = 1024 - count
 
 one-more : {i n : ℕ} → i < n → i + 1 ≤ n
 one-more h = omega arith
@@ -36,7 +37,7 @@ one-more h = omega arith
 abbrev rooms : tie.At-loop Inv-loop μ-loop → Rooms
 rooms l =
     let a = l .before .before .before .before .before .args in
-    roomsOf (tables (a .strings .now) (a .paths .now)) (a .symbols)
+    of.rooms (length (a .strings .now)) (a .symbols) (length (a .paths .now)) (a .families)
 
 abbrev whole : tie.At-loop Inv-loop μ-loop → Out (List (Entry Function))
 whole l =
@@ -68,12 +69,15 @@ abbrev turn : tie.After-next-function Inv-loop μ-loop → tie.At-loop Inv-loop 
 turn n = n .before .before .before .before .before .before
 
 module _ (n : tie.After-next-function Inv-loop μ-loop) where
-  abbrev left : Lent
-  left = tables (n .next-function .last .1 .1 .1 .1 .0) (n .next-function .last .1 .1 .1 .1 .1 .0)
+  abbrev left-strings : List ℕ
+  left-strings = n .next-function .last .1 .1 .1 .1 .0
+
+  abbrev left-paths : List ℕ
+  left-paths = n .next-function .last .1 .1 .1 .1 .1 .0
 
   begins : let l = turn n in
       let a = l .before .before .before .before .before .args in
-      BeginsFunction (functionAt (a .header-rev) (rooms l) (a .bytes .now) (l .loop .at)) left (nextOut (n .next-function .result))
+      BeginsFunction (functionAt (a .header-rev) (rooms l) (a .bytes .now) (l .loop .at)) left-strings left-paths (nextOut (n .next-function .result))
   begins = let l = turn n in rw (l .loop .inv .2, l .loop .inv .3) at (n .next-function .ensures)
 
   refused-there : {r : Refusal} → nextOut (n .next-function .result) ≡ refused r → whole (turn n) ≡ refused r
@@ -89,7 +93,7 @@ module _ (n : tie.After-next-function Inv-loop μ-loop) where
       → let l = turn n in
       let a = l .before .before .before .before .before .args in
       Reading (a .header-rev) (rooms l) (a .bytes .now) 1024 (length (a .functions .now)) (a .cursor) (l .loop .count + 1) (t .next)
-      (block (t .code) (t .layout)) (set (l .loop .functions) (l .loop .count) (l .loop .at)) (left .strings) (left .paths)
+      (block (t .code) (t .layout)) (set (l .loop .functions) (l .loop .count) (l .loop .at)) left-strings left-paths
   on h =
       let e = n .before .before .before in
       let l = turn n in
@@ -106,21 +110,22 @@ each-function-spec =
       refl,
       refl,
       refl,
-      read-first (a .header-rev) (roomsOf (tables (a .strings .now) (a .paths .now)) (a .symbols)) (a .bytes .now) 1024
+      read-first (a .header-rev) (of.rooms (length (a .strings .now)) (a .symbols) (length (a .paths .now)) (a .families)) (a .bytes .now) 1024
           (length (a .functions .now)) (a .cursor) (a .functions .now) (a .strings .now) (a .paths .now),
     )) (search needs) (search needs) (search needs) (search needs)
     (λ c. let l = c .before .before .before in
     rw (full l (c .before .before .loop-test .taken) (c .before .if1 .taken))
-    (record { answer = ap refused (c .refuse .ensures); functions = refl; strings = refl; paths = refl })) (search needs) (search needs) (search needs)
+    (record { answer = ap refused (c .refuse .ensures); of-functions = refl; of-strings = refl; of-paths = refl })) (search needs) (search needs) (search needs)
     (search needs)
     (λ c. let i = c .before .before in
     rw (no-room (i .before .before) (i .before .loop-test .taken) (i .if1 .left) (c .before .if2 .taken))
-    (record { answer = ap refused (c .refuse2 .ensures); functions = refl; strings = refl; paths = refl })) (search needs) (search needs) (search needs)
+    (record { answer = ap refused (c .refuse2 .ensures); of-functions = refl; of-strings = refl; of-paths = refl })) (search needs) (search needs)
+    (search needs)
     (search needs) (search needs) (search needs) (search needs)
     (λ c. let k = c .before in
     let n = k .before .before .before .before .before .before in
     rw (refused-there n (ap nextOut (k .enum-told .given .1)), c .next-refusal .ensures, k .enum-told .given .1)
-    (record { answer = refl; functions = refl; strings = refl; paths = refl })) (search needs) (search needs) (search needs) (search needs)
+    (record { answer = refl; of-functions = refl; of-strings = refl; of-paths = refl })) (search needs) (search needs) (search needs) (search needs)
     (λ c. let k = c .before in
     let n = k .before .before .before .before .before .before in
     let l = turn n in (
@@ -136,4 +141,4 @@ each-function-spec =
     read-all (a .header-rev) (rooms l) (a .bytes .now) 1024 (length (a .functions .now)) (a .cursor) (l .loop .count) (l .loop .at) (lastIs (l .loop .last))
     (l .loop .functions) (l .loop .strings) (l .loop .paths) (l .loop .inv .4) (omega arith)
     in
-    record { answer = sym (w .0); functions = w .1; strings = w .2; paths = w .3 }))
+    record { answer = sym (w .0); of-functions = w .1; of-strings = w .2; of-paths = w .3 }))

@@ -9,7 +9,7 @@ use Rattle.local_format.specs.Maps.{refusalOf}
 use Rattle.local_format.proofs.OutLaws.{told}
 use Rattle.semcode_decode.specs.declared.decode.Parse.{Parse}
 use Rattle.semcode_decode.specs.Block.{Rooms}
-use Rattle.semcode_decode.specs.Layout.{tables, roomsOf}
+use Rattle.semcode_decode.specs.Layout as of
 use Rattle.semcode_decode.specs.Maps.{parseOut}
 use Rattle.semcode_functions.specs.Maps.{functionOut}
 use Rattle.semcode_functions.proofs.FunctionLaws.{head-ok}
@@ -22,7 +22,7 @@ use f.Tie as tie
 abbrev rooms : tie.After-read-function → Rooms
 rooms r =
     let a = r .before .before .before .before .args in
-    roomsOf (tables (a .strings .now) (a .paths .now)) (a .symbols)
+    of.rooms (length (a .strings .now)) (a .symbols) (length (a .paths .now)) (a .families)
 
 -- the head lies before its block, and this within the bytes
 within : (k : tie.After-function)
@@ -41,7 +41,7 @@ next-function-spec =
     let r = k .before .before in
     let a = r .before .before .before .before .args in
     let e = head-refused (a .header-rev) (rooms r) (a .bytes .now) (a .at) (told functionOut (r .read-function .ensures) (k .enum-told .given .1)) in
-    rw (e, c .function-refusal .ensures, k .enum-told .given .1) (record { answer = refl; strings = refl; paths = refl }))
+    rw (e, c .function-refusal .ensures, k .enum-told .given .1) (record { answer = refl; of-strings = refl; of-paths = refl }))
     (λ c. within (c .before) .0) (λ c. within (c .before) .0) (λ c. within (c .before) .1)
     (search needs) (search needs) (search needs) (search needs) (search needs) (search needs) (search needs)
     (λ c. let k = c .before .before in
@@ -56,8 +56,8 @@ next-function-spec =
     let q = c .before .parse-refusal .ensures ∙ ap (λ (x : Parse). refusalOf (parseOut x)) (k .enum-told2 .given .1) in
     rw e (record {
       answer = ap refused (c .based .ensures) ∙ ap (λ (r : Refusal). refused (atOffset r (held (fn .function .given .0 .0 .code) (r .offset)))) q;
-      strings = refl;
-      paths = refl;
+      of-strings = refl;
+      of-paths = refl;
     })) (search needs) (search needs)
     (λ c. let k = c .before in
     let pt = k .before .before .before .before .before .before in

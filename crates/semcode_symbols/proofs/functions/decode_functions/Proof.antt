@@ -1,5 +1,5 @@
--- A walk of the function's MIR, by hand, as that of the block's top with one table more: the three tables of words go to the core for good,
--- the list of records to `fill_symbols`, and the bytes are copied. All that is used of the callees is that each meets its contract.
+-- A walk of the function's MIR, by hand, as that of the block's top with one table more: the four tables go to the core for good, the list
+-- of records to `fill_symbols`, and the bytes are copied. All that is used of the callees is that each meets its contract.
 use denote.Struct.Laws as LL
 use denote.Enum.Laws as EL
 use Rattle.semcode_functions.proofs.functions.Functions as D
@@ -29,13 +29,13 @@ use f.Key.{name as #decode}
 use f.Statement as stated
 use f.Code as code
 
-abbrev spelt : (κs : Lfts 5) → Spells (typesAt (f.signature .params) κs)
-spelt κs = (slice-vals, (uint-vals w64, (uint-vals w16, (slice-vals, (slice-vals, (slice-vals, (slice-vals, tt)))))))
+abbrev spelt : (κs : Lfts 6) → Spells (typesAt (f.signature .params) κs)
+spelt κs = (slice-vals, (uint-vals w64, (uint-vals w16, (slice-vals, (slice-vals, (slice-vals, (slice-vals, (slice-vals, tt))))))))
 
 module _ {M : Type 1} (𝓤 : URA M) (H : Heap 𝓤) (A : Atoms 𝓤) (W : Given 𝓤 H A) (mem : Memory → SProp 𝓤) (run : Routine → Fun 𝓤) (𝓣 : Tables 𝓤 H)
     (known-core : Triple 𝓤 (𝓣 .C #core) (Met 𝓤 H A core.ended (core.clauses 𝓤 H A mem run)))
     (known-fill : Triple 𝓤 (𝓣 .C #fill) (Met 𝓤 H A fill.ended (fill.clauses 𝓤 H A mem run))) where
-  module _ (κs : Lfts 5) (qs : Shares 5) (bounds : AllOutlive 5 (f.signature .outlives) κs) (a : Args f.signature κs)
+  module _ (κs : Lfts 6) (qs : Shares 6) (bounds : AllOutlive 6 (f.signature .outlives) κs) (a : Args f.signature κs)
       (are : Are (typesAt (f.signature .params) κs) (Ises (typesAt (f.signature .params) κs)) a
       (valss (typesAt (f.signature .params) κs) (spelt κs) a)) where
     abbrev vals : Vals f.signature κs
@@ -44,7 +44,7 @@ module _ {M : Type 1} (𝓤 : URA M) (H : Heap 𝓤) (A : Atoms 𝓤) (W : Given
     abbrev bound : Met 𝓤 H A f.ended (f.clauses 𝓤 H A mem run) .Ghost
     bound = ((κs, qs, bounds, a, vals), tt)
 
-    -- the bytes, the revision, the list and the three tables
+    -- the bytes, the revision, the list and the four tables
     abbrev z : RefT (List ℕ)
     z = a .0
 
@@ -63,6 +63,9 @@ module _ {M : Type 1} (𝓤 : URA M) (H : Heap 𝓤) (A : Atoms 𝓤) (W : Given
     abbrev x₄ : RefT (List ℕ)
     x₄ = a .1 .1 .1 .1 .1 .1 .0
 
+    abbrev x₅ : RefT (List ℕ)
+    x₅ = a .1 .1 .1 .1 .1 .1 .1 .0
+
     abbrev n : ℕ
     n = length (x₁ .now)
 
@@ -79,7 +82,7 @@ module _ {M : Type 1} (𝓤 : URA M) (H : Heap 𝓤) (A : Atoms 𝓤) (W : Given
         (κs .0, κs .1 .1),
         (qs .0, qs .1 .1),
         tt,
-        (z, (a .1 .0, (rev, (n, (x₂, (x₃, (x₄, tt))))))),
+        (z, (a .1 .0, (rev, (n, (x₂, (x₃, (x₄, (x₅, tt)))))))),
         (vals .0, (vals .1 .0, (vals .1 .1 .0, (vint w64 n ∷ [], vals .1 .1 .1 .1)))),
       ),
       tt,
@@ -99,53 +102,55 @@ module _ {M : Type 1} (𝓤 : URA M) (H : Heap 𝓤) (A : Atoms 𝓤) (W : Given
 
     walk : ent 𝓤 (⋆ 𝓤 H A (had 𝓤 H A f.signature κs qs a vals (raw (emp 𝓤) ∷ [])))
         (WpFn 𝓤 H (𝓣 .C) (𝓣 .Λ) code.function (sliceVal (z .ptr) (length (z .now)) ∷ vint w64 (a .1 .0) ∷ vint w16 rev ∷ sliceVal (x₁ .ptr) n
-        ∷ sliceVal (x₂ .ptr) (length (x₂ .now)) ∷ sliceVal (x₃ .ptr) (length (x₃ .now)) ∷ sliceVal (x₄ .ptr) (length (x₄ .now)) ∷ [])
+        ∷ sliceVal (x₂ .ptr) (length (x₂ .now)) ∷ sliceVal (x₃ .ptr) (length (x₃ .now)) ∷ sliceVal (x₄ .ptr) (length (x₄ .now))
+        ∷ sliceVal (x₅ .ptr) (length (x₅ .now)) ∷ [])
         (Met 𝓤 H A f.ended (f.clauses 𝓤 H A mem run) .post bound))
     walk =
         qed W (had 𝓤 H A f.signature κs qs a vals (raw (emp 𝓤) ∷ [])) ∵ enter ! (𝓣 .C) (𝓣 .Λ) code.function _ _ $
         alloc1 ! (λ l₀. alloc1 ! (λ l₁. alloc1 ! (λ l₂. alloc1 ! (λ l₃. alloc1 ! (λ l₄. alloc1 ! (λ l₅. alloc1 ! (λ l₆. alloc1 ! (λ l₇.
         alloc1 ! (λ l₈. alloc1 ! (λ l₉. alloc1 ! (λ l₁₀. alloc1 ! (λ l₁₁. alloc1 ! (λ l₁₂. alloc1 ! (λ l₁₃. alloc1 ! (λ l₁₄. alloc1 ! (λ l₁₅.
-        alloc1 ! (λ l₁₆. alloc1 ! (λ l₁₇. alloc1 ! (λ l₁₈. alloc0 ! $ params1 ! $
-        pass1 ! (init ! 34 refl (tt, (tt, (record { fits = are .0 .0 .1 .0 }, tt)))) $ pass1 ! (init ! 32 refl (tt, record { fits = are .1 .0 .1 })) $
-        pass1 ! (init ! 30 refl (tt, record { fits = are .1 .1 .0 .1 })) $ pass1 ! (init ! 28 refl (tt, (tt, (record { fits = n-fits }, tt)))) $
-        pass1 ! (init ! 26 refl (tt, (tt, (record { fits = are .1 .1 .1 .1 .0 .0 .1 .0 }, tt)))) $
-        pass1 ! (init ! 24 refl (tt, (tt, (record { fits = are .1 .1 .1 .1 .1 .0 .0 .1 .0 }, tt)))) $
-        pass1 ! (init ! 22 refl (tt, (tt, (record { fits = are .1 .1 .1 .1 .1 .1 .0 .0 .1 .0 }, tt)))) $ pass0 ! $
-        -- [the locals, _18 at 0; the tokens 0 to 4; bytes, cursor, rev, symbols, functions, strings, paths; nothing]
-        assigns ! (of-opd ! (load ! (from ! (fld ! refl (stop !))) (look-in ! 28 (sub ! 1 refl (whole !))))) (from ! (stop !))
-        (init ! 18 refl (tt, record { fits = n-fits })) $
-        lent-on ! 26 16 (are .1 .1 .1 .1 .0 .0 .1 .0) refl refl $ lent-on ! 24 12 (are .1 .1 .1 .1 .1 .0 .0 .1 .0) refl refl $
-        lent-on ! 22 8 (are .1 .1 .1 .1 .1 .1 .0 .0 .1 .0) refl refl $
+        alloc1 ! (λ l₁₆. alloc1 ! (λ l₁₇. alloc1 ! (λ l₁₈. alloc1 ! (λ l₁₉. alloc1 ! (λ l₂₀. alloc1 ! (λ l₂₁. alloc0 ! $ params1 ! $
+        pass1 ! (init ! 40 refl (tt, (tt, (record { fits = are .0 .0 .1 .0 }, tt)))) $ pass1 ! (init ! 38 refl (tt, record { fits = are .1 .0 .1 })) $
+        pass1 ! (init ! 36 refl (tt, record { fits = are .1 .1 .0 .1 })) $ pass1 ! (init ! 34 refl (tt, (tt, (record { fits = n-fits }, tt)))) $
+        pass1 ! (init ! 32 refl (tt, (tt, (record { fits = are .1 .1 .1 .1 .0 .0 .1 .0 }, tt)))) $
+        pass1 ! (init ! 30 refl (tt, (tt, (record { fits = are .1 .1 .1 .1 .1 .0 .0 .1 .0 }, tt)))) $
+        pass1 ! (init ! 28 refl (tt, (tt, (record { fits = are .1 .1 .1 .1 .1 .1 .0 .0 .1 .0 }, tt)))) $
+        pass1 ! (init ! 26 refl (tt, (tt, (record { fits = are .1 .1 .1 .1 .1 .1 .1 .0 .0 .1 .0 }, tt)))) $ pass0 ! $
+        -- [the locals, _21 at 0; the tokens 0 to 5; bytes, cursor, rev, symbols, functions, strings, paths, families; nothing]
+        assigns ! (of-opd ! (load ! (from ! (fld ! refl (stop !))) (look-in ! 34 (sub ! 1 refl (whole !))))) (from ! (stop !))
+        (init ! 22 refl (tt, record { fits = n-fits })) $
+        lent-on ! 32 20 (are .1 .1 .1 .1 .0 .0 .1 .0) refl refl $ lent-on ! 30 16 (are .1 .1 .1 .1 .1 .0 .0 .1 .0) refl refl $
+        lent-on ! 28 12 (are .1 .1 .1 .1 .1 .1 .0 .0 .1 .0) refl refl $ lent-on ! 26 8 (are .1 .1 .1 .1 .1 .1 .1 .0 .0 .1 .0) refl refl $
         -- the core
-        number ! w64 n n-fits $ move ! (44 ∷ []) $ use1 W (‵ O ⊛ ‵ O) (shr-slice-copy 𝓤 H A W (named 0) (κs .0) u8 .twice z (vals .0)) $ split ! $
-        move ! (41 ∷ 43 ∷ 44 ∷ 45 ∷ 0 ∷ 46 ∷ 47 ∷ 2 ∷ 49 ∷ 50 ∷ 51 ∷ []) $
+        number ! w64 n n-fits $ move ! (51 ∷ []) $ use1 W (‵ O ⊛ ‵ O) (shr-slice-copy 𝓤 H A W (named 0) (κs .0) u8 .twice z (vals .0)) $ split ! $
+        move ! (47 ∷ 49 ∷ 50 ∷ 51 ∷ 52 ∷ 0 ∷ 53 ∷ 54 ∷ 2 ∷ 56 ∷ 57 ∷ 58 ∷ 59 ∷ []) $
         called ! (fmOf 𝓤 H (W .laws) 𝓣) core.ended (core.clauses 𝓤 H A mem run) known-core to-core (id⊢ 𝓤 (emp 𝓤))
-        (and-then ! (local ! 36 refl) (and-then ! (local ! 34 refl) (and-then ! (local ! 32 refl) (and-then ! (local ! 20 refl)
-        (and-then ! (local ! 16 refl) (and-then ! (local ! 12 refl) (and-then ! (local ! 8 refl) (no-more !)))))))) (λ w r ws.
-        heard ! _ (λ e. move ! (7 ∷ []) $ facts ! P.the-row (Is P.the-row) (shows 𝓤 H A P.the-row) r (w ∷ []) (λ is.
-        -- [functions, strings and paths at last; the tokens 0, 2, 3, 4; bytes; the locals, _18 at 8; the token 1; symbols; nothing]
-        land ! (from ! (stop !)) (init ! 28 refl (LL.lawful P.the-type P′.the-laws 𝓤 H A W .typed r _ is .0)) $
-        rewrite ! 28 (λ (u : Val). ‵ (fat fullShare P′.mir l₈ 0 u)) (ap only (LL.tells P.the-type P′.the-laws r _ is)) refl $
-        lent-on ! 36 10 n-fits refl refl $
+        (and-then ! (local ! 42 refl) (and-then ! (local ! 40 refl) (and-then ! (local ! 38 refl) (and-then ! (local ! 24 refl) (and-then ! (local ! 20 refl)
+        (and-then ! (local ! 16 refl) (and-then ! (local ! 12 refl) (and-then ! (local ! 8 refl) (no-more !))))))))) (λ w r ws.
+        heard ! _ (λ e. move ! (9 ∷ []) $ facts ! P.the-row (Is P.the-row) (shows 𝓤 H A P.the-row) r (w ∷ []) (λ is.
+        -- [functions, strings, paths and families at last; the tokens 0, 2 to 5; bytes; the locals, _21 at 10; the token 1; symbols; nothing]
+        land ! (from ! (stop !)) (init ! 34 refl (LL.lawful P.the-type P′.the-laws 𝓤 H A W .typed r _ is .0)) $
+        rewrite ! 34 (λ (u : Val). ‵ (fat fullShare P′.mir l₉ 0 u)) (ap only (LL.tells P.the-type P′.the-laws r _ is)) refl $
+        lent-on ! 44 12 n-fits refl refl $
         -- the list is filled
         number ! w64 (r .count) (LL.owed P.the-type P′.the-laws r _ is .1 .1 .0 .1) $ number ! w64 (r .at)
-        (LL.owed P.the-type P′.the-laws r _ is .1 .0 .1) $ move ! (48 ∷ 5 ∷ 49 ∷ 9 ∷ 0 ∷ 1 ∷ []) $
+        (LL.owed P.the-type P′.the-laws r _ is .1 .0 .1) $ move ! (56 ∷ 6 ∷ 57 ∷ 11 ∷ 0 ∷ 1 ∷ []) $
         called ! (fmOf 𝓤 H (W .laws) 𝓣) fill.ended (fill.clauses 𝓤 H A mem run) known-fill (to-fill (r .at) (r .count))
         (factI 𝓤 _ (emp 𝓤) (e .lies .inside, e .lies .fit))
-        (and-then ! (local ! 7 refl) (and-then ! (local ! 41 refl)
-        (and-then ! (load ! (from ! (fld ! refl (stop !))) (look-in ! 27 (sub ! 1 refl (whole !))))
-        (and-then ! (load ! (from ! (fld ! refl (stop !))) (look-in ! 27 (sub ! 2 refl (whole !)))) (no-more !))))) (λ u r′ ws′.
+        (and-then ! (local ! 9 refl) (and-then ! (local ! 49 refl)
+        (and-then ! (load ! (from ! (fld ! refl (stop !))) (look-in ! 33 (sub ! 1 refl (whole !))))
+        (and-then ! (load ! (from ! (fld ! refl (stop !))) (look-in ! 33 (sub ! 2 refl (whole !)))) (no-more !))))) (λ u r′ ws′.
         heard ! _ (λ e′. move ! (3 ∷ []) $ facts ! unit (Is unit) (shows 𝓤 H A unit) r′ (u ∷ []) (λ is′.
-        -- [symbols at last; the tokens 1, 0; functions, strings and paths at last; the tokens 2, 3, 4; the locals, _18 at 9; nothing]
-        land ! (from ! (stop !)) (init ! 13 refl (nothing-lawful 𝓤 H A W .typed r′ _ is′ .0)) $
-        assigns ! (of-opd ! (load ! (from ! (fld ! refl (stop !))) (look-in ! 29 (sub ! 0 refl (whole !))))) (from ! (stop !))
-        (init ! 45 refl (EL.lawful D.the-type D′.the-laws 𝓤 H A W tt .typed (r .answer) _ (LL.owed P.the-type P′.the-laws r _ is .0) .0)) $
-        returns ! (look ! 45 refl) $ freed ! 45 [] _ refl $
+        -- [symbols at last; the tokens 1, 0; functions, strings, paths and families at last; the tokens 2 to 5; the locals, _21 at 11; nothing]
+        land ! (from ! (stop !)) (init ! 15 refl (nothing-lawful 𝓤 H A W .typed r′ _ is′ .0)) $
+        assigns ! (of-opd ! (load ! (from ! (fld ! refl (stop !))) (look-in ! 35 (sub ! 0 refl (whole !))))) (from ! (stop !))
+        (init ! 53 refl (EL.lawful D.the-type D′.the-laws 𝓤 H A W tt .typed (r .answer) _ (LL.owed P.the-type P′.the-laws r _ is .0) .0)) $
+        returns ! (look ! 53 refl) $ freed ! 53 [] _ refl $
         owned ! D.the-row (Is D.the-row) (EL.makes D.the-type D′.the-plain 𝓤 H A) (r .answer) _ (LL.owed P.the-type P′.the-laws r _ is .0) $
-        keep ! (1 ∷ 4 ∷ 5 ∷ 6 ∷ 3 ∷ 2 ∷ 7 ∷ 8 ∷ 9 ∷ 0 ∷ []) $
+        keep ! (1 ∷ 4 ∷ 5 ∷ 6 ∷ 7 ∷ 3 ∷ 2 ∷ 8 ∷ 9 ∷ 10 ∷ 11 ∷ 0 ∷ []) $
         by ! (leaves 𝓤 H A f.ended (f.clauses 𝓤 H A mem run) bound W _ (r .answer)
-        (tt, (tt, (tt, (ws′ .0, (ws .1 .1 .1 .1 .0, (ws .1 .1 .1 .1 .1 .0, (ws .1 .1 .1 .1 .1 .1 .0, tt)))))))
-        (factI 𝓤 _ (emp 𝓤) (record { decoded = e .decoded; symbols = e′ ∙ ap (lentSymbols n) (e .lies .are) }))))))))))))))))))))))))))))
+        (tt, (tt, (tt, (ws′ .0, (ws .1 .1 .1 .1 .0, (ws .1 .1 .1 .1 .1 .0, (ws .1 .1 .1 .1 .1 .1 .0, (ws .1 .1 .1 .1 .1 .1 .1 .0, tt))))))))
+        (factI 𝓤 _ (emp 𝓤) (record { decoded = e .decoded; symbols = e′ ∙ ap (lentSymbols n) (e .lies .are) })))))))))))))))))))))))))))))))
 
   meets : Meets 𝓤 H A f.signature (WpFn 𝓤 H (𝓣 .C) (𝓣 .Λ) code.function) (f.spec 𝓤 H A mem run)
   meets =
@@ -160,7 +165,10 @@ module _ {M : Type 1} (𝓤 : URA M) (H : Heap 𝓤) (A : Atoms 𝓤) (W : Given
               mut-slice-tells (named 1) (κs .1 .0) T.the-row,
               (
                 mut-slice-tells (named 2) (κs .1 .1 .0) u64,
-                (mut-slice-tells (named 3) (κs .1 .1 .1 .0) u64, (mut-slice-tells (named 4) (κs .1 .1 .1 .1 .0) u64, tt)),
+                (
+                  mut-slice-tells (named 3) (κs .1 .1 .1 .0) u64,
+                  (mut-slice-tells (named 4) (κs .1 .1 .1 .1 .0) u64, (mut-slice-tells (named 5) (κs .1 .1 .1 .1 .1 .0) u8, tt)),
+                ),
               ),
             ),
           ),

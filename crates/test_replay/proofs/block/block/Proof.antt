@@ -8,4 +8,4 @@ use f.Tie as tie
 pub block-spec : {M : Type 1} → f.Statement.statement M
 block-spec =
     tie.close (tie.spec (search needs) (λ c. sym (length-take-le _ _ (search needs))) (search needs) (λ c. sym (length-take-le _ _ (search needs)))
-    (search needs) (search needs) (search needs) (search needs))
+    (search needs) (λ c. sym (length-take-le _ _ (search needs))) (search needs) (search needs) (search needs) (search needs) (search needs))

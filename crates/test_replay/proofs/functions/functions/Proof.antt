@@ -8,4 +8,5 @@ use f.Tie as tie
 pub functions-spec : {M : Type 1} → f.Statement.statement M
 functions-spec =
     tie.close (tie.spec (search needs) (λ c. sym (length-take-le _ _ (search needs))) (search needs) (λ c. sym (length-take-le _ _ (search needs)))
-    (search needs) (λ c. sym (length-take-le _ _ (search needs))) (search needs) (search needs) (search needs) (search needs) (search needs))
+    (search needs) (λ c. sym (length-take-le _ _ (search needs))) (search needs) (λ c. sym (length-take-le _ _ (search needs)))
+    (search needs) (search needs) (search needs) (search needs) (search needs) (search needs))
