@@ -2,11 +2,11 @@
  *
  * Link target/staticlib/libfalgnust.a, which `rt staticlib falgnust` writes (x86-64 Linux). The functions of crates/falgnust/src are
  * declared here in full; each has there, as its contract, the definition that its answer is proved to equal. They allocate nothing, keep
- * nothing between calls, write to the lent tables alone, and may be called from several threads.
+ * nothing between calls, write to the lent tables and to a register that is brought alone, and may be called from several threads.
  *
  * What a caller owes, since nothing checks it:
  *   - a pointer is not null and is valid for the length after it, also where that is 0;
- *   - a lent table overlaps neither another lent table nor the bytes.
+ *   - a lent table or a register overlaps neither another one nor the bytes.
  *
  * What a caller gets: an answer that is accepted, with zeros in its refusal; or refused, with the kind, number and offset of document 01
  * (docs/01-scope.md) and zeros in the other fields, but for a cursor. After a refusal each table that was lent is zeros, whole;
@@ -27,7 +27,7 @@ extern "C" {
 
 /* The version of this header: ten thousand times the first number, a hundred times the second, and the third. The first rises where a
  * struct, an argument or an answer changes, and the second where something is added. */
-#define FALGNUST_VERSION 50000
+#define FALGNUST_VERSION 50100
 
 /* Layouts: the size of each struct below is that of the struct in crates/falgnust/src. */
 #define FALGNUST_SIZE(type, size) FALGNUST_ASSERT(sizeof(type) == (size), #type " has another layout")
@@ -57,7 +57,7 @@ typedef struct FalgnustRefusal {
 FALGNUST_SIZE(FalgnustRefusal, 16);
 
 /* The message of each number, in the Rust's words; after those of 31, 36 and 73 the Rust writes the count; 63, 64 and 72 have three each
- * there, and 71 two. 0 stands for no refusal, and 66 to 70 are not given. */
+ * there, and 71 two; it has none of 61, 62 and 66 to 68. 0 stands for no refusal, and 69 and 70 are not given. */
 static const char *const FALGNUST_MESSAGES[74] = {
     "accepted",
     "missing mandatory EVR0 section",
@@ -125,7 +125,10 @@ static const char *const FALGNUST_MESSAGES[74] = {
     "function's name length or code length cut, or its block past the end",
     "function's name empty, too long, cut or not UTF-8",
     "too many functions (>1024)",
-    "", "", "", "", "",
+    "path of more than 16 components",
+    "path touches a lock of another owner, and either is a write",
+    "more than 256 locks",
+    "", "",
     "OWN0 or SIG0 section missing",
     "parameter count or family cut, or family unknown",
     "too many callable-signature parameters: "
@@ -536,6 +539,67 @@ FalgnustFunction falgnust_function_number(
     uint64_t *strings, size_t strings_len,
     uint64_t *paths, size_t paths_len,
     uint8_t *families, size_t families_len);
+
+/* ---- Locks ----
+ *
+ * A register holds at most 256 locks, each of an owner on a path of some block. The caller keeps it between calls; it needs no constructor, since
+ * zeros are the empty register, and any words mean some register. It is no lent table: nothing clears it, and a refused claim leaves every
+ * word as it was. One call at a time may have it.
+ *
+ * An owner claims all paths of a block or none. Two paths touch when one is the beginning of the other, root and components compared: a bare root
+ * touches all below it, and equal paths touch. Borrows of different owners may touch, a write may touch nothing of another owner, and an
+ * owner never hinders itself. */
+
+typedef struct FalgnustRegister {
+    uint64_t words[6145]; /* how many locks are held, and 24 words for each: for the functions below alone to read */
+} FalgnustRegister;
+FALGNUST_SIZE(FalgnustRegister, 49160);
+
+typedef struct FalgnustClaim {
+    bool accepted;
+    FalgnustRefusal refusal;
+    size_t held; /* how many locks are held afterwards */
+} FalgnustClaim;
+FALGNUST_SIZE(FalgnustClaim, 32);
+
+/* An owner, any number, claims the paths of a block. The block is decoded first, with the refusals and the tables of the block's decoder,
+ * base_offset in their offsets, and room for 8192 symbols. Then, at 0: 66 where a path has more than 16 components, 67 where a path touches one
+ * that another owner holds and either is a write, 68 where more than 256 locks would be held. Else there is a lock more for each path, in
+ * the block's order, also where it equals one that is held; a block without paths is accepted by a full register too. */
+FalgnustClaim falgnust_claim(
+    FalgnustRegister *locks, uint32_t owner,
+    size_t base_offset, const uint8_t *code, size_t code_len, uint16_t header_rev,
+    uint64_t *strings, size_t strings_len,
+    uint64_t *paths, size_t paths_len,
+    uint8_t *families, size_t families_len);
+
+/* Drops exactly what an owner holds; nothing is dropped where it holds nothing. The others stay in their order. The answer is how many locks are
+ * held afterwards. */
+size_t falgnust_release(FalgnustRegister *locks, uint32_t owner);
+
+/* How many locks are held. */
+size_t falgnust_held(const FalgnustRegister *locks);
+
+typedef struct FalgnustLock {
+    bool accepted;
+    FalgnustRefusal refusal;
+    uint32_t owner;
+    bool write; /* a borrow where it is not */
+    uint32_t root_symbol_id;
+    size_t component_count;
+} FalgnustLock;
+FALGNUST_SIZE(FalgnustLock, 48);
+
+typedef struct FalgnustLockPart {
+    bool accepted;
+    FalgnustRefusal refusal;
+    FalgnustParts component;
+} FalgnustLockPart;
+FALGNUST_SIZE(FalgnustLockPart, 40);
+
+/* A held lock by its number, in the order in which they were claimed, and a component of its path; 62 at 0 where there is none. */
+FalgnustLock falgnust_lock_number(const FalgnustRegister *locks, size_t number);
+FalgnustLockPart falgnust_lock_part(const FalgnustRegister *locks, size_t number, size_t part);
 
 /* ---- Texts and fields ---- */
 

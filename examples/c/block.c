@@ -21,14 +21,6 @@ static void print_symbol(size_t number, FalgnustDebugSymbol s) {
     printf("symbol %zu: pc %zu, line %" PRIu32 ", column %" PRIu16 "\n", number, s.pc, s.line, s.col);
 }
 
-static void print_component(FalgnustParts c) {
-    static const char *const kinds[] = {"tuple index", "field", "variant", "sequence index"};
-    printf("  %s %" PRIu32, kinds[c.kind], c.first);
-    if (c.kind == FALGNUST_ADT_PAYLOAD)
-        printf(", index %" PRIu16, c.second);
-    printf("\n");
-}
-
 static void print_path(const Input *block, uint16_t revision, size_t number, size_t at) {
     static const char *const events[] = {
         "borrow", "borrow on frame entry", "borrow at store site", "write", "write at store site", "write at record site",

@@ -65,3 +65,11 @@ void print_digest(const uint8_t digest[32]) {
     for (size_t i = 0; i < 32; i++)
         printf("%02" PRIx8, digest[i]);
 }
+
+void print_component(FalgnustParts c) {
+    static const char *const kinds[] = {"tuple index", "field", "variant", "sequence index"};
+    printf("  %s %" PRIu32, kinds[c.kind], c.first);
+    if (c.kind == FALGNUST_ADT_PAYLOAD)
+        printf(", index %" PRIu16, c.second);
+    printf("\n");
+}

@@ -1,4 +1,4 @@
-/* What the programs share: a whole file as bytes, lent tables, and how refusals and bytes are printed. */
+/* What the programs share: a whole file as bytes, lent tables, and how refusals, bytes and components are printed. */
 #ifndef INPUT_H
 #define INPUT_H
 
@@ -23,5 +23,8 @@ int refused(FalgnustRefusal refusal);
 
 void print_text(const uint8_t *bytes, size_t len);
 void print_digest(const uint8_t digest[32]);
+
+/* On a line of its own. */
+void print_component(FalgnustParts component);
 
 #endif

@@ -12,7 +12,7 @@ use std::process::{Command, Stdio};
 
 const SUMS: &str = include_str!("sources.sha256");
 const MODULES: [&str; 3] = ["evr0", "local_format", "semcode_decode"];
-const PLAIN: [&str; 1] = ["marks"];
+const PLAIN: [&str; 2] = ["locks", "marks"];
 
 fn main() {
     println!("cargo::rerun-if-changed=build.rs");

@@ -1,6 +1,7 @@
 """The inputs of docs/REFUSALS.md, as the tables there have them.
 
-An input is a row's cell `WORDS` with what is asked after it (rev N, room A B C, string N, from N, ..); docs/REFUSALS.md says how words are read.
+An input is a row's cell `WORDS` with what is asked after it (rev N, room A B C, string N, from N, claim N, held N `WORDS`, ..); docs/REFUSALS.md says
+how words are read.
 """
 import dataclasses
 import os
@@ -9,18 +10,21 @@ import re
 TOP = os.path.dirname(os.path.dirname(os.path.dirname(os.path.abspath(__file__))))
 DOCUMENT = os.path.join(TOP, "docs", "REFUSALS.md")
 KINDS = ("Invalid", "Limit", "Strings", "Debug", "Ownership", "Added", "Truncated", "Name", "Signature")
-LONGEST = {"section": (65536, 65536, 65536), "block": (256, 8192, 65535, 4096), "functions": (1024, 256, 8192, 65535, 4096)}  # lent tables that are never too short
+BLOCK = (256, 8192, 65535, 4096)  # lent tables that are never too short
+LONGEST = {"section": (65536, 65536, 65536), "block": BLOCK, "functions": (1024, *BLOCK), "locks": BLOCK}
+OF_LOCKS = ("claim", "lock", "part")
 
 
 @dataclasses.dataclass
 class Case:
     line: int  # of the document
-    form: str  # "section" (at cursor 0), "block" (at base 0) or "functions" (from cursor 0)
+    form: str  # "section" (at cursor 0), "block" (at base 0), "functions" (from cursor 0) or "locks" (a block that is claimed, or a register)
     data: bytes
     revision: int  # of a block or file
     rooms: tuple  # lengths of the lent tables: propositions, proofs, depths; or functions, of a file, strings, symbols, paths, families
     marks: int  # length of the table of marks where it differs from that of depths, or None
-    asked: tuple  # (what, number) of a record by number, or None
+    asked: tuple  # (what, number) of a record by number or of a claim, or None
+    held: list  # (owner, block) of each claim before
     number: int
     kind: str
     offset: int
@@ -104,12 +108,15 @@ def cases():
         if not row.get("Input", "none").startswith("`"):
             continue
         text, rest = re.fullmatch(r"`([^`]*)`(.*)", row["Input"]).groups()
-        revision, rooms, asked = asked_of(rest)
+        held = [(int(owner), read(block, names)) for owner, block in re.findall(r"held (\d+) `([^`]*)`", rest)]
+        revision, rooms, asked = asked_of(re.sub(r"held \d+ `[^`]*`", "", rest))
         refused, offset = (int(n) for n in row["Answer"].split(" at "))
         form = "section" if refused <= 29 or text.startswith("EVR0") else "functions" if "from 0" in rest else "block"
+        if asked and asked[0] in OF_LOCKS:
+            form = "locks"
         rooms, marks = rooms or LONGEST[form], None
         if form == "section" and len(rooms) > 3:
             *rooms, marks = rooms
         data = b"" if text == "-" else read(text, names)
-        found.append(Case(at, form, data, revision, tuple(rooms), marks, asked, refused, kinds[refused], offset))
+        found.append(Case(at, form, data, revision, tuple(rooms), marks, asked, held, refused, kinds[refused], offset))
     return found

@@ -4,7 +4,9 @@
 use crate::raw::*;
 
 mod functions;
+mod locks;
 pub use functions::*;
+pub use locks::*;
 
 /// The tables that are lent for a section: the start of each proposition and of each proof in the payload, and each proof's depth.
 pub struct SectionTables<'a> {

@@ -2,7 +2,7 @@
 //!
 //! The module [`evr0`] takes the place of the one of that name in skulmakov-oss/Semantic, whole: the same functions, types, fields and
 //! messages, so that a caller changes a path and nothing else. [`semcode_decode`] has the parts of that module that read a file's functions
-//! and a function's block, which is private there; `decode_semcode` itself is missing. Behind both stands the static library that
+//! and a function's block, which is private there; `decode_semcode` itself is missing. [`locks`] is not in the original: it keeps which paths are claimed. Behind all stands the static library that
 //! `rt staticlib falgnust` writes; nothing here parses a byte.
 //!
 //! ```
@@ -31,6 +31,7 @@
 #[allow(unsafe_code)]
 pub mod calls;
 pub mod evr0;
+pub mod locks;
 #[allow(unsafe_code)]
 pub mod raw;
 pub mod semcode_decode;

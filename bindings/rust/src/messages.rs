@@ -1,7 +1,7 @@
 //! Document 01's numbers and the messages of skulmakov-oss/Semantic.
 
-/// Those of 31, 36 and 73 go on with the count; 63, 64 and 72 have three each, 71 two.
-const MESSAGES: [(u8, &str); 73] = [
+/// Those of 31, 36 and 73 go on with the count; 63, 64 and 72 have three each, 71 two. 66 to 68 are not the original's.
+const MESSAGES: [(u8, &str); 76] = [
     (1, "missing mandatory EVR0 section"),
     (2, "EVR0 length truncated"),
     (3, "EVR0 payload exceeds bounded section budget or is empty"),
@@ -78,6 +78,12 @@ const MESSAGES: [(u8, &str); 73] = [
     (64, NAME_TOO_LONG),
     (64, NAME_NOT_UTF8),
     (65, "too many functions (>1024)"),
+    (66, "path of more than 16 components"),
+    (
+        67,
+        "path touches a lock of another owner, and either is a write",
+    ),
+    (68, "more than 256 locks"),
     (71, OWNERSHIP_ABSENT),
     (71, SIGNATURE_ABSENT),
     (72, PARAMETER_COUNT_CUT),

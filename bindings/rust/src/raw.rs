@@ -2,13 +2,14 @@
 //! the order and names of the Rattle source; `tools/declarations/check` compares them.
 //!
 //! A slice is a pointer and a length. A pointer has to be valid for its length, and a table that is lent (`*mut`) may overlap neither
-//! another one nor the bytes. An answer is a flat struct: `accepted`, then a refusal that is all zeros where `accepted` holds, then values
+//! another one nor the bytes, nor a register. An answer is a flat struct: `accepted`, then a refusal that is all zeros where `accepted` holds, then values
 //! that are all zeros where it does not. After a refusal every lent table is zeros, whole; otherwise entries past a count are zeros.
 //!
 //! [`calls`](crate::calls) has the same functions on slices, without `unsafe`.
 
 mod block;
 mod functions;
+mod locks;
 mod record;
 mod section;
 mod text;
@@ -16,6 +17,7 @@ mod words;
 
 pub use block::*;
 pub use functions::*;
+pub use locks::*;
 pub use record::*;
 pub use section::*;
 pub use text::*;

@@ -19,6 +19,7 @@ mod tables;
 pub use error::DecodeError;
 pub use functions::*;
 pub use number::*;
+pub(crate) use records::of_parts;
 pub use signature::*;
 use tables::Lent;
 
@@ -145,14 +146,14 @@ pub fn parse_string_table_debug_and_ownership(
 }
 
 /// What is decoded.
-struct Block<'a> {
+pub(crate) struct Block<'a> {
     base_offset: usize,
     code: &'a [u8],
     header_rev: u16,
 }
 
 impl<'a> Block<'a> {
-    fn new(base_offset: usize, code: &'a [u8], header_rev: u16) -> Self {
+    pub(crate) fn new(base_offset: usize, code: &'a [u8], header_rev: u16) -> Self {
         Block {
             base_offset,
             code,

@@ -3,3 +3,4 @@ pub mod BlockMaps
 pub mod SectionMaps
 pub mod EntryMaps
 pub mod FunctionMaps
+pub mod LockMaps

@@ -10,6 +10,7 @@ pub mod proof;
 pub mod proposition;
 pub mod record;
 pub mod refusal;
+pub mod register;
 pub mod scan;
 pub mod section;
 pub mod span;

@@ -85,7 +85,7 @@ of-write x (borrow a) h = cc
 of-write x (write y) h = refl
 
 -- an event's kind is the byte that was read
-kind-read : (kind revision : ℕ) (s : List ℕ) (at : ℕ) {t : Taken Kinded} (e : Event) → eventOf kind revision s at ≡ ok t → t .value ≡ known e → kind
+pub kind-read : (kind revision : ℕ) (s : List ℕ) (at : ℕ) {t : Taken Kinded} (e : Event) → eventOf kind revision s at ≡ ok t → t .value ≡ known e → kind
     ≡ kindOfEvent e
 unfolding eventOf
 kind-read kind revision s at {t} e h k = go (eqb kind 0) (eqb kind 1) refl refl h
@@ -106,7 +106,7 @@ kind-read kind revision s at {t} e h k = go (eqb kind 0) (eqb kind 1) refl refl 
         eqb-true kind 1 q ∙ of-write (x .0 .value) e (ap (λ (t : Taken Kinded). t .value) (ok-same (x .2)) ∙ k)
     go false false p q r = let u : unknown ≡ known e = ap (λ (t : Taken Kinded). t .value) (ok-same r) ∙ k in cc
 
-is-known : (number at : ℕ) (kinded : Kinded) {e : Event} → orUnknown number at kinded ≡ ok e → kinded ≡ known e
+pub is-known : (number at : ℕ) (kinded : Kinded) {e : Event} → orUnknown number at kinded ≡ ok e → kinded ≡ known e
 is-known number at (known x) h = ap known (ok-same h)
 is-known number at unknown h = absurd (never h)
 

@@ -159,7 +159,7 @@ pub fn event_kind(event: DecodedEvent) -> u8
 }
 
 // What follows the event kind; an unknown kind brings no mode.
-fn after_event_kind(kind: u8, bytes: &[u8], at: usize, header_rev: u16) -> Event
+pub fn after_event_kind(kind: u8, bytes: &[u8], at: usize, header_rev: u16) -> Event
     ensures { λ r. ⌜ eventOut r ≡ eventOf kind «header_rev» (now (bytes .entry)) at ⌝ }
 {
     if kind == OWNERSHIP_EVENT_KIND_BORROW {

@@ -2,6 +2,7 @@
 
 pub mod block;
 pub mod functions;
+pub mod locks;
 pub mod refusal;
 pub mod section;
 pub mod text;

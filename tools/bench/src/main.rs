@@ -3,6 +3,7 @@
 mod asked;
 mod blocks;
 mod functions;
+mod locks;
 mod marks;
 mod measure;
 mod rows;

@@ -11,6 +11,8 @@ pub mod function_binding;
 pub mod function_compare;
 pub mod function_numbers;
 pub mod functions;
+pub mod lock_compare;
+pub mod locks;
 pub mod marks;
 pub mod neighbours;
 pub mod section_binding;

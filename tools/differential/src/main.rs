@@ -2,7 +2,7 @@
 
 use differential::tally::{LEAST, Tally};
 use differential::{
-    authorised, blocks, fields, functions, marks, neighbours, sections, texts, utf8,
+    authorised, blocks, fields, functions, locks, marks, neighbours, sections, texts, utf8,
 };
 use inputs::random::Random;
 
@@ -14,7 +14,7 @@ const USAGE: &str = "usage: differential [--seed N] [--count N] [--part NAME]";
 /// The parts of a run: a name, and what tries so many random inputs.
 type Part = (&'static str, fn(&mut Random, usize) -> Tally);
 
-const PARTS: [Part; 9] = [
+const PARTS: [Part; 10] = [
     ("fields", |r, _| fields::run(r)),
     ("utf8", |_, _| utf8::run()),
     ("texts", texts::run),
@@ -24,6 +24,7 @@ const PARTS: [Part; 9] = [
     ("authorised", authorised::run),
     ("blocks", blocks::run),
     ("functions", functions::run),
+    ("locks", locks::run),
 ];
 
 fn main() {
@@ -58,7 +59,7 @@ fn main() {
 
 const NOT_GIVEN: &str = "14 and 15 are never given: evr0_section/Stages.never-14-15.
 61 and 62 have no Rust side: they are compared with document 01.
-Marks and what they authorise have none either: they are compared with plain lines from document 02 over the Rust's records.";
+Marks and what they authorise have none either, nor have locks: they are compared with plain lines from document 02 over the Rust's records.";
 
 /// Whether every condition that can be reached was met often enough, and a tenth of the sections, of the blocks and of the files was accepted.
 fn enough(tallies: &[Tally]) -> bool {

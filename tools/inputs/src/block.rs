@@ -135,7 +135,7 @@ pub fn small_at(r: &mut Random, revision: u16) -> Block {
 }
 
 /// The signature that a revision asks for; most have a few parameters.
-fn signature(r: &mut Random, revision: u16) -> Option<Table<u8>> {
+pub(crate) fn signature(r: &mut Random, revision: u16) -> Option<Table<u8>> {
     let parameters = if r.one_in(400) {
         r.within(4094, 4096)
     } else {
@@ -205,7 +205,7 @@ pub fn large(r: &mut Random, revision: u16, counts: [usize; 3], components: usiz
     }
 }
 
-fn table<T>(tag: [u8; 4], items: Vec<T>) -> Table<T> {
+pub(crate) fn table<T>(tag: [u8; 4], items: Vec<T>) -> Table<T> {
     Table {
         tag,
         count: None,
@@ -254,7 +254,7 @@ pub fn path(r: &mut Random, revision: u16) -> Path {
     }
 }
 
-fn mode(r: &mut Random, revision: u16, event: u8) -> Vec<u8> {
+pub(crate) fn mode(r: &mut Random, revision: u16, event: u8) -> Vec<u8> {
     if revision < 21 {
         return Vec::new();
     }

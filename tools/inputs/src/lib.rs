@@ -8,6 +8,7 @@ pub mod cases;
 pub mod function_conditions;
 pub mod function_faults;
 pub mod functions;
+pub mod locks;
 pub mod marked;
 pub mod random;
 pub mod section;

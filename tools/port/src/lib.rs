@@ -3,6 +3,7 @@
 pub mod block;
 pub mod field;
 pub mod functions;
+pub mod locks;
 pub mod number;
 pub mod refusal;
 pub mod section;

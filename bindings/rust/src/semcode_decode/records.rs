@@ -116,12 +116,17 @@ pub fn symbol(read: raw::Symbol) -> Read<DecodedDebugSymbol> {
 #[inline]
 pub fn component(read: raw::Component) -> Read<DecodedAccessPathComponent> {
     accepted(read.accepted, read.refusal)?;
+    Ok(of_parts(read.component))
+}
+
+#[inline]
+pub(crate) fn of_parts(parts: raw::Parts) -> DecodedAccessPathComponent {
     let raw::Parts {
         kind,
         first,
         second,
-    } = read.component;
-    Ok(match kind {
+    } = parts;
+    match kind {
         0 => DecodedAccessPathComponent::TupleIndex(first as u16),
         1 => DecodedAccessPathComponent::FieldSymbol(first),
         2 => DecodedAccessPathComponent::AdtPayload {
@@ -130,7 +135,7 @@ pub fn component(read: raw::Component) -> Read<DecodedAccessPathComponent> {
         },
         3 => DecodedAccessPathComponent::SequenceIndexStatic(first),
         other => panic!("no component is {other}"),
-    })
+    }
 }
 
 /// A string of a block that was accepted.

@@ -35,7 +35,7 @@ impl Block<'_> {
     /// The answer of a call that lends tables. Few entries are lent first; where a count is more, and the call refuses with 61, it is made
     /// again with room for that count. So no answer is 61.
     #[inline]
-    pub fn lend<T>(&self, call: impl Fn(Lent) -> Read<T>) -> Read<T> {
+    pub fn lend<T>(&self, mut call: impl FnMut(Lent) -> Read<T>) -> Read<T> {
         let (mut symbols, mut strings, mut paths, mut families) =
             ([DebugSymbol::default(); FEW], [0; FEW], [0; FEW], [0; FEW]);
         let answer = call(Lent {
@@ -53,7 +53,7 @@ impl Block<'_> {
     }
 
     /// The count of the strings, which ends at place 2, or one of the others, which may be any; each refusal is of a later one.
-    fn lend_more<T>(&self, refused: Refusal, call: impl Fn(Lent) -> Read<T>) -> Read<T> {
+    fn lend_more<T>(&self, refused: Refusal, mut call: impl FnMut(Lent) -> Read<T>) -> Read<T> {
         let (mut refused, mut strings, mut others) = (refused, FEW, FEW);
         loop {
             let count = self.count_before(refused);

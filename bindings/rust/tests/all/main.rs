@@ -1,9 +1,10 @@
-//! The specimens of document 01 and files of functions through the binding, the lengths of lent tables, and the words of records.
+//! The specimens of document 01, files of functions and locks through the binding, the lengths of lent tables, and the words of records.
 
 mod blocks;
 mod characters;
 mod functions;
 mod least_tables;
+mod locks;
 mod marks;
 mod readme;
 mod sections;

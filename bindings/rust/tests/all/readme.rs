@@ -10,4 +10,5 @@ fn shown(example: &str) -> bool {
 fn readme_shows_the_examples() {
     assert!(shown(include_str!("../../examples/proofs.rs")));
     assert!(shown(include_str!("../../examples/functions.rs")));
+    assert!(shown(include_str!("../../examples/locks.rs")));
 }

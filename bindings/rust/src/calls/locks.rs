@@ -1,0 +1,56 @@
+//! Locks.
+
+use super::BlockTables;
+use crate::raw::*;
+
+/// An owner claims all paths of a block, or none. `lent` takes the block's tables.
+#[inline]
+pub fn claim(
+    register: &mut Register,
+    owner: u32,
+    base_offset: usize,
+    code: &[u8],
+    header_rev: u16,
+    lent: BlockTables,
+) -> Claim {
+    unsafe {
+        falgnust_claim(
+            register,
+            owner,
+            base_offset,
+            code.as_ptr(),
+            code.len(),
+            header_rev,
+            lent.strings.as_mut_ptr(),
+            lent.strings.len(),
+            lent.paths.as_mut_ptr(),
+            lent.paths.len(),
+            lent.families.as_mut_ptr(),
+            lent.families.len(),
+        )
+    }
+}
+
+/// Drops what an owner holds. The answer is how many locks are held afterwards.
+#[inline]
+pub fn release(register: &mut Register, owner: u32) -> usize {
+    unsafe { falgnust_release(register, owner) }
+}
+
+/// How many locks are held.
+#[inline]
+pub fn held(register: &Register) -> usize {
+    unsafe { falgnust_held(register) }
+}
+
+/// A lock by its number.
+#[inline]
+pub fn lock_number(register: &Register, number: usize) -> Lock {
+    unsafe { falgnust_lock_number(register, number) }
+}
+
+/// A component of a lock's path, both by number.
+#[inline]
+pub fn lock_part(register: &Register, number: usize, part: usize) -> LockPart {
+    unsafe { falgnust_lock_part(register, number, part) }
+}

@@ -1,0 +1,2 @@
+pub mod Lock
+pub mod Register

@@ -1,0 +1,9 @@
+pub mod WordLaws
+pub mod PlaceLaws
+pub mod LockLaws
+pub mod ReadLaws
+pub mod MeetLaws
+pub mod KeyLaws
+pub mod ClaimLaws
+pub mod BlockLaws
+pub mod CallLaws

@@ -1,0 +1,109 @@
+// Whether a lock that is held stands against one that is asked for: a key, which has the same 24 words.
+use crate::words::count;
+use crate::words::parts;
+use crate::words::word;
+ghost use mathlib.Core.Path.{_≡_};
+ghost use mathlib.Core.Bool.{true};
+ghost use Prim.Native.Nat.{_≤_, min};
+ghost use lib.ListN.{length};
+ghost use Rattle.locks.specs.Words.{sameRoot, slot, rootIn, lockIn, locksIn};
+ghost use Rattle.locks.specs.Phase.{Register, Place, eitherBegins, metAt, metBy, Passed};
+
+// Both have the same root.
+fn same_root(words: &[u64], lock: usize, key: &[u64]) -> bool
+    requires { ⌜ Place (now words) lock ⌝ }
+    requires { ⌜ length (now key) ≡ 24 ⌝ }
+    ensures { λ r. ⌜ r ≡ sameRoot (rootIn (slot (now (words .entry)) lock)) (rootIn (now (key .entry))) ⌝ }
+{
+    word(words, lock, 2) % 4294967296 == key[2] % 4294967296
+}
+
+fn shorter(a: usize, b: usize) -> usize
+    ensures { λ r. ⌜ r ≡ min a b ⌝ }
+{
+    if a < b { a } else { b }
+}
+
+// Both have the same parts up to the shorter. Paths of one record differ in their last part more often than in their first.
+fn parts_touch(words: &[u64], lock: usize, key: &[u64]) -> bool
+    requires { ⌜ Place (now words) lock ⌝ }
+    requires { ⌜ length (now key) ≡ 24 ⌝ }
+    ensures { λ r. ⌜ r ≡ eitherBegins (slot (now (words .entry)) lock) (now (key .entry)) ⌝ }
+{
+    let n = shorter(parts(word(words, lock, 3)), parts(key[3]));
+    let mut k = n;
+    while 0 < k {
+        k -= 1;
+        if word(words, lock, 8 + k) % 1125899906842624 != key[8 + k] % 1125899906842624 {
+            return false;
+        }
+    }
+    true
+}
+
+// A lock with the key's root stands against it.
+fn meets(words: &[u64], lock: usize, key: &[u64]) -> bool
+    requires { ⌜ Place (now words) lock ⌝ }
+    requires { ⌜ length (now key) ≡ 24 ⌝ }
+    requires { ⌜ sameRoot (rootIn (slot (now words) lock)) (rootIn (now key)) ≡ true ⌝ }
+    ensures { λ r. ⌜ r ≡ metAt (now (words .entry)) lock (now (key .entry)) ⌝ }
+{
+    if word(words, lock, 0) % 4294967296 == key[0] % 4294967296 {
+        return false;
+    }
+    if word(words, lock, 1) == 0 {
+        if key[1] == 0 {
+            return false;
+        }
+    }
+    parts_touch(words, lock, key)
+}
+
+// Passes locks with another symbol, four at a time.
+fn pass(words: &[u64], from: usize, n: usize, key: &[u64]) -> usize
+    requires { ⌜ Register (now words) ⌝ }
+    requires { ⌜ n ≤ 256 ⌝ }
+    requires { ⌜ from ≤ n ⌝ }
+    requires { ⌜ length (now key) ≡ 24 ⌝ }
+    ensures { λ r. ⌜ Passed (now (words .entry)) from r n (now (key .entry)) ⌝ }
+{
+    let symbol = key[2] % 4294967296;
+    let mut i = from;
+    while 3 < n - i {
+        if word(words, i, 2) % 4294967296 == symbol {
+            return i;
+        }
+        if word(words, i + 1, 2) % 4294967296 == symbol {
+            return i;
+        }
+        if word(words, i + 2, 2) % 4294967296 == symbol {
+            return i;
+        }
+        if word(words, i + 3, 2) % 4294967296 == symbol {
+            return i;
+        }
+        i += 4;
+    }
+    i
+}
+
+// Some lock that is held stands against the key.
+pub(crate) fn hindered(words: &[u64], key: &[u64]) -> bool
+    requires { ⌜ Register (now words) ⌝ }
+    requires { ⌜ length (now key) ≡ 24 ⌝ }
+    ensures { λ r. ⌜ r ≡ metBy (lockIn (now (key .entry))) (locksIn (now (words .entry))) ⌝ }
+{
+    let n = count(words);
+    let mut i = 0;
+    while i < n {
+        if same_root(words, i, key) {
+            if meets(words, i, key) {
+                return true;
+            }
+            i += 1;
+        } else {
+            i = pass(words, i + 1, n, key);
+        }
+    }
+    false
+}

@@ -1,0 +1,17 @@
+//! Locks.
+
+#[derive(Debug, Clone, PartialEq, Eq)]
+pub struct Lock {
+    pub owner: u32,
+    pub write: bool,
+    pub root: u32,
+    pub parts: Vec<Part>,
+}
+
+/// A component by its kind's byte, and its one or two numbers.
+#[derive(Debug, Clone, Copy, PartialEq, Eq)]
+pub struct Part {
+    pub kind: u8,
+    pub first: u32,
+    pub second: u16,
+}
