@@ -51,7 +51,7 @@ class Section:
         return number
 
     def payload(self):
-        out = struct.pack("<HH", self.schema, self.flags) + bytes(range(64)) + struct.pack("<H", self.epoch) + self.policy + self.issuer
+        out = bytearray(struct.pack("<HH", self.schema, self.flags) + bytes(range(64)) + struct.pack("<H", self.epoch) + self.policy + self.issuer)
         tables = (self.propositions, self.proofs, self.witnesses, self.parents)
         out += words(*(len(t) if n is None else n for t, n in zip(tables, self.counts)))
         for kind, *numbers in self.propositions:
@@ -63,7 +63,7 @@ class Section:
         for w in self.witnesses:
             out += words(w["number"], w["proposition"]) + bytes([w["polarity"]]) + w["zeros"] + bytes(range(32))
             out += words(w["start"], w["end"]) + bytes(range(32, 64))
-        return out + words(*self.parents) + self.more
+        return bytes(out + words(*self.parents) + self.more)
 
     def bytes(self):
         payload = self.payload()

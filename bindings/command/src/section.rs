@@ -1,0 +1,139 @@
+//! `falgnust section`: what an evidence section holds.
+
+use crate::Stop;
+use crate::args::Args;
+use crate::paint::Paint;
+use crate::progress::ask_all;
+use crate::refusal::Refusal;
+use crate::source::Source;
+use falgnust::calls;
+use falgnust::evr0::{self, DecodedEvr0, Proof};
+use falgnust::raw::WayDown;
+use lent::Lent;
+use std::io;
+
+mod lent;
+mod one;
+mod script;
+mod tables;
+
+/// The headings of docs/REFUSALS.md that speak of sections.
+pub const HEADINGS: &[&str] = &["Sections"];
+
+/// The most moves of a way down in an accepted section.
+const MOST_MOVES: u64 = 255;
+
+/// A section, with what the proved functions say of its proofs beside the records.
+pub struct Section<'a> {
+    bytes: &'a [u8],
+    /// Where it starts in the file, and where it ends.
+    at: usize,
+    end: usize,
+    records: DecodedEvr0,
+    depths: Vec<u64>,
+    marks: Vec<u8>,
+}
+
+impl<'a> Section<'a> {
+    pub fn decode(bytes: &'a [u8], at: usize) -> Result<Self, Refusal> {
+        let mut end = at;
+        let records = evr0::decode_evr0_section(bytes, &mut end)?;
+        let mut lent = Lent::to(&records);
+        let (tables, marks) = lent.tables();
+        let again = calls::decode_evr0_section(bytes, at, tables, marks);
+        assert!(again.accepted, "the same section");
+        Ok(Section {
+            bytes,
+            at,
+            end,
+            records,
+            depths: lent.depths,
+            marks: lent.marks,
+        })
+    }
+
+    /// Whether each of these propositions is authorised.
+    fn authorised(&self, propositions: &[u32]) -> Vec<bool> {
+        let ask = |lent: &mut Lent, number| {
+            let (tables, marks) = lent.tables();
+            let answer = calls::authorised(self.bytes, self.at, number, tables, marks);
+            assert!(answer.accepted, "a proposition of the section");
+            answer.authorised
+        };
+        let what = "propositions authorised or not";
+        ask_all(what, propositions, || Lent::to(&self.records), ask)
+    }
+
+    /// The way down from each of these proofs.
+    fn ways_down(&self, proofs: &[u32]) -> Vec<WayDown> {
+        let ask = |lent: &mut Lent, number| self.way_down(number, MOST_MOVES, lent);
+        ask_all("ways down", proofs, || Lent::to(&self.records), ask)
+    }
+
+    fn way_down(&self, proof: u32, limit: u64, lent: &mut Lent) -> WayDown {
+        let answer = calls::way_down(self.bytes, self.at, proof, limit, lent.tables().0);
+        assert!(answer.accepted, "a proof of the section");
+        answer
+    }
+
+    fn all_propositions(&self) -> Vec<u32> {
+        (0..self.records.propositions.len() as u32).collect()
+    }
+
+    fn all_proofs(&self) -> Vec<u32> {
+        (0..self.records.proofs.len() as u32).collect()
+    }
+
+    fn proof(&self, number: u32) -> &Proof {
+        &self.records.proofs[number as usize]
+    }
+
+    /// The proofs that a proof rests on.
+    fn parents(&self, proof: &Proof) -> &[u32] {
+        &self.records.parents[proof.parent_first as usize..][..proof.parent_count as usize]
+    }
+}
+
+/// The witnesses that a proof rests on.
+fn witnesses(proof: &Proof) -> std::ops::Range<u32> {
+    proof.witness_first..proof.witness_first + proof.witness_count
+}
+
+/// What is asked for.
+enum Asked {
+    All,
+    Proposition(u32),
+    Proof(u32),
+}
+
+pub fn run(mut args: Args, answer: &mut Vec<u8>) -> Result<(), Stop> {
+    let at = args.number("--at")?.unwrap_or(0);
+    let is_script = args.flag("--json");
+    let asked = match (args.number("--proposition")?, args.number("--proof")?) {
+        (None, None) => Asked::All,
+        (Some(number), None) => Asked::Proposition(number),
+        (None, Some(number)) => Asked::Proof(number),
+        (Some(_), Some(_)) => {
+            let why = "--proposition and --proof: one of the two";
+            return Err(Stop::Failed(why.to_owned()));
+        }
+    };
+    let source = Source::read(&args.last("file")?)?;
+    match shown(&source, at, asked, is_script) {
+        Ok(shown) => answer.extend(shown.bytes()),
+        Err(refusal) => refusal.of(source, HEADINGS).end(is_script, answer)?,
+    }
+    Ok(())
+}
+
+fn shown(source: &Source, at: usize, asked: Asked, is_script: bool) -> Result<String, Refusal> {
+    let section = Section::decode(&source.bytes, at)?;
+    let paint = Paint::of(&io::stdout());
+    let shown = match asked {
+        Asked::All if is_script => format!("{}\n", section.json(&source.name)),
+        Asked::All => section.tables(&source.name, paint),
+        Asked::Proposition(number) => section.one_proposition(number, is_script, paint)?,
+        Asked::Proof(number) => section.one_proof(number, is_script, paint)?,
+    };
+    Ok(shown.trim_start().to_owned())
+}
