@@ -27,7 +27,7 @@ extern "C" {
 
 /* The version of this header: ten thousand times the first number, a hundred times the second, and the third. The first rises where a
  * struct, an argument or an answer changes, and the second where something is added. */
-#define FALGNUST_VERSION 50100
+#define FALGNUST_VERSION 60000
 
 /* Layouts: the size of each struct below is that of the struct in crates/falgnust/src. */
 #define FALGNUST_SIZE(type, size) FALGNUST_ASSERT(sizeof(type) == (size), #type " has another layout")
@@ -546,9 +546,10 @@ FalgnustFunction falgnust_function_number(
  * zeros are the empty register, and any words mean some register. It is no lent table: nothing clears it, and a refused claim leaves every
  * word as it was. One call at a time may have it.
  *
- * An owner claims all paths of a block or none. Two paths touch when one is the beginning of the other, root and components compared: a bare root
- * touches all below it, and equal paths touch. Borrows of different owners may touch, a write may touch nothing of another owner, and an
- * owner never hinders itself. */
+ * An owner claims all paths of a block or none, and brings the source set, any 32 bytes, in which the block's symbols are numbered. Two paths touch when
+ * one is the beginning of the other, root and components compared: a bare root touches all below it, and equal paths touch. Roots are the same where
+ * symbol and source set are both the same. Borrows of different owners may touch, a write may touch nothing of another owner, and an owner
+ * never hinders itself, whatever sets it brings. */
 
 typedef struct FalgnustRegister {
     uint64_t words[6145]; /* how many locks are held, and 24 words for each: for the functions below alone to read */
@@ -568,12 +569,12 @@ FALGNUST_SIZE(FalgnustClaim, 32);
  * the block's order, also where it equals one that is held; a block without paths is accepted by a full register too. */
 FalgnustClaim falgnust_claim(
     FalgnustRegister *locks, uint32_t owner,
-    size_t base_offset, const uint8_t *code, size_t code_len, uint16_t header_rev,
+    size_t base_offset, const uint8_t *code, size_t code_len, uint16_t header_rev, const uint8_t source[32],
     uint64_t *strings, size_t strings_len,
     uint64_t *paths, size_t paths_len,
     uint8_t *families, size_t families_len);
 
-/* Drops exactly what an owner holds; nothing is dropped where it holds nothing. The others stay in their order. The answer is how many locks are
+/* Drops exactly what an owner holds, of every source set; nothing is dropped where it holds nothing. The others stay in their order. The answer is how many locks are
  * held afterwards. */
 size_t falgnust_release(FalgnustRegister *locks, uint32_t owner);
 
@@ -587,8 +588,9 @@ typedef struct FalgnustLock {
     bool write; /* a borrow where it is not */
     uint32_t root_symbol_id;
     size_t component_count;
+    uint8_t source[32]; /* the set that was brought with the claim */
 } FalgnustLock;
-FALGNUST_SIZE(FalgnustLock, 48);
+FALGNUST_SIZE(FalgnustLock, 80);
 
 typedef struct FalgnustLockPart {
     bool accepted;

@@ -2,7 +2,8 @@
  *
  *   locks FILE CURSOR REVISION STEP..      ("-" is standard input)
  *
- * A step OWNER:FUNCTION claims the paths of a function by its number; a step OWNER releases what the owner holds. */
+ * A step OWNER:FUNCTION:SET claims the paths of a function by its number, under a source set of 32 bytes SET (0 where it is left out); a step
+ * OWNER releases what the owner holds. */
 #include "input.h"
 
 #include <inttypes.h>
@@ -27,8 +28,10 @@ typedef struct Functions {
 
 static FalgnustRegister locks; /* zeros: the empty register */
 
-static void claim(const Functions *all, uint32_t owner, size_t number, Lent lent) {
+static void claim(const Functions *all, uint32_t owner, size_t number, uint8_t set, Lent lent) {
     printf("owner %" PRIu32 " claims ", owner);
+    uint8_t source[32];
+    memset(source, set, sizeof source);
     const Input *file = &all->file;
     FalgnustFunction f = falgnust_function_number(
         file->bytes, file->len, all->cursor, all->revision, number, lent.functions, MOST_FUNCTIONS,
@@ -38,9 +41,9 @@ static void claim(const Functions *all, uint32_t owner, size_t number, Lent lent
         return;
     }
     print_text(file->bytes + f.name.start, f.name.len);
-    printf(": ");
+    printf(" of set %u: ", set);
     FalgnustClaim c = falgnust_claim(
-        &locks, owner, f.code_offset, file->bytes + f.code_offset, f.code_len, all->revision,
+        &locks, owner, f.code_offset, file->bytes + f.code_offset, f.code_len, all->revision, source,
         lent.strings, MOST_STRINGS, lent.paths, MOST_PATHS, lent.families, MOST_FAMILIES);
     if (c.accepted)
         printf("%zu held\n", c.held);
@@ -51,19 +54,19 @@ static void claim(const Functions *all, uint32_t owner, size_t number, Lent lent
 static void print_locks(void) {
     for (size_t i = 0; i < falgnust_held(&locks); i++) {
         FalgnustLock l = falgnust_lock_number(&locks, i);
-        printf("lock %zu: owner %" PRIu32 " %s root %" PRIu32 "\n", i, l.owner, l.write ? "writes" : "borrows", l.root_symbol_id);
+        printf("lock %zu: owner %" PRIu32 " %s root %" PRIu32 " of ", i, l.owner, l.write ? "writes" : "borrows", l.root_symbol_id);
+        print_digest(l.source);
+        printf("\n");
         for (size_t k = 0; k < l.component_count; k++)
             print_component(falgnust_lock_part(&locks, i, k).component);
     }
 }
 
 static void step(const Functions *all, char *word, Lent lent) {
-    char *colon = strchr(word, ':');
-    if (colon != NULL)
-        *colon = '\0';
-    uint32_t owner = (uint32_t)number_in(word, UINT32_MAX);
-    if (colon != NULL)
-        claim(all, owner, number_in(colon + 1, SIZE_MAX), lent);
+    char *owner_word = strtok(word, ":"), *function = strtok(NULL, ":"), *set = strtok(NULL, ":");
+    uint32_t owner = (uint32_t)number_in(owner_word == NULL ? "" : owner_word, UINT32_MAX);
+    if (function != NULL)
+        claim(all, owner, number_in(function, SIZE_MAX), set == NULL ? 0 : (uint8_t)number_in(set, UINT8_MAX), lent);
     else
         printf("owner %" PRIu32 " releases: %zu held\n", owner, falgnust_release(&locks, owner));
 }

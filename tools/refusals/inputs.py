@@ -1,6 +1,6 @@
 """The inputs of docs/REFUSALS.md, as the tables there have them.
 
-An input is a row's cell `WORDS` with what is asked after it (rev N, room A B C, string N, from N, claim N, held N `WORDS`, ..); docs/REFUSALS.md says
+An input is a row's cell `WORDS` with what is asked after it (rev N, room A B C, string N, from N, claim N, set N, held N `WORDS`, ..); docs/REFUSALS.md says
 how words are read.
 """
 import dataclasses
@@ -24,7 +24,8 @@ class Case:
     rooms: tuple  # lengths of the lent tables: propositions, proofs, depths; or functions, of a file, strings, symbols, paths, families
     marks: int  # length of the table of marks where it differs from that of depths, or None
     asked: tuple  # (what, number) of a record by number or of a claim, or None
-    held: list  # (owner, block) of each claim before
+    set: int  # each byte of the source set of the claim
+    held: list  # (owner, block) of each claim before, under the set of zeros
     number: int
     kind: str
     offset: int
@@ -71,18 +72,20 @@ def cells(line):
 
 
 def asked_of(text):
-    revision, rooms, asked = 19, None, None
+    revision, rooms, asked, source = 19, None, None, 0
     for what, numbers in re.findall(r"([a-z]+)((?: \d+)+)", text):
         numbers = [int(n) for n in numbers.split()]
         if what == "from":
             continue
         if what == "rev":
             (revision,) = numbers
+        elif what == "set":
+            (source,) = numbers
         elif what == "room":
             rooms = tuple(numbers)
         else:
             asked = (what, *numbers)
-    return revision, rooms, asked
+    return revision, rooms, asked, source
 
 
 def cases():
@@ -109,7 +112,7 @@ def cases():
             continue
         text, rest = re.fullmatch(r"`([^`]*)`(.*)", row["Input"]).groups()
         held = [(int(owner), read(block, names)) for owner, block in re.findall(r"held (\d+) `([^`]*)`", rest)]
-        revision, rooms, asked = asked_of(re.sub(r"held \d+ `[^`]*`", "", rest))
+        revision, rooms, asked, source = asked_of(re.sub(r"held \d+ `[^`]*`", "", rest))
         refused, offset = (int(n) for n in row["Answer"].split(" at "))
         form = "section" if refused <= 29 or text.startswith("EVR0") else "functions" if "from 0" in rest else "block"
         if asked and asked[0] in OF_LOCKS:
@@ -118,5 +121,5 @@ def cases():
         if form == "section" and len(rooms) > 3:
             *rooms, marks = rooms
         data = b"" if text == "-" else read(text, names)
-        found.append(Case(at, form, data, revision, tuple(rooms), marks, asked, held, refused, kinds[refused], offset))
+        found.append(Case(at, form, data, revision, tuple(rooms), marks, asked, source, held, refused, kinds[refused], offset))
     return found

@@ -1,6 +1,7 @@
 //! Locks with owners: which paths are borrowed and written by functions that have not finished.
 //!
-//! An owner claims all paths of a function or none. Two paths touch when one is the beginning of the other, root and components compared.
+//! An owner claims all paths of a function or none, and brings the source set in which its symbols are numbered. Two paths touch when one is the
+//! beginning of the other, root and components compared; roots are the same where symbol and source set are both the same.
 //! Borrows of different owners may touch, a write may touch nothing of another owner, and an owner never hinders itself. At most
 //! [`MAX_LOCKS`] are held.
 //!
@@ -10,12 +11,15 @@
 //! let borrow = b"\x00\x00OWN0\x01\x00\x00\x05\x00\x00\x00\x00\x00"; // of root 5, at revision 19
 //! let write = b"\x00\x00OWN0\x01\x00\x01\x05\x00\x00\x00\x00\x00";
 //!
+//! let (ours, theirs) = (&[1; 32], &[2; 32]); // source sets
+//!
 //! let mut register = Register::new();
-//! assert_eq!(register.claim(1, 0, borrow, 19), Ok(1));
-//! assert_eq!(register.claim(2, 0, borrow, 19), Ok(2));
-//! assert_eq!(register.claim(2, 0, write, 19), Err(ClaimError::Held));
-//! assert_eq!(register.release(1), 1);
-//! assert_eq!(register.claim(2, 0, write, 19), Ok(2));
+//! assert_eq!(register.claim(1, 0, borrow, 19, ours), Ok(1));
+//! assert_eq!(register.claim(2, 0, borrow, 19, ours), Ok(2));
+//! assert_eq!(register.claim(2, 0, write, 19, ours), Err(ClaimError::Held));
+//! assert_eq!(register.claim(2, 0, write, 19, theirs), Ok(3));
+//! assert_eq!(register.release(1), 2);
+//! assert_eq!(register.claim(2, 0, write, 19, ours), Ok(3));
 //! assert!(register.locks().iter().all(|lock| lock.owner == 2));
 //! ```
 
@@ -42,8 +46,10 @@ pub struct Lock {
     pub owner: u32,
     /// Whether it is a write, else a borrow.
     pub write: bool,
-    /// Its path's root.
+    /// Its path's root, in its source set.
     pub root_symbol_id: u32,
+    /// The source set that was brought with the claim.
+    pub source: [u8; 32],
     /// Its path's components.
     pub components: Vec<DecodedAccessPathComponent>,
 }
@@ -67,20 +73,21 @@ impl Register {
         Register(Box::new(raw::Register { words: [0; 6145] }))
     }
 
-    /// An owner claims all paths of a function's block, which stands at `base_offset` in its file, and gets a lock for each, also where it holds
-    /// an equal one. The answer is how many locks are held then; after an error the register is as it was.
+    /// An owner claims all paths of a function's block, which stands at `base_offset` in its file, under a source set, any 32 bytes, and gets a lock
+    /// for each, also where it holds an equal one. The answer is how many locks are held then; after an error the register is as it was.
     pub fn claim(
         &mut self,
         owner: u32,
         base_offset: usize,
         code: &[u8],
         header_rev: u16,
+        source: &[u8; 32],
     ) -> Result<usize, ClaimError> {
         let block = Block::new(base_offset, code, header_rev);
         let register = &mut *self.0;
         let answer = block.lend(|lent| {
             let lent = lent.starts;
-            let answer = calls::claim(register, owner, base_offset, code, header_rev, lent);
+            let answer = calls::claim(register, owner, base_offset, code, header_rev, source, lent);
             accepted(answer.accepted, answer.refusal)?;
             Ok(answer.held)
         });
@@ -119,6 +126,7 @@ impl Register {
             owner: lock.owner,
             write: lock.write,
             root_symbol_id: lock.root_symbol_id,
+            source: lock.source,
             components: (0..lock.component_count).map(component).collect(),
         }
     }

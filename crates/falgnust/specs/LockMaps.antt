@@ -1,6 +1,7 @@
 -- The flat structs of locks, with what the definitions answer.
 use Prim.Native.Nat.{ℕ}
 use mathlib.Core.Bool.{true, false}
+use lib.ListN.{replicate}
 use Rattle.local_format.specs.Out.{Out, ok, refused}
 use Rattle.lock_rules.specs.Lock.{Part}
 use Rattle.locks.specs.Read.{Head}
@@ -21,8 +22,9 @@ flatLock (ok l) =
       refusal = noRefusal;
       owner = l .owner;
       write = l .write;
-      «root_symbol_id» = l .root;
+      «root_symbol_id» = l .root .symbol;
       «component_count» = l .count;
+      source = l .root .source;
     }
 flatLock (refused r) =
     record {
@@ -32,6 +34,7 @@ flatLock (refused r) =
       write = false;
       «root_symbol_id» = 0;
       «component_count» = 0;
+      source = replicate 32 0;
     }
 
 abbrev pub flatLockPart : Out Part → LockPart

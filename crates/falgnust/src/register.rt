@@ -19,6 +19,7 @@ use locks::read::held;
 use locks::read::lock_number;
 use locks::read::lock_part;
 use locks::release::release;
+use locks::source::source_bytes;
 
 // ---- Claims and releases
 
@@ -54,12 +55,13 @@ pub extern "C" fn falgnust_claim(
     base_offset: usize,
     code: &[u8],
     header_rev: u16,
+    source: &[u8; 32],
     strings: &mut [u64],
     paths: &mut [u64],
     families: &mut [u8],
 ) -> Claimed
     ensures { λ r.
-        ⌜ Claims flatClaim owner «base_offset» «header_rev» (now (code .entry)) (now (register .entry)) (now (register .exit))
+        ⌜ Claims flatClaim (now (source .entry)) owner «base_offset» «header_rev» (now (code .entry)) (now (register .entry)) (now (register .exit))
         (tables (now (strings .entry)) (now (paths .entry)) (now (families .entry)))
         (tables (now (strings .exit)) (now (paths .exit)) (now (families .exit))) r ⌝ }
 {
@@ -69,6 +71,7 @@ pub extern "C" fn falgnust_claim(
         base_offset,
         code,
         header_rev,
+        source,
         strings,
         paths,
         families,
@@ -100,6 +103,7 @@ pub struct Lock {
     pub write: bool,
     pub root_symbol_id: u32,
     pub component_count: usize,
+    pub source: [u8; 32],
 }
 
 fn flat_lock(read: LockRead) -> Lock
@@ -111,8 +115,9 @@ fn flat_lock(read: LockRead) -> Lock
             refusal: no_refusal(),
             owner: lock.owner,
             write: lock.write,
-            root_symbol_id: lock.root,
+            root_symbol_id: lock.symbol,
             component_count: lock.parts,
+            source: source_bytes(lock.source),
         },
         LockRead::Refused(refused) => Lock {
             accepted: false,
@@ -121,6 +126,7 @@ fn flat_lock(read: LockRead) -> Lock
             write: false,
             root_symbol_id: 0,
             component_count: 0,
+            source: [0; 32],
         },
     }
 }

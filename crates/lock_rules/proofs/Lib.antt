@@ -4,3 +4,6 @@ pub mod LockLaws
 pub mod ClaimLaws
 pub mod NeededLaws
 pub mod SequenceLaws
+pub mod RootLaws
+pub mod OneSetLaws
+pub mod TwoSetLaws

@@ -52,6 +52,16 @@ module _ {A : Type 0} (f : A → Bool) where
       go true = refl
       go false = refl
 
+pub any-map : {A B : Type 0} (f : A → B) (g : B → Bool) (xs : List A) → any g (map f xs) ≡ any (λ x. g (f x)) xs
+unfolding any
+any-map f g [] = refl
+any-map f g (x ∷ xs) = rw (any-map f g xs)
+
+pub any-same : {A : Type 0} (f g : A → Bool) (xs : List A) → ((x : A) → f x ≡ g x) → any f xs ≡ any g xs
+unfolding any
+any-same f g [] h = refl
+any-same f g (x ∷ xs) h = rw (h x, any-same f g xs h)
+
 -- ---- Those that are kept
 
 module _ {A : Type 0} (f : A → Bool) where
@@ -118,3 +128,15 @@ module _ {A B : Type 0} (f : A → B) where
   pub map-append : (xs ys : List A) → map f (xs ++ ys) ≡ map f xs ++ map f ys
   map-append [] ys = refl
   map-append (x ∷ xs) ys = ap (λ (zs : List B). f x ∷ zs) (map-append xs ys)
+
+  pub map-has : (xs : List A) (x : A) → List·Memᴰ x xs → List·Memᴰ (f x) (map f xs)
+  map-has [] x m = absurd (List·Memᴰ·not-nil m)
+  map-has (y ∷ ys) x m = go (List·Memᴰ·cases-cons m) (λ n. map-has ys x n)
+    where
+      go : (x ≡ y) ⊎ List·Memᴰ x ys → (List·Memᴰ x ys → List·Memᴰ (f x) (map f ys)) → List·Memᴰ (f x) (map f (y ∷ ys))
+      go (inl p) rest = List·Memᴰ·head (ap f p)
+      go (inr p) rest = List·Memᴰ·tail (rest p)
+
+pub map-map : {A B C : Type 0} (f : B → C) (g : A → B) (xs : List A) → map f (map g xs) ≡ map (λ x. f (g x)) xs
+map-map f g [] = refl
+map-map f g (x ∷ xs) = rw (map-map f g xs)

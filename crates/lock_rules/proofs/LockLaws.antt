@@ -1,5 +1,5 @@
--- Touching and hindering are the same both ways, equal locks touch, an owner never hinders itself, and what a test of hindering says; a release drops exactly what an
--- owner holds, and two releases give the same list in either order. By the tests' cases.
+-- Touching and hindering are the same both ways, equal locks touch, an owner never hinders itself, and what a test of hindering says; a release
+-- drops exactly what an owner holds, and two releases give the same list in either order. By the tests' cases.
 use mathlib.Core.Path.{_≡_, refl, ap, sym}
 use mathlib.Core.Logic.{_↔_}
 use Prim.Native.Nat.{ℕ}

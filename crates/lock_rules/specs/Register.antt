@@ -72,6 +72,15 @@ module _ {R : Type 0} (same : R → R → Bool) where
   stepped held (claims rootOf owner decoded) = heldAfter held (claim rootOf owner held decoded)
   stepped held (releases owner) = release owner held
 
+  -- what a step is answered: how many locks are held afterwards, or the refusal
+  abbrev pub answer : List (Lock R) → Step R → Out ℕ
+  answer held (claims rootOf owner decoded) = heldCount (claim rootOf owner held decoded)
+  answer held (releases owner) = ok (length (release owner held))
+
+  unfoldable pub answers : List (Lock R) → List (Step R) → List (Out ℕ)
+  answers held [] = []
+  answers held (s ∷ steps) = answer held s ∷ answers (stepped held s) steps
+
   unfoldable pub reached : List (Lock R) → List (Step R) → List (Lock R)
   reached held [] = held
   reached held (s ∷ steps) = reached (stepped held s) steps

@@ -18,7 +18,7 @@ use Rattle.semcode_decode.proofs.BlockLaws.{layout-ok, layout-refused}
 use Rattle.semcode_decode.proofs.ReadLaws.{there, tables-read}
 use Rattle.lock_rules.specs.Lock.{Lock}
 use Rattle.lock_rules.specs.Register.{pathsOf, heldCount}
-use Rattle.locks.specs.Words.{Root}
+use Rattle.lock_rules.specs.Source.{Root}
 use Rattle.locks.specs.Claim.{claimIn, Claims}
 use Rattle.locks.specs.Phase.{noPath, Standing, Listed, Tried, TriedPaths}
 
@@ -54,14 +54,15 @@ turned-down : (x : Out Locks) {r : Refusal} → refused r ≡ heldCount x → (q
 turned-down (ok ls) h = absurd (never h)
 turned-down (refused q) h = (q, refl)
 
-module _ (owner base revision : ℕ) (s words : List ℕ) (brought left : Lent) {told : Out Layout} (d : Decodes layout base revision 8192 s brought left told)
+module _ (source : List ℕ) (owner base revision : ℕ) (s words : List ℕ) (brought left : Lent) {told : Out Layout}
+    (d : Decodes layout base revision 8192 s brought left told)
   where
     abbrev block : Out Block
     block = decodeAnew base revision s brought
 
     -- the block is refused
     pub block-refused : {q r : Refusal} → told ≡ refused r → q ≡ r
-        → Claims (λ x. x) owner base revision s words words brought left (refused q)
+        → Claims (λ x. x) source owner base revision s words words brought left (refused q)
     block-refused {q} {r} h e =
         let k : block ≡ refused r = layout-refused block (sym (d .answer) ∙ h) in
         let strings = d .strings in
@@ -84,8 +85,8 @@ module _ (owner base revision : ℕ) (s words : List ℕ) (brought left : Lent) 
           let n = length-map (b .ownership .table .entries) (λ (x : Entry Path). x .start) in
           rw (d .paths, e) (simp length-append (omega arith))
 
-      module _ (answer : Out ℕ) (after : List ℕ) (t : TriedPaths revision s (left .paths) (l .paths) owner answer words after) where
-        tried : Tried (claimIn owner words block) answer words after
+      module _ (answer : Out ℕ) (after : List ℕ) (t : TriedPaths revision s (left .paths) (l .paths) source owner answer words after) where
+        tried : Tried (claimIn source owner words block) answer words after
         tried =
             let (b, e, m) = whole in
             let rooms = roomsOf brought 8192 in
@@ -95,14 +96,14 @@ module _ (owner base revision : ℕ) (s words : List ℕ) (brought left : Lent) 
             sym (d .paths ∙ ap (λ (x : Out Block). lent (length (brought .paths)) (pathStarts x)) e) in
             let here = subst (λ (c : ℕ). Listed revision s (left .paths) c (pathsOf b)) n
             (subst (λ (starts : List ℕ). Listed revision s starts (length (b .ownership .table .entries)) (pathsOf b)) y z) in
-            subst (λ (x : Out Block). Tried (claimIn owner words x) answer words after) (sym e) (t (pathsOf b) here)
+            subst (λ (x : Out Block). Tried (claimIn source owner words x) answer words after) (sym e) (t (pathsOf b) here)
 
         -- its paths are claimed
-        pub paths-held : {n : ℕ} → answer ≡ ok n → Claims (λ x. x) owner base revision s words after brought left (ok n)
+        pub paths-held : {n : ℕ} → answer ≡ ok n → Claims (λ x. x) source owner base revision s words after brought left (ok n)
         paths-held e =
             let told = sym e ∙ tried .told in
-            let k = accepted (claimIn owner words block) told .1 in
-            let ending : (claimIn owner words block >> block) ≡ block = ap (λ (x : Out Locks). x >> block) k in
+            let k = accepted (claimIn source owner words block) told .1 in
+            let ending : (claimIn source owner words block >> block) ≡ block = ap (λ (x : Out Locks). x >> block) k in
             record {
               tables = rw ending (record { answer = told; strings = d .strings; paths = d .paths; families = d .families });
               register = tried .left;
@@ -114,7 +115,7 @@ module _ (owner base revision : ℕ) (s words : List ℕ) (brought left : Lent) 
             → cleared .families ≡ lent (length (left .families)) []
             → length (left .strings) ≡ length (brought .strings) → length (left .paths) ≡ length (brought .paths)
             → length (left .families) ≡ length (brought .families)
-            → Claims (λ x. x) owner base revision s words after brought cleared answer
+            → Claims (λ x. x) source owner base revision s words after brought cleared answer
         paths-refused cleared e strings paths families l m n =
             record {
               tables =
@@ -127,8 +128,14 @@ module _ (owner base revision : ℕ) (s words : List ℕ) (brought left : Lent) 
               register = tried .left;
             }
           where
-            down : (q : Refusal) × (claimIn owner words block ≡ refused q)
-            down = turned-down (claimIn owner words block) (sym e ∙ tried .told)
+            down : (q : Refusal) × (claimIn source owner words block ≡ refused q)
+            down = turned-down (claimIn source owner words block) (sym e ∙ tried .told)
 
-            ending : (claimIn owner words block >> block) ≡ refused (down .0)
+            ending : (claimIn source owner words block >> block) ≡ refused (down .0)
             ending = ap (λ (x : Out Locks). x >> block) (down .1)
+
+-- the same set, by another name
+pub of-set : {set source : List ℕ} (owner base revision : ℕ) (s words : List ℕ) {after : List ℕ} (brought : Lent) {left : Lent} {told : Out ℕ}
+    → set ≡ source → Claims (λ x. x) set owner base revision s words after brought left told
+    → Claims (λ x. x) source owner base revision s words after brought left told
+of-set owner base revision s words brought e c = rw e at c

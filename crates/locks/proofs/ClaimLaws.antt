@@ -15,7 +15,8 @@ use Rattle.semcode_records.specs.Path.{Path, pathAt}
 use Rattle.lock_rules.specs.Lock.{Lock, lockOf}
 use Rattle.lock_rules.specs.Register.{any, longPath, hindered, claimed}
 use Rattle.lock_rules.proofs.ListLaws.{any-append, map-append}
-use Rattle.locks.specs.Words.{Root, sameRoot, rootOf, lockIn, locksTo, locksIn, heldIn}
+use Rattle.lock_rules.specs.Source.{Root, sameRoot, rootUnder}
+use Rattle.locks.specs.Words.{lockIn, locksTo, locksIn, heldIn}
 use Rattle.locks.specs.Phase.{Placed, metBy, Front, FrontOf, KeyOf, noPath, Listed, LongAnswer, MetAnswer, Stored, TriedPaths}
 use Rattle.locks.proofs.LockLaws.{locks-length, locks-put, locks-counted}
 
@@ -86,9 +87,9 @@ module _ (revision : ℕ) (s starts : List ℕ) (count : ℕ) where
   short-all i p k paths l = let m = l .many in sym (none-all longPath paths i (omega arith) (k paths l))
 
   -- ---- 67
-  module _ (owner : ℕ) (words : List ℕ) where
+  module _ (source : List ℕ) (owner : ℕ) (words : List ℕ) where
     abbrev meets : Path → Bool
-    meets p = hindered sameRoot rootOf owner (locksIn words) p
+    meets p = hindered sameRoot (rootUnder source) owner (locksIn words) p
 
     pub Free : ℕ → Type 0
     Free i = (paths : List Path) → Listed revision s starts count paths → any longPath paths ≡ false → any meets (take i paths) ≡ false
@@ -97,15 +98,15 @@ module _ (revision : ℕ) (s starts : List ℕ) (count : ℕ) where
     unfolding Free
     free-none paths l e = none-before meets paths
 
-    module _ (i : ℕ) (h : i < count) (key : List ℕ) (k : KeyOf (pathAt revision s (getD starts i 0)) owner key) where
+    module _ (i : ℕ) (h : i < count) (key : List ℕ) (k : KeyOf (pathAt revision s (getD starts i 0)) source owner key) where
       key-is : (paths : List Path) → Listed revision s starts count paths → any longPath paths ≡ false
-          → lockIn key ≡ lockOf rootOf owner (getD paths i noPath)
+          → lockIn key ≡ lockOf (rootUnder source) owner (getD paths i noPath)
       key-is paths l e =
           let m = l .many in
           let p = l .each i h in
           k (record { value = getD paths i noPath; next = p .next }) (p .is-read) (none-at longPath paths i noPath (omega arith) e)
 
-      pub met-found : metBy (lockIn key) (locksIn words) ≡ true → MetAnswer revision s starts count owner words true
+      pub met-found : metBy (lockIn key) (locksIn words) ≡ true → MetAnswer revision s starts count source owner words true
       met-found g paths l e =
           let m = l .many in
           sym (some-at meets paths i noPath (omega arith) (rw (key-is paths l e) at g))
@@ -116,7 +117,7 @@ module _ (revision : ℕ) (s starts : List ℕ) (count : ℕ) where
           let m = l .many in
           none-more meets paths i noPath (omega arith) (f paths l e) (rw (key-is paths l e) at g)
 
-    pub free-all : (i : ℕ) → i ≡ count → Free i → MetAnswer revision s starts count owner words false
+    pub free-all : (i : ℕ) → i ≡ count → Free i → MetAnswer revision s starts count source owner words false
     unfolding Free
     free-all i p f paths l e = let m = l .many in sym (none-all meets paths i (omega arith) (f paths l e))
 
@@ -125,7 +126,7 @@ module _ (revision : ℕ) (s starts : List ℕ) (count : ℕ) where
     -- a lock for each path before i
     pub record Storing (i : ℕ) (after : List ℕ) : Type 0 where
       pub locks : (paths : List Path) → Listed revision s starts count paths → any longPath paths ≡ false
-          → locksTo (heldIn words + i) after ≡ locksIn words ++ map (lockOf rootOf owner) (take i paths)
+          → locksTo (heldIn words + i) after ≡ locksIn words ++ map (lockOf (rootUnder source) owner) (take i paths)
       pub same : length after ≡ length words
 
     pub storing : Storing 0 words
@@ -138,58 +139,58 @@ module _ (revision : ℕ) (s starts : List ℕ) (count : ℕ) where
         plus-zero : (n : ℕ) → n + 0 ≡ n
         plus-zero n = omega arith
 
-    module _ (i : ℕ) (h : i < count) (key : List ℕ) (k : KeyOf (pathAt revision s (getD starts i 0)) owner key) (after : List ℕ)
+    module _ (i : ℕ) (h : i < count) (key : List ℕ) (k : KeyOf (pathAt revision s (getD starts i 0)) source owner key) (after : List ℕ)
         (x : Storing i after) where
       pub stores : (n : ℕ) (next : List ℕ) → n ≡ heldIn words → Placed after next (n + i) key → Storing (i + 1) next
       stores n next isN p = record { locks = λ paths l e. go paths l e; same = p .same ∙ x .same }
         where
           go : (paths : List Path) → Listed revision s starts count paths → any longPath paths ≡ false
-              → locksTo (heldIn words + (i + 1)) next ≡ locksIn words ++ map (lockOf rootOf owner) (take (i + 1) paths)
+              → locksTo (heldIn words + (i + 1)) next ≡ locksIn words ++ map (lockOf (rootUnder source) owner) (take (i + 1) paths)
           go paths l e =
               let m = l .many in
               let g : i < length paths = omega arith in
-              let one : List (Lock Root) = lockOf rootOf owner (getD paths i noPath) ∷ [] in
+              let one : List (Lock Root) = lockOf (rootUnder source) owner (getD paths i noPath) ∷ [] in
               let a : heldIn words + (i + 1) ≡ n + i + 1 = omega arith in
               let b : n + i ≡ heldIn words + i = omega arith in
-              let t : map (lockOf rootOf owner) (take (i + 1) paths) ≡ map (lockOf rootOf owner) (take i paths) ++ one =
-              rw (add-one, take-suc paths i noPath g) (map-append (lockOf rootOf owner) (take i paths) (getD paths i noPath ∷ [])) in
+              let t : map (lockOf (rootUnder source) owner) (take (i + 1) paths) ≡ map (lockOf (rootUnder source) owner) (take i paths) ++ one =
+              rw (add-one, take-suc paths i noPath g) (map-append (lockOf (rootUnder source) owner) (take i paths) (getD paths i noPath ∷ [])) in
               ap (λ (j : ℕ). locksTo j next) a
               ∙ locks-put after next (n + i) key p
               ∙ ap (λ (j : ℕ). locksTo j after ++ (lockIn key ∷ [])) b
               ∙ rw (x .locks paths l e, key-is i h key k paths l e, t, append-assoc)
 
     pub stored : (i n total : ℕ) (after : List ℕ) → Storing i after → i ≡ count → n ≡ heldIn words → total ≡ n + count → total ≤ 256
-        → 0 < length words → Stored revision s starts count owner words (set after 0 total)
+        → 0 < length words → Stored revision s starts count source owner words (set after 0 total)
     stored i n total after x p isN t h z =
         record { locks = λ paths l e. go paths l e; same = length-set after 0 total ∙ x .same }
       where
         go : (paths : List Path) → Listed revision s starts count paths → any longPath paths ≡ false
-            → locksIn (set after 0 total) ≡ locksIn words ++ map (lockOf rootOf owner) paths
+            → locksIn (set after 0 total) ≡ locksIn words ++ map (lockOf (rootUnder source) owner) paths
         go paths l e =
             let m = l .many in
             let q : total ≡ heldIn words + i = omega arith in
             locks-counted after total (rw (x .same) z) h
             ∙ ap (λ (j : ℕ). locksTo j after) q
             ∙ x .locks paths l e
-            ∙ ap (λ (ps : List Path). locksIn words ++ map (lockOf rootOf owner) ps) (take-all i paths (omega arith))
+            ∙ ap (λ (ps : List Path). locksIn words ++ map (lockOf (rootUnder source) owner) ps) (take-all i paths (omega arith))
 
 -- ---- 66, 67, 68, and the locks
 
-module _ (revision : ℕ) (s starts : List ℕ) (count owner : ℕ) (words : List ℕ) where
+module _ (revision : ℕ) (s starts : List ℕ) (count : ℕ) (source : List ℕ) (owner : ℕ) (words : List ℕ) where
   module _ {r : Refusal} where
     pub tried-long : LongAnswer revision s starts count true → r ≡ refusal 66 0
-        → TriedPaths revision s starts count owner (refused r) words words
+        → TriedPaths revision s starts count source owner (refused r) words words
     unfolding claimed
     tried-long a e paths l = rw (← a paths l, e) (record { told = refl; left = refl })
 
     module _ (a : LongAnswer revision s starts count false) where
-      pub tried-met : MetAnswer revision s starts count owner words true → r ≡ refusal 67 0
-          → TriedPaths revision s starts count owner (refused r) words words
+      pub tried-met : MetAnswer revision s starts count source owner words true → r ≡ refusal 67 0
+          → TriedPaths revision s starts count source owner (refused r) words words
       unfolding claimed
       tried-met b e paths l = rw (← a paths l, ← b paths l (sym (a paths l)), e) (record { told = refl; left = refl })
 
-      pub tried-full : MetAnswer revision s starts count owner words false → 256 < heldIn words + count → r ≡ refusal 68 0
-          → TriedPaths revision s starts count owner (refused r) words words
+      pub tried-full : MetAnswer revision s starts count source owner words false → 256 < heldIn words + count → r ≡ refusal 68 0
+          → TriedPaths revision s starts count source owner (refused r) words words
       unfolding claimed
       tried-full b h e paths l =
           let m = l .many in
@@ -197,14 +198,14 @@ module _ (revision : ℕ) (s starts : List ℕ) (count owner : ℕ) (words : Lis
           let full : leb (length (locksIn words) + length paths) 256 ≡ false = lt-leb (length (locksIn words) + length paths) 256 (omega arith) in
           rw (← a paths l, ← b paths l (sym (a paths l)), full, e) (record { told = refl; left = refl })
 
-  pub tried-stored : (n : ℕ) (after : List ℕ) → LongAnswer revision s starts count false → MetAnswer revision s starts count owner words false
-      → heldIn words + count ≤ 256 → n ≡ heldIn words + count → Stored revision s starts count owner words after
-      → TriedPaths revision s starts count owner (ok n) words after
+  pub tried-stored : (n : ℕ) (after : List ℕ) → LongAnswer revision s starts count false → MetAnswer revision s starts count source owner words false
+      → heldIn words + count ≤ 256 → n ≡ heldIn words + count → Stored revision s starts count source owner words after
+      → TriedPaths revision s starts count source owner (ok n) words after
   unfolding claimed
   tried-stored n after a b h e x paths l =
       let m = l .many in
       let k = locks-length (heldIn words) words in
       let room : leb (length (locksIn words) + length paths) 256 ≡ true = le-leb (length (locksIn words) + length paths) 256 (omega arith) in
-      let z : length (locksIn words ++ map (lockOf rootOf owner) paths) ≡ n =
-      length-append (locksIn words) (map (lockOf rootOf owner) paths) ∙ rw (length-map paths (lockOf rootOf owner)) (omega arith) in
+      let z : length (locksIn words ++ map (lockOf (rootUnder source) owner) paths) ≡ n =
+      length-append (locksIn words) (map (lockOf (rootUnder source) owner) paths) ∙ rw (length-map paths (lockOf (rootUnder source) owner)) (omega arith) in
       rw (← a paths l, ← b paths l (sym (a paths l)), room) (record { told = ap ok (sym z); left = x .locks paths l (sym (a paths l)) })

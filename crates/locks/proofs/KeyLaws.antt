@@ -19,7 +19,8 @@ use Rattle.semcode_records.proofs.RecordsLaws.{none-left, first-refused, first-
 use Rattle.semcode_records.proofs.PathLaws.{kind-read, is-known, path-components}
 use Rattle.lock_rules.specs.Lock.{Part, Lock, isWrite, partOf}
 use Rattle.lock_rules.proofs.ListLaws.{map-append}
-use Rattle.locks.specs.Words.{Root, rootOf, partIn, partsIn, rootIn, lockIn}
+use Rattle.lock_rules.specs.Source.{Root, rootUnder}
+use Rattle.locks.specs.Words.{partIn, partsIn, sourceOf, sourceIn, rootIn, lockIn}
 use Rattle.locks.specs.Phase.{Front, FrontOf, partsOf, Filled, KeyOf}
 
 -- ---- What stands in front of the components
@@ -32,7 +33,8 @@ afterCount revision s kind kinded root count start = do
   taken (record { event = event; root = root; components = components }) (components .end)
 
 pub front-is : (revision : ℕ) (s : List ℕ) (kind mode : ℕ) (kinded : Kinded) (root-at root count start : ℕ)
-    → eventOf kind revision s mode ≡ taken kinded root-at → FrontOf (afterCount revision s kind kinded root count start) (record { kind = kind; root = root; count = count; start = start })
+    → eventOf kind revision s mode ≡ taken kinded root-at
+    → FrontOf (afterCount revision s kind kinded root count start) (record { kind = kind; root = root; count = count; start = start })
 front-is revision s kind mode kinded root-at root count start e t h =
     let read = componentAt revision kind s in
     let c = bind-ok (records read count start) _ h in
@@ -129,11 +131,15 @@ writes (borrow a) = refl
 writes (write x) = refl
 
 -- a key's first words
-pub record Begun (key : List ℕ) (owner : ℕ) (f : Front) : Type 0 where
+pub record Begun (key : List ℕ) (a b c d owner : ℕ) (f : Front) : Type 0 where
   pub is-owner : getD key 0 0 ≡ owner
   pub is-kind : getD key 1 0 ≡ f .kind
   pub is-root : getD key 2 0 ≡ f .root
   pub is-count : getD key 3 0 ≡ f .count
+  pub is-a : getD key 4 0 ≡ a
+  pub is-b : getD key 5 0 ≡ b
+  pub is-c : getD key 6 0 ≡ c
+  pub is-d : getD key 7 0 ≡ d
 
 front-at : (key after : List ℕ) → take 8 after ≡ take 8 key → (j : ℕ) → j < 8 → getD after j 0 ≡ getD key j 0
 front-at key after e j h =
@@ -141,12 +147,12 @@ front-at key after e j h =
 
 module _ (revision : ℕ) (s : List ℕ) (at : ℕ) (f : Front) (is : FrontOf (pathAt revision s at) f) (owner : ℕ) (small : owner < 4294967296)
     (narrow : f .root < 4294967296) where
-  pub keyed : (n : ℕ) (key after : List ℕ) → n ≡ min (f .count) 16 → Begun key owner f
-      → Filled (componentAt revision (f .kind) s) n (f .start) key after → KeyOf (pathAt revision s at) owner after
-  unfolding lockIn rootIn partsIn
-  keyed n key after isN b x t e l =
+  pub keyed : (a b c d n : ℕ) (key after : List ℕ) → n ≡ min (f .count) 16 → Begun key a b c d owner f
+      → Filled (componentAt revision (f .kind) s) n (f .start) key after → KeyOf (pathAt revision s at) (sourceOf a b c d) owner after
+  unfolding lockIn rootIn sourceIn partsIn
+  keyed a b c d n key after isN begun x t e l =
       let g = is t e in
-      let c : f .count ≡ length (t .value .components .entries) = ap (λ (f : Front). f .count) g in
+      let many : f .count ≡ length (t .value .components .entries) = ap (λ (f : Front). f .count) g in
       let short : length (t .value .components .entries) ≤ 16 = leb-true _ _ (not-false _ l) in
       let m : n ≡ length (t .value .components .entries) = omega arith in
       let k : f .kind ≡ kindOfEvent (t .value .event) = ap (λ (f : Front). f .kind) g in
@@ -155,13 +161,18 @@ module _ (revision : ℕ) (s : List ℕ) (at : ℕ) (f : Front) (is : FrontOf (p
       rw (k, m, start) (path-components revision s at e) in
       let at-front = front-at key after (x .front) in
       lock-is
-      (ap (λ (w : ℕ). w % 4294967296) (at-front 0 (omega arith) ∙ b .is-owner) ∙ under small)
-      (ap (λ (w : ℕ). not (eqb w 0)) (at-front 1 (omega arith) ∙ b .is-kind ∙ k) ∙ writes (t .value .event))
-      (ap (λ (w : ℕ). rootOf (w % 4294967296)) (at-front 2 (omega arith) ∙ b .is-root)
-      ∙ ap rootOf (under narrow ∙ ap (λ (f : Front). f .root) g))
-      (ap (λ (w : ℕ). map partIn (take (min w 16) (drop 8 after))) (at-front 3 (omega arith) ∙ b .is-count)
+      (ap (λ (w : ℕ). w % 4294967296) (at-front 0 (omega arith) ∙ begun .is-owner) ∙ under small)
+      (ap (λ (w : ℕ). not (eqb w 0)) (at-front 1 (omega arith) ∙ begun .is-kind ∙ k) ∙ writes (t .value .event))
+      (roots (at-front 4 (omega arith) ∙ begun .is-a) (at-front 5 (omega arith) ∙ begun .is-b) (at-front 6 (omega arith) ∙ begun .is-c)
+      (at-front 7 (omega arith) ∙ begun .is-d)
+      (ap (λ (w : ℕ). w % 4294967296) (at-front 2 (omega arith) ∙ begun .is-root) ∙ under narrow ∙ ap (λ (f : Front). f .root) g))
+      (ap (λ (w : ℕ). map partIn (take (min w 16) (drop 8 after))) (at-front 3 (omega arith) ∙ begun .is-count)
       ∙ ap (λ (w : ℕ). map partIn (take w (drop 8 after))) (sym isN)
       ∙ x .parts (t .value .components) all-read)
     where
+      roots : {a a′ b b′ c c′ d d′ r r′ : ℕ} → a ≡ a′ → b ≡ b′ → c ≡ c′ → d ≡ d′ → r ≡ r′
+          → rootUnder (sourceOf a b c d) r ≡ rootUnder (sourceOf a′ b′ c′ d′) r′
+      roots p q r s t = rw (p, q, r, s, t)
+
       under : {r : ℕ} → r < 4294967296 → r % 4294967296 ≡ r
       under h = omega arith

@@ -2,6 +2,8 @@ pub mod WordLaws
 pub mod PlaceLaws
 pub mod LockLaws
 pub mod ReadLaws
+pub mod RootLaws
+pub mod SourceLaws
 pub mod MeetLaws
 pub mod KeyLaws
 pub mod ClaimLaws

@@ -11,7 +11,8 @@ use lib.Seq.{getD-set-same, drop-set-lt}
 use borrow.Author.Tests.{eq-eqb, ne-eqb}
 use Rattle.lock_rules.specs.Lock.{Lock}
 use Rattle.lock_rules.specs.Register.{keep, release}
-use Rattle.locks.specs.Words.{Root, slot, lockIn, locksTo, locksIn, heldIn}
+use Rattle.lock_rules.specs.Source.{Root}
+use Rattle.locks.specs.Words.{slot, lockIn, locksTo, locksIn, heldIn}
 use Rattle.locks.specs.Claim.{Releases}
 use Rattle.locks.specs.Phase.{Placed}
 

@@ -8,11 +8,13 @@ use mathlib.Core.Bool.{Bool, true, false, not, _&&_, _||_}
 use lib.Dec.{eqb, leb}
 use lib.ListN.{length, getD}
 use borrow.Author.Tests.{eqb-true, eqb-false, eq-eqb, ne-eqb, leb-true, leb-false}
+use Rattle.local_format.specs.Tag.{equal}
 use Rattle.lock_rules.specs.Lock.{Part, samePart, begins, touches, hinders}
 use Rattle.lock_rules.specs.Register.{any}
 use Rattle.lock_rules.proofs.ListLaws.{any-append}
 use Rattle.lock_rules.proofs.LockLaws.{eqb-comm}
-use Rattle.locks.specs.Words.{sameRoot, partIn, partsIn, slot, rootIn, lockIn, locksTo}
+use Rattle.lock_rules.specs.Source.{sameRoot}
+use Rattle.locks.specs.Words.{partIn, partsIn, slot, symbolIn, sourceIn, rootIn, lockIn, locksTo}
 use Rattle.locks.specs.Phase.{eitherBegins, metAt, metBy, Passed}
 use Rattle.locks.proofs.ReadLaws.{parts-length, part-at}
 
@@ -145,24 +147,27 @@ module _ (a b : List ℕ) where
       both : (o x y t : Bool) → x ≡ true → y ≡ true → false ≡ (o && ((not x || not y) && t))
       both o x y t p q = rw (p, q) (sym (and-false o))
 
-  pub other-root : sameRoot (rootIn a) (rootIn b) ≡ false → false ≡ hinders sameRoot (lockIn a) (lockIn b)
-  unfolding hinders touches lockIn
-  other-root e = rw (e, and-false, and-false)
+  pub other-symbol : (symbolIn a ≡ symbolIn b → ⊥) → false ≡ hinders sameRoot (lockIn a) (lockIn b)
+  unfolding hinders touches lockIn rootIn sameRoot
+  other-symbol d = rw (ne-eqb _ _ d, and-false, and-false)
 
-  pub other-symbol : (getD a 2 0 % 4294967296 ≡ getD b 2 0 % 4294967296 → ⊥) → false ≡ hinders sameRoot (lockIn a) (lockIn b)
-  unfolding rootIn
-  other-symbol d = other-root (ne-eqb _ _ d)
-
-  -- owners differ, either is a write, and the root is the same: the parts decide
-  pub decided : (getD a 0 0 % 4294967296 ≡ getD b 0 0 % 4294967296 → ⊥) → (getD a 1 0 ≡ 0 → getD b 1 0 ≡ 0 → ⊥) → sameRoot (rootIn a) (rootIn b) ≡ true
-      → eitherBegins a b ≡ hinders sameRoot (lockIn a) (lockIn b)
+  pub other-parts : eitherBegins a b ≡ false → false ≡ hinders sameRoot (lockIn a) (lockIn b)
   unfolding hinders touches lockIn
-  decided o w r = rw (ne-eqb _ _ o, r) (go (eqb (getD a 1 0) 0) (eqb (getD b 1 0) 0) refl refl)
+  other-parts e = rw (e, and-false, and-false, and-false)
+
+  -- owners differ, either is a write, the symbol is the same and so are the parts up to the shorter: the source set decides
+  pub decided : (getD a 0 0 % 4294967296 ≡ getD b 0 0 % 4294967296 → ⊥) → (getD a 1 0 ≡ 0 → getD b 1 0 ≡ 0 → ⊥) → symbolIn a ≡ symbolIn b
+      → eitherBegins a b ≡ true → equal (sourceIn a) (sourceIn b) ≡ hinders sameRoot (lockIn a) (lockIn b)
+  unfolding hinders touches lockIn rootIn sameRoot
+  decided o w s p =
+      rw (ne-eqb _ _ o, eq-eqb _ _ s, p) (go (eqb (getD a 1 0) 0) (eqb (getD b 1 0) 0) (equal (sourceIn a) (sourceIn b)) refl refl)
     where
-      go : (x y : Bool) → eqb (getD a 1 0) 0 ≡ x → eqb (getD b 1 0) 0 ≡ y → eitherBegins a b ≡ ((not x || not y) && eitherBegins a b)
-      go true true p q = absurd (w (eqb-true _ _ p) (eqb-true _ _ q))
-      go true false p q = refl
-      go false y p q = refl
+      go : (x y e : Bool) → eqb (getD a 1 0) 0 ≡ x → eqb (getD b 1 0) 0 ≡ y → e ≡ ((not x || not y) && (e && true))
+      go true true e p q = absurd (w (eqb-true _ _ p) (eqb-true _ _ q))
+      go true false true p q = refl
+      go true false false p q = refl
+      go false y true p q = refl
+      go false y false p q = refl
 
 -- ---- All that are held
 

@@ -13,7 +13,8 @@ use Rattle.local_format.specs.Out.{ok, refused, refuse}
 use Rattle.local_format.specs.Number.{numbered}
 use Rattle.local_format.proofs.NumberLaws.{not-there}
 use Rattle.lock_rules.specs.Lock.{Part, Lock}
-use Rattle.locks.specs.Words.{Root, partIn, partsIn, slot, rootIn, lockIn, locksTo, locksIn, heldIn}
+use Rattle.lock_rules.specs.Source.{Root, rootUnder}
+use Rattle.locks.specs.Words.{sourceOf, partIn, partsIn, slot, sourceIn, rootIn, lockIn, locksTo, locksIn, heldIn}
 use Rattle.locks.specs.Read.{lockNumber, partNumber}
 use Rattle.locks.proofs.PlaceLaws.{slot-full}
 use Rattle.locks.proofs.LockLaws.{locks-length}
@@ -73,11 +74,14 @@ module _ (words : List ℕ) (i : ℕ) where
     full : length (slot words i) ≡ 24
     full = slot-full words i l (omega arith)
 
-    pub lock-told : {o w r p : ℕ} → o ≡ getD (slot words i) 0 0 → w ≡ getD (slot words i) 1 0 → r ≡ getD (slot words i) 2 0
+    pub lock-told : {o w r e f g h p : ℕ} → o ≡ getD (slot words i) 0 0 → w ≡ getD (slot words i) 1 0 → r ≡ getD (slot words i) 2 0
+        → e ≡ getD (slot words i) 4 0 → f ≡ getD (slot words i) 5 0 → g ≡ getD (slot words i) 6 0 → h ≡ getD (slot words i) 7 0
         → p ≡ min (getD (slot words i) 3 0) 16
-        → ok (record { owner = o % 4294967296; write = not (eqb w 0); root = r % 4294967296; count = p }) ≡ lockNumber i (locksIn words)
-    unfolding lockIn rootIn
-    lock-told a b c d = rw (lock-there (heldIn words) words i h, a, b, c, d, ← parts-length (slot words i) full)
+        → ok (record { owner = o % 4294967296; write = not (eqb w 0); root = rootUnder (sourceOf e f g h) (r % 4294967296); count = p })
+        ≡ lockNumber i (locksIn words)
+    unfolding lockIn rootIn sourceIn
+    lock-told a b c d e f g k =
+        rw (lock-there (heldIn words) words i h, a, b, c, d, e, f, g, k, ← parts-length (slot words i) full)
 
     pub part-told : (k : ℕ) {p : Part} {w : ℕ} → k < min (getD (slot words i) 3 0) 16
         → p ≡ partIn w → w ≡ getD (slot words i) (8 + k) 0 → ok p ≡ partNumber i k (locksIn words)

@@ -9,11 +9,12 @@ use Rattle.semcode_decode.specs.Layout.{Lent, Leaves}
 use Rattle.semcode_decode.specs.Number.{decodeAnew}
 use Rattle.lock_rules.specs.Lock.{Lock}
 use Rattle.lock_rules.specs.Register.{heldCount, claim, release}
-use Rattle.locks.specs.Words.{Root, sameRoot, rootOf, locksIn}
+use Rattle.lock_rules.specs.Source.{Root, sameRoot, rootUnder}
+use Rattle.locks.specs.Words.{locksIn}
 
--- the locks held after a claim of a block's paths
-abbrev pub claimIn : ℕ → List ℕ → Out Block → Out (List (Lock Root))
-claimIn owner words block = claim sameRoot rootOf owner (locksIn words) block
+-- the locks held after a claim of a block's paths, under a source set
+abbrev pub claimIn : List ℕ → ℕ → List ℕ → Out Block → Out (List (Lock Root))
+claimIn source owner words block = claim sameRoot (rootUnder source) owner (locksIn words) block
 
 -- the register afterwards: an accepted claim's locks; a refused one leaves every word
 abbrev pub Left : Out (List (Lock Root)) → List ℕ → List ℕ → Type 0
@@ -27,11 +28,11 @@ pub record Claimed {A : Type 0} (due : Out ℕ → A) (block : Out Block) (locks
   pub tables : Leaves (locks >> block) before after told (due (heldCount locks))
   pub register : Left locks words words′
 
--- an owner claims the paths of a block at a base, and this is told of it
-abbrev pub Claims : {A : Type 0} → (Out ℕ → A) → ℕ → ℕ → ℕ → List ℕ → List ℕ → List ℕ → Lent → Lent → A → Type 0
-Claims due owner base revision code words words′ before after told =
+-- an owner claims the paths of a block at a base, under a source set, and this is told of it
+abbrev pub Claims : {A : Type 0} → (Out ℕ → A) → List ℕ → ℕ → ℕ → ℕ → List ℕ → List ℕ → List ℕ → Lent → Lent → A → Type 0
+Claims due source owner base revision code words words′ before after told =
     let block = decodeAnew base revision code before in
-    Claimed due block (claimIn owner words block) words words′ before after told
+    Claimed due block (claimIn source owner words block) words words′ before after told
 
 -- a release leaves the locks of the other owners, and tells how many these are
 pub record Releases (owner : ℕ) (words words′ : List ℕ) (told : ℕ) : Type 0 where

@@ -1,12 +1,15 @@
 -- From the code's structs and enums to the definitions' types.
 use Prim.Native.Nat.{ℕ}
+use mathlib.Core.List.{List}
 use Rattle.local_format.specs.Out.{Out, ok, refused}
 use Rattle.local_format.specs.Maps.{refusalOut}
 use Rattle.lock_rules.specs.Lock as lock
-use Rattle.locks.specs.Words.{rootOf}
+use Rattle.lock_rules.specs.Source.{rootUnder}
+use Rattle.locks.specs.Words.{sourceOf}
 use Rattle.locks.specs.Read.{Head}
 use Rattle.locks.specs.Phase as phase
 use Rattle.locks.specs.declared.words.Part.{Part}
+use Rattle.locks.specs.declared.source.Source.{Source}
 use Rattle.locks.specs.declared.key.Front.{Front}
 use Rattle.locks.specs.declared.read.Lock.{Lock}
 use Rattle.locks.specs.declared.read.LockRead.{LockRead}
@@ -25,8 +28,11 @@ partIs p = part (p .kind) (p .first) (p .second)
 abbrev pub frontIs : Front → phase.Front
 frontIs f = record { kind = f .kind; root = f .root; count = f .count; start = f .start }
 
+abbrev pub sourceIs : Source → List ℕ
+sourceIs s = sourceOf (s .a) (s .b) (s .c) (s .d)
+
 abbrev pub headIs : Lock → Head
-headIs l = record { owner = l .owner; write = l .write; root = rootOf (l .root); count = l .parts }
+headIs l = record { owner = l .owner; write = l .write; root = rootUnder (sourceIs (l .source)) (l .symbol); count = l .parts }
 
 abbrev pub lockOut : LockRead → Out Head
 lockOut (lockRead.Whole l) = ok (headIs l)

@@ -10,7 +10,8 @@ use Rattle.semcode_records.specs.Component.{Component}
 use Rattle.semcode_records.specs.Path.{Path, borrow, noActivation, kindOfEvent, pathAt}
 use Rattle.lock_rules.specs.Lock.{Part, partOf, Lock, lockOf, begins, hinders}
 use Rattle.lock_rules.specs.Register.{any, longPath, heldCount, hindered, claimed}
-use Rattle.locks.specs.Words.{Root, sameRoot, rootOf, partIn, partsIn, lockIn, slot, locksIn}
+use Rattle.lock_rules.specs.Source.{Root, sameRoot, rootUnder}
+use Rattle.locks.specs.Words.{partIn, partsIn, lockIn, slot, locksIn}
 use Rattle.locks.specs.Claim.{Left}
 
 -- ---- Places
@@ -76,8 +77,9 @@ pub record Filled (read : ℕ → Out (Taken Component)) (n at : ℕ) (key after
   pub same : length after ≡ length key
 
 -- the key of a path with at most 16 components
-abbrev pub KeyOf : Out (Taken Path) → ℕ → List ℕ → Type 0
-KeyOf read owner key = (t : Taken Path) → read ≡ ok t → longPath (t .value) ≡ false → lockIn key ≡ lockOf rootOf owner (t .value)
+abbrev pub KeyOf : Out (Taken Path) → List ℕ → ℕ → List ℕ → Type 0
+KeyOf read source owner key =
+    (t : Taken Path) → read ≡ ok t → longPath (t .value) ≡ false → lockIn key ≡ lockOf (rootUnder source) owner (t .value)
 
 -- ---- The phases of a claim
 
@@ -100,15 +102,15 @@ LongAnswer revision s starts count answer =
     (paths : List Path) → Listed revision s starts count paths → answer ≡ any longPath paths
 
 -- 67
-abbrev pub MetAnswer : ℕ → List ℕ → List ℕ → ℕ → ℕ → List ℕ → Bool → Type 0
-MetAnswer revision s starts count owner words answer =
+abbrev pub MetAnswer : ℕ → List ℕ → List ℕ → ℕ → List ℕ → ℕ → List ℕ → Bool → Type 0
+MetAnswer revision s starts count source owner words answer =
     (paths : List Path) → Listed revision s starts count paths → any longPath paths ≡ false
-    → answer ≡ any (hindered sameRoot rootOf owner (locksIn words)) paths
+    → answer ≡ any (hindered sameRoot (rootUnder source) owner (locksIn words)) paths
 
 -- the stores
-pub record Stored (revision : ℕ) (s starts : List ℕ) (count owner : ℕ) (words after : List ℕ) : Type 0 where
+pub record Stored (revision : ℕ) (s starts : List ℕ) (count : ℕ) (source : List ℕ) (owner : ℕ) (words after : List ℕ) : Type 0 where
   pub locks : (paths : List Path) → Listed revision s starts count paths → any longPath paths ≡ false
-      → locksIn after ≡ locksIn words ++ map (lockOf rootOf owner) paths
+      → locksIn after ≡ locksIn words ++ map (lockOf (rootUnder source) owner) paths
   pub same : length after ≡ length words
 
 -- all of them, over paths that have been read
@@ -116,7 +118,7 @@ pub record Tried (locks : Out (List (Lock Root))) (answer : Out ℕ) (words afte
   pub told : answer ≡ heldCount locks
   pub left : Left locks words after
 
-abbrev pub TriedPaths : ℕ → List ℕ → List ℕ → ℕ → ℕ → Out ℕ → List ℕ → List ℕ → Type 0
-TriedPaths revision s starts count owner answer words after =
+abbrev pub TriedPaths : ℕ → List ℕ → List ℕ → ℕ → List ℕ → ℕ → Out ℕ → List ℕ → List ℕ → Type 0
+TriedPaths revision s starts count source owner answer words after =
     (paths : List Path) → Listed revision s starts count paths
-    → Tried (claimed sameRoot rootOf owner (locksIn words) paths) answer words after
+    → Tried (claimed sameRoot (rootUnder source) owner (locksIn words) paths) answer words after

@@ -6,7 +6,7 @@ use lib.ListN.{length}
 use Rattle.local_format.specs.Out.{Out, ok, _>>=_}
 use Rattle.local_format.specs.Number.{numbered}
 use Rattle.lock_rules.specs.Lock.{Part, Lock}
-use Rattle.locks.specs.Words.{Root}
+use Rattle.lock_rules.specs.Source.{Root}
 
 -- a lock read back: how many parts it has
 pub record Head : Type 0 where

@@ -3,6 +3,8 @@ use crate::key::path_key;
 use crate::key::read_front;
 use crate::meet::hindered;
 use crate::place::put_lock;
+use crate::source::Source;
+use crate::source::source_words;
 use crate::words::count;
 use lent_table::clear;
 use lent_table::clear_bytes;
@@ -17,7 +19,7 @@ ghost use Rattle.semcode_decode.specs.Layout.{tables};
 ghost use Rattle.locks.specs.Words.{heldIn};
 ghost use Rattle.locks.specs.Claim.{Claims};
 ghost use Rattle.locks.specs.Phase.{Register, LongAnswer, MetAnswer, Stored, TriedPaths};
-ghost use Rattle.locks.specs.Maps.{claimOut};
+ghost use Rattle.locks.specs.Maps.{claimOut, sourceIs};
 
 // Some path has more than 16 components.
 fn any_long(code: &[u8], header_rev: u16, starts: &[u64], paths: usize) -> bool
@@ -38,6 +40,7 @@ fn any_long(code: &[u8], header_rev: u16, starts: &[u64], paths: usize) -> bool
 // Some path meets a lock of another owner.
 fn any_met(
     words: &[u64],
+    source: Source,
     owner: u32,
     code: &[u8],
     header_rev: u16,
@@ -46,11 +49,11 @@ fn any_met(
 ) -> bool
     requires { ⌜ Register (now words) ⌝ }
     requires { ⌜ paths ≤ length (now starts) ⌝ }
-    ensures { λ r. ⌜ MetAnswer «header_rev» (now (code .entry)) (now (starts .entry)) paths owner (now (words .entry)) r ⌝ }
+    ensures { λ r. ⌜ MetAnswer «header_rev» (now (code .entry)) (now (starts .entry)) paths (sourceIs source) owner (now (words .entry)) r ⌝ }
 {
     let mut i = 0;
     while i < paths {
-        let key = path_key(code, starts[i] as usize, header_rev, owner);
+        let key = path_key(code, starts[i] as usize, header_rev, source, owner);
         if hindered(words, &key) {
             return true;
         }
@@ -60,16 +63,24 @@ fn any_met(
 }
 
 // A lock for each path, behind those that are held; then the number of all.
-fn store(words: &mut [u64], owner: u32, code: &[u8], header_rev: u16, starts: &[u64], paths: usize)
+fn store(
+    words: &mut [u64],
+    source: Source,
+    owner: u32,
+    code: &[u8],
+    header_rev: u16,
+    starts: &[u64],
+    paths: usize,
+)
     requires { ⌜ Register (now words) ⌝ }
     requires { ⌜ paths ≤ length (now starts) ⌝ }
     requires { ⌜ heldIn (now words) + paths ≤ 256 ⌝ }
-    ensures { λ r. ⌜ Stored «header_rev» (now (code .entry)) (now (starts .entry)) paths owner (now (words .entry)) (now (words .exit)) ⌝ }
+    ensures { λ r. ⌜ Stored «header_rev» (now (code .entry)) (now (starts .entry)) paths (sourceIs source) owner (now (words .entry)) (now (words .exit)) ⌝ }
 {
     let n = count(words);
     let mut i = 0;
     while i < paths {
-        let key = path_key(code, starts[i] as usize, header_rev, owner);
+        let key = path_key(code, starts[i] as usize, header_rev, source, owner);
         put_lock(words, n + i, &key);
         i += 1;
     }
@@ -85,6 +96,7 @@ pub enum Answer {
 // Paths that have been read: 66, 67, 68 in this order, and then a lock for each.
 fn claim_paths(
     words: &mut [u64],
+    source: Source,
     owner: u32,
     code: &[u8],
     header_rev: u16,
@@ -94,19 +106,20 @@ fn claim_paths(
     requires { ⌜ Register (now words) ⌝ }
     requires { ⌜ paths ≤ length (now starts) ⌝ }
     ensures { λ r.
-        ⌜ TriedPaths «header_rev» (now (code .entry)) (now (starts .entry)) paths owner (claimOut r) (now (words .entry)) (now (words .exit)) ⌝ }
+        ⌜ TriedPaths «header_rev» (now (code .entry)) (now (starts .entry)) paths (sourceIs source) owner (claimOut r)
+        (now (words .entry)) (now (words .exit)) ⌝ }
 {
     if any_long(code, header_rev, starts, paths) {
         return Answer::Refused(refuse(66, 0));
     }
-    if any_met(words, owner, code, header_rev, starts, paths) {
+    if any_met(words, source, owner, code, header_rev, starts, paths) {
         return Answer::Refused(refuse(67, 0));
     }
     let held = count(words);
     if 256 - held < paths {
         return Answer::Refused(refuse(68, 0));
     }
-    store(words, owner, code, header_rev, starts, paths);
+    store(words, source, owner, code, header_rev, starts, paths);
     Answer::Held(held + paths)
 }
 
@@ -115,6 +128,7 @@ const SYMBOLS: usize = 8192;
 
 fn claim_in(
     words: &mut [u64],
+    source: Source,
     owner: u32,
     base_offset: usize,
     code: &[u8],
@@ -125,7 +139,7 @@ fn claim_in(
 ) -> Answer
     requires { ⌜ Register (now words) ⌝ }
     ensures { λ r.
-        ⌜ Claims (λ x. x) owner «base_offset» «header_rev» (now (code .entry)) (now (words .entry)) (now (words .exit))
+        ⌜ Claims (λ x. x) (sourceIs source) owner «base_offset» «header_rev» (now (code .entry)) (now (words .entry)) (now (words .exit))
         (tables (now (strings .entry)) (now (paths .entry)) (now (families .entry)))
         (tables (now (strings .exit)) (now (paths .exit)) (now (families .exit))) (claimOut r) ⌝ }
 {
@@ -141,7 +155,15 @@ fn claim_in(
     let Parse::Whole(parsed) = answer else {
         return Answer::Refused(parse_refusal(answer));
     };
-    let verdict = claim_paths(words, owner, code, header_rev, paths, parsed.path_count);
+    let verdict = claim_paths(
+        words,
+        source,
+        owner,
+        code,
+        header_rev,
+        paths,
+        parsed.path_count,
+    );
     let Answer::Held(n) = verdict else {
         clear(strings);
         clear(paths);
@@ -151,24 +173,26 @@ fn claim_in(
     Answer::Held(n)
 }
 
-// An owner claims all paths of a block, or none. Starts and families go to the lent tables; after any refusal these are zeros.
+// An owner claims all paths of a block, or none, under a source set. Starts and families go to the lent tables; after any refusal these are zeros.
 pub fn claim(
     register: &mut [u64; 6145],
     owner: u32,
     base_offset: usize,
     code: &[u8],
     header_rev: u16,
+    source: &[u8; 32],
     strings: &mut [u64],
     paths: &mut [u64],
     families: &mut [u8],
 ) -> Answer
     ensures { λ r.
-        ⌜ Claims (λ x. x) owner «base_offset» «header_rev» (now (code .entry)) (now (register .entry)) (now (register .exit))
+        ⌜ Claims (λ x. x) (now (source .entry)) owner «base_offset» «header_rev» (now (code .entry)) (now (register .entry)) (now (register .exit))
         (tables (now (strings .entry)) (now (paths .entry)) (now (families .entry)))
         (tables (now (strings .exit)) (now (paths .exit)) (now (families .exit))) (claimOut r) ⌝ }
 {
     claim_in(
         register,
+        source_words(source),
         owner,
         base_offset,
         code,

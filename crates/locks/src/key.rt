@@ -1,4 +1,5 @@
 // The key of a path: the 24 words of the lock that an owner takes on it.
+use crate::source::Source;
 use crate::words::component_word;
 use crate::words::parts;
 use local_format::field::U8;
@@ -17,7 +18,7 @@ ghost use lib.ListN.{length};
 ghost use Rattle.semcode_records.specs.Component.{componentAt};
 ghost use Rattle.semcode_records.specs.Path.{pathAt};
 ghost use Rattle.locks.specs.Phase.{FrontOf, Filled, KeyOf};
-ghost use Rattle.locks.specs.Maps.{frontIs};
+ghost use Rattle.locks.specs.Maps.{frontIs, sourceIs};
 
 // What stands in front of a path's components: the byte of its event's kind, its root, how many components it has, and where they start.
 pub struct Front {
@@ -99,8 +100,14 @@ fn fill_parts(code: &[u8], at: usize, header_rev: u16, kind: u8, n: usize, key: 
     }
 }
 
-pub(crate) fn path_key(code: &[u8], at: usize, header_rev: u16, owner: u32) -> [u64; 24]
-    ensures { λ r. ⌜ KeyOf (pathAt «header_rev» (now (code .entry)) at) owner r ⌝ }
+pub(crate) fn path_key(
+    code: &[u8],
+    at: usize,
+    header_rev: u16,
+    source: Source,
+    owner: u32,
+) -> [u64; 24]
+    ensures { λ r. ⌜ KeyOf (pathAt «header_rev» (now (code .entry)) at) (sourceIs source) owner r ⌝ }
 {
     let path = read_front(code, at, header_rev);
     let count = path.count as u64;
@@ -109,6 +116,10 @@ pub(crate) fn path_key(code: &[u8], at: usize, header_rev: u16, owner: u32) -> [
     key[1] = path.kind as u64;
     key[2] = path.root as u64;
     key[3] = count;
+    key[4] = source.a;
+    key[5] = source.b;
+    key[6] = source.c;
+    key[7] = source.d;
     fill_parts(
         code,
         path.start,

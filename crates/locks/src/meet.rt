@@ -3,19 +3,39 @@ use crate::words::count;
 use crate::words::parts;
 use crate::words::word;
 ghost use mathlib.Core.Path.{_≡_};
-ghost use mathlib.Core.Bool.{true};
 ghost use Prim.Native.Nat.{_≤_, min};
 ghost use lib.ListN.{length};
-ghost use Rattle.locks.specs.Words.{sameRoot, slot, rootIn, lockIn, locksIn};
+ghost use lib.Dec.{eqb};
+ghost use Rattle.local_format.specs.Tag.{equal};
+ghost use Rattle.locks.specs.Words.{slot, symbolIn, sourceIn, lockIn, locksIn};
 ghost use Rattle.locks.specs.Phase.{Register, Place, eitherBegins, metAt, metBy, Passed};
 
-// Both have the same root.
-fn same_root(words: &[u64], lock: usize, key: &[u64]) -> bool
+fn same_symbol(words: &[u64], lock: usize, key: &[u64]) -> bool
     requires { ⌜ Place (now words) lock ⌝ }
     requires { ⌜ length (now key) ≡ 24 ⌝ }
-    ensures { λ r. ⌜ r ≡ sameRoot (rootIn (slot (now (words .entry)) lock)) (rootIn (now (key .entry))) ⌝ }
+    ensures { λ r. ⌜ r ≡ eqb (symbolIn (slot (now (words .entry)) lock)) (symbolIn (now (key .entry))) ⌝ }
 {
     word(words, lock, 2) % 4294967296 == key[2] % 4294967296
+}
+
+fn same_source(words: &[u64], lock: usize, key: &[u64]) -> bool
+    requires { ⌜ Place (now words) lock ⌝ }
+    requires { ⌜ length (now key) ≡ 24 ⌝ }
+    ensures { λ r. ⌜ r ≡ equal (sourceIn (slot (now (words .entry)) lock)) (sourceIn (now (key .entry))) ⌝ }
+{
+    if word(words, lock, 4) != key[4] {
+        return false;
+    }
+    if word(words, lock, 5) != key[5] {
+        return false;
+    }
+    if word(words, lock, 6) != key[6] {
+        return false;
+    }
+    if word(words, lock, 7) != key[7] {
+        return false;
+    }
+    true
 }
 
 fn shorter(a: usize, b: usize) -> usize
@@ -41,11 +61,11 @@ fn parts_touch(words: &[u64], lock: usize, key: &[u64]) -> bool
     true
 }
 
-// A lock with the key's root stands against it.
+// A lock with the key's symbol stands against it.
 fn meets(words: &[u64], lock: usize, key: &[u64]) -> bool
     requires { ⌜ Place (now words) lock ⌝ }
     requires { ⌜ length (now key) ≡ 24 ⌝ }
-    requires { ⌜ sameRoot (rootIn (slot (now words) lock)) (rootIn (now key)) ≡ true ⌝ }
+    requires { ⌜ symbolIn (slot (now words) lock) ≡ symbolIn (now key) ⌝ }
     ensures { λ r. ⌜ r ≡ metAt (now (words .entry)) lock (now (key .entry)) ⌝ }
 {
     if word(words, lock, 0) % 4294967296 == key[0] % 4294967296 {
@@ -56,7 +76,10 @@ fn meets(words: &[u64], lock: usize, key: &[u64]) -> bool
             return false;
         }
     }
-    parts_touch(words, lock, key)
+    if parts_touch(words, lock, key) {
+        return same_source(words, lock, key);
+    }
+    false
 }
 
 // Passes locks with another symbol, four at a time.
@@ -96,7 +119,7 @@ pub(crate) fn hindered(words: &[u64], key: &[u64]) -> bool
     let n = count(words);
     let mut i = 0;
     while i < n {
-        if same_root(words, i, key) {
+        if same_symbol(words, i, key) {
             if meets(words, i, key) {
                 return true;
             }

@@ -1,4 +1,5 @@
 // What is held: how many locks, a lock by its number, and a part of it.
+use crate::source::Source;
 use crate::words::Part;
 use crate::words::count;
 use crate::words::part_in;
@@ -16,7 +17,8 @@ ghost use Rattle.locks.specs.Maps.{lockOut, partOut};
 pub struct Lock {
     pub owner: u32,
     pub write: bool,
-    pub root: u32,
+    pub symbol: u32,
+    pub source: Source,
     pub parts: usize,
 }
 
@@ -39,7 +41,13 @@ fn lock_in(words: &[u64], number: usize) -> LockRead
         return LockRead::Whole(Lock {
             owner: (word(words, number, 0) % 4294967296) as u32,
             write: word(words, number, 1) != 0,
-            root: (word(words, number, 2) % 4294967296) as u32,
+            symbol: (word(words, number, 2) % 4294967296) as u32,
+            source: Source {
+                a: word(words, number, 4),
+                b: word(words, number, 5),
+                c: word(words, number, 6),
+                d: word(words, number, 7),
+            },
             parts: parts(word(words, number, 3)),
         });
     }

@@ -1,5 +1,5 @@
-// A register of locks, from zeros: two owners, a borrow beside a borrow, a write that is refused and, after a release, accepted. Each line is a call and
-// its answer; at the end stand the locks that are held.
+// A register of locks, from zeros: two owners, a borrow beside a borrow, a write that is refused and, after a release, accepted; then two suppliers with
+// equal symbols. Each line is a call and its answer; at the end stand the locks that are held.
 use libc::STDOUT_FILENO;
 use local_format::refusal::Refusal;
 use locks::claim::Answer;
@@ -10,6 +10,7 @@ use locks::read::held;
 use locks::read::lock_number;
 use locks::read::lock_part;
 use locks::release::release;
+use locks::source::source_bytes;
 
 fn number(title: &[u8], n: u64) {
     io::write_all(STDOUT_FILENO, title);
@@ -27,7 +28,7 @@ fn refused(refusal: Refusal) {
 }
 
 // A claim of the paths of a block at base 100, at the last revision without signatures.
-fn claims(register: &mut [u64; 6145], title: &[u8], owner: u32, code: &[u8]) {
+fn claims(register: &mut [u64; 6145], title: &[u8], owner: u32, code: &[u8], source: &[u8; 32]) {
     let mut strings = [9u64; 2];
     let mut paths = [9u64; 2];
     let mut families = [9u8; 2];
@@ -37,6 +38,7 @@ fn claims(register: &mut [u64; 6145], title: &[u8], owner: u32, code: &[u8]) {
         100,
         code,
         19,
+        source,
         &mut strings,
         &mut paths,
         &mut families,
@@ -90,7 +92,9 @@ fn lock(register: &[u64; 6145], i: usize) {
             } else {
                 io::write_all(STDOUT_FILENO, b", borrow");
             }
-            number(b", root ", l.root as u64);
+            number(b", root ", l.symbol as u64);
+            let set = source_bytes(l.source);
+            number(b" of ", set[31] as u64);
             parts(register, i, l.parts);
             line();
         }
@@ -109,6 +113,7 @@ fn locks_held(register: &[u64; 6145]) {
 
 fn main() {
     let mut register = [0u64; 6145];
+    let one = [1u8; 32];
     // No strings, OWN0, one path: a borrow of root 7 without components, and with field 3.
     let all = [0u8, 0, 79, 87, 78, 48, 1, 0, 0, 7, 0, 0, 0, 0, 0];
     let field = [
@@ -133,23 +138,41 @@ fn main() {
         0,
         0,
     ];
-    claims(&mut register, b" borrows root 7: ", 1, &all);
-    claims(&mut register, b" borrows its field 3: ", 2, &field);
+    claims(&mut register, b" borrows root 7: ", 1, &all, &one);
+    claims(&mut register, b" borrows its field 3: ", 2, &field, &one);
     let mut write = field;
     write[8] = 1;
-    claims(&mut register, b" writes its field 3: ", 2, &write);
+    claims(&mut register, b" writes its field 3: ", 2, &write, &one);
     releases(&mut register, 1);
-    claims(&mut register, b" writes its field 3: ", 2, &write);
-    claims(&mut register, b" borrows root 7: ", 1, &all);
+    claims(&mut register, b" writes its field 3: ", 2, &write, &one);
+    claims(&mut register, b" borrows root 7: ", 1, &all, &one);
     let mut other = field;
     other[16] = 4;
-    claims(&mut register, b" borrows its field 4: ", 1, &other);
+    claims(&mut register, b" borrows its field 4: ", 1, &other, &one);
     claims(
         &mut register,
         b" brings a path that is cut: ",
         1,
         &field[..19],
+        &one,
+    );
+    // The other supplier's set differs in its last byte.
+    let mut two = one;
+    two[31] = 2;
+    claims(
+        &mut register,
+        b" writes field 3 of the other supplier: ",
+        3,
+        &write,
+        &two,
+    );
+    claims(
+        &mut register,
+        b" writes field 3 of the first: ",
+        3,
+        &write,
+        &one,
     );
     locks_held(&register);
-    lock(&register, 3);
+    lock(&register, 4);
 }

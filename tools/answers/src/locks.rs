@@ -1,10 +1,14 @@
 //! Locks.
 
+/// A source set.
+pub type Source = [u8; 32];
+
 #[derive(Debug, Clone, PartialEq, Eq)]
 pub struct Lock {
     pub owner: u32,
     pub write: bool,
     pub root: u32,
+    pub source: Source,
     pub parts: Vec<Part>,
 }
 

@@ -3,6 +3,7 @@
 
 use crate::blocks::{BASE, REVISION};
 use crate::rows::{Calls, Plan, Row, calls, plan};
+use answers::locks::Source;
 use falgnust::calls::{BlockTables, release};
 use inputs::block::{Block, Component, Path};
 use inputs::locks::block;
@@ -15,6 +16,9 @@ use std::hint::black_box;
 /// The owner of what is held, and the one that claims.
 const HOLDS: u32 = 1;
 const CLAIMS: u32 = 2;
+
+/// The source set of both.
+const SET: Source = [7; 32];
 
 pub fn rows() -> Vec<Plan> {
     vec![
@@ -138,7 +142,7 @@ impl Lent {
     }
 
     fn claim(&mut self, register: &mut Register, owner: u32, code: &[u8], due: u8) {
-        let answer = claim(register, owner, BASE, code, REVISION, self.tables());
+        let answer = claim(register, owner, BASE, code, REVISION, &SET, self.tables());
         assert_eq!(answer.map_or_else(|refusal| refusal.number, |_| 0), due);
     }
 }

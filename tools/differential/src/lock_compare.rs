@@ -4,10 +4,10 @@
 use crate::block_binding;
 use crate::block_compare::{self, OLD, OLD_BYTE, counts, lent, places, what};
 use crate::block_numbers::NOT_THERE;
-use crate::tally::{Outcome, Tally};
+use crate::tally::{Outcome, Tally, hex};
 use answers::Answer;
 use answers::block::Block;
-use answers::locks::Lock;
+use answers::locks::{Lock, Source};
 use answers::refusal::{Kind, Refusal};
 use falgnust::calls::{self, BlockTables};
 use falgnust::locks::{self, ClaimError};
@@ -20,6 +20,33 @@ pub struct Sides {
     pub words: Box<Register>,
     pub plain: Vec<Lock>,
     pub binding: Option<locks::Register>,
+    /// In a sequence of one source set: what is held by the lines of Slip 2, which know of none.
+    pub one_set: Option<Vec<Lock>>,
+}
+
+/// A claim: the owner, its source set, and the block.
+#[derive(Clone, Copy)]
+pub struct Claim<'a> {
+    pub owner: u32,
+    pub set: &'a Source,
+    pub case: &'a BlockCase,
+}
+
+impl<'a> Claim<'a> {
+    pub fn new(owner: u32, set: &'a Source, case: &'a BlockCase) -> Self {
+        Claim { owner, set, case }
+    }
+
+    /// The locks that it asks for.
+    pub fn locks(&self, block: &Block) -> Vec<Lock> {
+        let lock = |path| plain::lock(self.owner, self.set, path);
+        block.paths.iter().map(lock).collect()
+    }
+
+    fn what(&self) -> String {
+        let Claim { owner, set, case } = self;
+        format!("owner {owner}, set {}, {}", hex(&set[..]), what(case))
+    }
 }
 
 /// Lengths of the lent strings, paths and families.
@@ -36,6 +63,7 @@ impl Sides {
             words: Box::new(Register { words: [0; 6145] }),
             plain: vec![],
             binding: Some(locks::Register::new()),
+            one_set: None,
         }
     }
 
@@ -45,21 +73,25 @@ impl Sides {
             plain: plain::locks_in(&words),
             words: Box::new(Register { words }),
             binding: None,
+            one_set: None,
         }
     }
 
     /// Which of 66, 67 and 68 apply to a claim of a block's paths.
-    pub fn applies(&self, owner: u32, block: &Block) -> [bool; 3] {
-        plain::applies(&self.plain, &claimed(owner, block))
+    pub fn applies(&self, claim: Claim, block: &Block) -> [bool; 3] {
+        plain::applies(&self.plain, &claim.locks(block))
     }
 
     /// A claim, and what each side makes of it. The outcome says what is counted.
-    pub fn claim(&mut self, tally: &mut Tally, owner: u32, case: &BlockCase, outcome: Outcome) {
+    pub fn claim(&mut self, tally: &mut Tally, asked: Claim, outcome: Outcome) {
         tally.input(outcome);
+        let case = asked.case;
         let rust = oracle::block::block(&case.code, case.base, case.revision);
         let (due, rooms) = match &rust {
             Ok(block) => {
-                let answer = plain::claim(&mut self.plain, owner, &block.paths);
+                let claimed = asked.locks(block);
+                self.as_before(tally, asked, &claimed);
+                let answer = plain::claim(&mut self.plain, claimed);
                 let [strings, _, paths, families] = counts(&block.layout);
                 let more = case.code.len() % 3;
                 (
@@ -73,13 +105,29 @@ impl Sides {
             }
         };
         let left = called(due, rust.as_ref().ok(), rooms);
-        self.same(tally, owner, case, left);
-        self.through_crate(tally, owner, case, due);
+        self.same(tally, asked, left);
+        self.through_crate(tally, asked, due);
+    }
+
+    /// Against the same locks with their sets forgotten: a claim that did not meet 67 does not meet it now. In a sequence of one set it is
+    /// answered as it was.
+    fn as_before(&mut self, tally: &mut Tally, asked: Claim, claimed: &[Lock]) {
+        let forget = |locks: &[Lock]| locks.iter().map(plain::forgotten).collect::<Vec<Lock>>();
+        let [_, met, _] = plain::applies(&self.plain, claimed);
+        let [_, was_met, _] = plain::applies(&forget(&self.plain), &forget(claimed));
+        tally.same(&false, &(met && !was_met), || {
+            format!("67 that was none, {}", asked.what())
+        });
+        if let Some(held) = &mut self.one_set {
+            let was = plain::claim(held, forget(claimed));
+            let is = plain::claim(&mut self.plain.clone(), claimed.to_vec());
+            tally.same(&was, &is, || format!("of one set, {}", asked.what()));
+        }
     }
 
     /// 61: one table an entry too short, the others just long enough.
-    pub fn short(&mut self, tally: &mut Tally, owner: u32, case: &BlockCase, block: &Block) {
-        let before = self.applies(owner, block);
+    pub fn short(&mut self, tally: &mut Tally, asked: Claim, block: &Block) {
+        let before = self.applies(asked, block);
         let ([strings, _, paths, families], [at, _, second, third]) =
             (counts(&block.layout), places(&block.layout));
         let (counts, places) = ([strings, paths, families], [at, second, third]);
@@ -96,16 +144,19 @@ impl Sides {
             let mut rooms = counts;
             rooms[table] -= 1;
             let refusal = Refusal {
-                offset: case.base.saturating_add(places[table]),
+                offset: asked.case.base.saturating_add(places[table]),
                 ..added(61)
             };
-            self.same(tally, owner, case, called(Err(refusal), None, rooms));
+            self.same(tally, asked, called(Err(refusal), None, rooms));
         }
     }
 
     pub fn release(&mut self, tally: &mut Tally, owner: u32, outcome: Outcome) {
         tally.input(outcome);
         let due = plain::release(&mut self.plain, owner);
+        if let Some(held) = &mut self.one_set {
+            plain::release(held, owner);
+        }
         let answer = calls::release(&mut self.words, owner);
         tally.same(&due, &answer, || format!("release by {owner}"));
         if let Some(binding) = &mut self.binding {
@@ -117,12 +168,12 @@ impl Sides {
     }
 
     /// The answer and the lent tables; after a refusal every word of the register, else every lock.
-    fn same(&mut self, tally: &mut Tally, owner: u32, case: &BlockCase, due: Called) {
+    fn same(&mut self, tally: &mut Tally, asked: Claim, due: Called) {
         let rooms = [due.1.len(), due.2.len(), due.3.len()];
         let before = self.words.clone();
-        let answer = self.call(owner, case, rooms);
+        let answer = self.call(asked, rooms);
         let refused = due.0.is_err();
-        let words = || format!("owner {owner}, {}", what(case));
+        let words = || asked.what();
         tally.same(&due, &answer, words);
         if refused {
             let changed = first_change(&before, &self.words);
@@ -132,16 +183,17 @@ impl Sides {
         }
     }
 
-    fn call(&mut self, owner: u32, case: &BlockCase, rooms: Rooms) -> Called {
+    fn call(&mut self, asked: Claim, rooms: Rooms) -> Called {
         let [strings, paths, families] = rooms;
         let (mut strings, mut paths) = (vec![OLD; strings], vec![OLD; paths]);
         let mut families = vec![OLD_BYTE; families];
         let answer = claim(
             &mut self.words,
-            owner,
-            case.base,
-            &case.code,
-            case.revision,
+            asked.owner,
+            asked.case.base,
+            &asked.case.code,
+            asked.case.revision,
+            asked.set,
             BlockTables {
                 strings: &mut strings,
                 paths: &mut paths,
@@ -179,13 +231,7 @@ impl Sides {
     }
 
     /// The crate's answer and its locks: the plain lines' or, of a block that is refused, the Rust's error.
-    fn through_crate(
-        &mut self,
-        tally: &mut Tally,
-        owner: u32,
-        case: &BlockCase,
-        due: Answer<usize>,
-    ) {
+    fn through_crate(&mut self, tally: &mut Tally, asked: Claim, due: Answer<usize>) {
         let Some(binding) = &mut self.binding else {
             return;
         };
@@ -193,7 +239,7 @@ impl Sides {
             code,
             base,
             revision,
-        } = case;
+        } = asked.case;
         let due = match due {
             Ok(held) => Ok(Ok(held)),
             Err(Refusal {
@@ -205,15 +251,13 @@ impl Sides {
                 block_binding::rust_told(rust).map(|_| panic!("a block that is refused"))
             }
         };
-        let answer = match binding.claim(owner, *base, code, *revision) {
+        let answer = match binding.claim(asked.owner, *base, code, *revision, asked.set) {
             Err(ClaimError::Block(error)) => block_binding::told(Err(error)),
             Err(error) => Ok(Err(error.number().expect("66, 67 or 68"))),
             Ok(held) => Ok(Ok(held)),
         };
-        tally.same(&due, &answer, || {
-            format!("the binding, owner {owner}, {}", what(case))
-        });
-        self.in_crate(tally, || format!("owner {owner}, {}", what(case)));
+        tally.same(&due, &answer, || format!("the binding, {}", asked.what()));
+        self.in_crate(tally, || asked.what());
     }
 
     /// What the crate holds.
@@ -224,12 +268,6 @@ impl Sides {
             tally.same(&self.plain.len(), &binding.held(), what);
         }
     }
-}
-
-/// The locks that a claim asks for.
-pub fn claimed(owner: u32, block: &Block) -> Vec<Lock> {
-    let lock = |path| plain::lock(owner, path);
-    block.paths.iter().map(lock).collect()
 }
 
 fn added(number: u8) -> Refusal {

@@ -1,13 +1,14 @@
 //! Locks with owners, which the Rust does not have: held to plain lines over the Rust's paths (tools/oracle/plain/locks.rs). All pairs of short
-//! paths, sequences of three owners, registers near 256 with 66, 67 and 68 in every pair, registers of any words, and large blocks.
+//! paths, sequences of three owners under one, two and many source sets, registers near 256 with 66, 67 and 68 in every pair, registers of any words, and large blocks.
 
-use crate::lock_compare::{Sides, claimed};
+use crate::lock_compare::{Claim, Sides};
 use crate::tally::{Outcome, Tally};
 use answers::block::Block;
+use answers::locks::{Lock, Source};
 use inputs::block::Path;
 use inputs::cases::BlockCase;
 use inputs::locks::{
-    Step, all_paths, any_claim, any_words, beside_a_crowd, block, case, crowd, owners, step,
+    Step, all_paths, any_claim, any_words, beside_a_crowd, block, case, crowd, owners, sets, step,
 };
 use inputs::random::Random;
 use oracle::locks as plain;
@@ -15,16 +16,21 @@ use oracle::locks as plain;
 /// One sequence, one crowded register and one register of any words for so many of the count.
 const SHARE: usize = 50;
 
+/// A set like any other.
+const SET: Source = [0; 32];
+
 /// How many steps a sequence has.
 const STEPS: usize = 24;
 
-const REACHABLE: [Outcome; 36] = [
+const REACHABLE: [Outcome; 38] = [
     (0, "a pair of paths"),
     (67, "a pair of paths"),
+    (0, "a pair of paths, of sets that differ in one bit"),
     (0, "no path"),
     (0, "no path, and 256 are held"),
     (0, "a borrow beside one that it touches"),
     (0, "touching what the owner holds"),
+    (0, "touching all but the source set of another's"),
     (0, "touching nothing"),
     (66, "alone"),
     (66, "before 67"),
@@ -85,14 +91,19 @@ fn pairs(tally: &mut Tally, r: &mut Random) {
             binding: None,
             ..Sides::empty()
         };
-        register.claim(tally, 7, held, (0, "touching nothing"));
-        for (case, block) in cases.iter().zip(&blocks) {
-            let number = match register.applies(8, block) {
-                [_, true, _] => 67,
-                _ => 0,
-            };
-            let outcome = (number, "a pair of paths");
-            register.clone().claim(tally, 8, case, outcome);
+        register.claim(tally, Claim::new(7, &SET, held), (0, "touching nothing"));
+        for (number, (case, block)) in cases.iter().zip(&blocks).enumerate() {
+            let second = Claim::new(8, &SET, case);
+            let [_, met, _] = register.applies(second, block);
+            let outcome = (if met { 67 } else { 0 }, "a pair of paths");
+            register.clone().claim(tally, second, outcome);
+            if met {
+                let mut other = SET;
+                other[number % 32] = 1 << (number / 32 % 8);
+                let second = Claim::new(8, &other, case);
+                let outcome = (0, "a pair of paths, of sets that differ in one bit");
+                register.clone().claim(tally, second, outcome);
+            }
         }
     }
 }
@@ -104,10 +115,13 @@ fn accepted(case: &BlockCase) -> Block {
 /// Claims and releases from an empty register.
 fn sequence(tally: &mut Tally, r: &mut Random) {
     let mut register = Sides::empty();
-    let owners = owners(r);
+    let (owners, sets) = (owners(r), sets(r));
+    if sets.iter().all(|set| *set == sets[0]) {
+        register.one_set = Some(vec![]);
+    }
     for _ in 0..STEPS {
-        match step(r, owners) {
-            Step::Claim(owner, case) => claim(tally, &mut register, owner, &case),
+        match step(r, owners, sets.len()) {
+            Step::Claim(owner, set, case) => claim(tally, &mut register, owner, &sets[set], &case),
             Step::Release(owner) => release(tally, &mut register, owner),
         }
         let safe = plain::safe(&plain::locks_in(&register.words.words));
@@ -131,26 +145,28 @@ fn sequence(tally: &mut Tally, r: &mut Random) {
 }
 
 /// A claim with all its tables, and with one that is short.
-fn claim(tally: &mut Tally, register: &mut Sides, owner: u32, case: &BlockCase) {
+fn claim(tally: &mut Tally, register: &mut Sides, owner: u32, set: &Source, case: &BlockCase) {
+    let asked = Claim::new(owner, set, case);
     let rust = oracle::block::block(&case.code, case.base, case.revision);
     let outcome = match &rust {
-        Ok(block) => outcome(register, owner, block),
+        Ok(block) => outcome(register, asked, block),
         Err(refusal) => (refusal.number, "the block"),
     };
     if let Ok(block) = &rust {
-        register.short(tally, owner, case, block);
+        register.short(tally, asked, block);
     }
-    register.claim(tally, owner, case, outcome);
+    register.claim(tally, asked, outcome);
 }
 
-fn outcome(register: &Sides, owner: u32, block: &Block) -> Outcome {
-    let (held, claimed) = (&register.plain, claimed(owner, block));
-    let touched = |own: bool| {
-        let of = held.iter().filter(|lock| (lock.owner == owner) == own);
-        of.into_iter()
-            .any(|old| claimed.iter().any(|new| plain::touch(old, new)))
+fn outcome(register: &Sides, asked: Claim, block: &Block) -> Outcome {
+    let (held, claimed) = (&register.plain, asked.locks(block));
+    let touched = |own: bool, touch: fn(&Lock, &Lock) -> bool| {
+        let mut of = held
+            .iter()
+            .filter(|lock| (lock.owner == asked.owner) == own);
+        of.any(|old| claimed.iter().any(|new| touch(old, new)))
     };
-    match register.applies(owner, block) {
+    match register.applies(asked, block) {
         [true, false, false] => (66, "alone"),
         [true, true, false] => (66, "before 67"),
         [true, false, true] => (66, "before 68"),
@@ -161,10 +177,16 @@ fn outcome(register: &Sides, owner: u32, block: &Block) -> Outcome {
         _ if claimed.is_empty() && held.len() == 256 => (0, "no path, and 256 are held"),
         _ if claimed.is_empty() => (0, "no path"),
         _ if held.len() + claimed.len() == 256 => (0, "the last of 256"),
-        _ if touched(false) => (0, "a borrow beside one that it touches"),
-        _ if touched(true) => (0, "touching what the owner holds"),
+        _ if touched(false, but_for_the_set) => (0, "touching all but the source set of another's"),
+        _ if touched(false, plain::touch) => (0, "a borrow beside one that it touches"),
+        _ if touched(true, plain::touch) => (0, "touching what the owner holds"),
         _ => (0, "touching nothing"),
     }
+}
+
+/// Whether 67 would be given if the sets were the same, which they are not.
+fn but_for_the_set(a: &Lock, b: &Lock) -> bool {
+    a.source != b.source && plain::hinders(&plain::forgotten(a), &plain::forgotten(b))
 }
 
 fn release(tally: &mut Tally, register: &mut Sides, owner: u32) {
@@ -182,7 +204,8 @@ fn crowded(tally: &mut Tally, r: &mut Random) {
     let [first, second, _] = owners(r);
     let held = r.within(240, 256);
     let case_of_crowd = crowd(r, held);
-    claim(tally, &mut register, first, &case_of_crowd);
+    let set = r.digest();
+    claim(tally, &mut register, first, &set, &case_of_crowd);
     for choice in 0..16 {
         let [long, met, full, broken] = [1, 2, 4, 8].map(|bit| choice & bit != 0);
         let least = (long as usize) + (met as usize);
@@ -195,10 +218,14 @@ fn crowded(tally: &mut Tally, r: &mut Random) {
         let whole = case(r, &block);
         if !broken {
             let mut register = register.clone();
-            claim(tally, &mut register, second, &whole);
+            claim(tally, &mut register, second, &set, &whole);
+            let mut other = set;
+            other[r.below(32)] ^= 1 << r.below(8);
+            claim(tally, &mut register, second, &other, &whole);
             continue;
         }
-        let before = match register.applies(second, &accepted(&whole)) {
+        let asked = |case| Claim::new(second, &set, case);
+        let before = match register.applies(asked(&whole), &accepted(&whole)) {
             [true, _, _] => "before 66",
             [_, true, _] => "before 67",
             [_, _, true] => "before 68",
@@ -208,11 +235,11 @@ fn crowded(tally: &mut Tally, r: &mut Random) {
             signature.tag = *b"SIG1";
         }
         let case = case(r, &block);
-        register.claim(tally, second, &case, (71, before));
+        register.claim(tally, asked(&case), (71, before));
     }
     let empty = block(r, 22, vec![]);
     let empty = case(r, &empty);
-    claim(tally, &mut register, second, &empty);
+    claim(tally, &mut register, second, &set, &empty);
     release(tally, &mut register, first);
 }
 
@@ -230,15 +257,20 @@ fn of_any_words(tally: &mut Tally, r: &mut Random) {
         let Ok(block) = oracle::block::block(&case.code, case.base, case.revision) else {
             continue;
         };
-        let words = match register.applies(owner, &block) {
+        let mut set = SET;
+        if r.one_in(4) {
+            set[r.below(32)] = 1 << r.below(8);
+        }
+        let asked = Claim::new(owner, &set, &case);
+        let words = match register.applies(asked, &block) {
             [true, _, _] => (66, "any words"),
             [_, true, _] => (67, "any words"),
             [_, _, true] => (68, "any words"),
             _ if block.paths.is_empty() => (0, "any words, no path"),
             _ => (0, "any words"),
         };
-        register.short(tally, owner, &case, &block);
-        register.claim(tally, owner, &case, words);
+        register.short(tally, asked, &block);
+        register.claim(tally, asked, words);
     }
 }
 
@@ -248,8 +280,8 @@ fn large(tally: &mut Tally, r: &mut Random) {
         let block = inputs::block::large(r, 22, [0, 0, count], length);
         let case = case(r, &block);
         let mut register = Sides::empty();
-        claim(tally, &mut register, 1, &case);
-        claim(tally, &mut register, 2, &case);
+        claim(tally, &mut register, 1, &SET, &case);
+        claim(tally, &mut register, 2, &SET, &case);
         release(tally, &mut register, 1);
     }
 }

@@ -109,9 +109,9 @@ pub fn all_paths(r: &mut Random, most: usize) -> Vec<Path> {
     paths
 }
 
-/// What an owner does.
+/// What an owner does; the number is that of a source set.
 pub enum Step {
-    Claim(u32, BlockCase),
+    Claim(u32, usize, BlockCase),
     Release(u32),
 }
 
@@ -123,12 +123,29 @@ pub fn owners(r: &mut Random) -> [u32; 3] {
     }
 }
 
-pub fn step(r: &mut Random, owners: [u32; 3]) -> Step {
-    let owner = r.pick(&owners);
+/// Source sets of a sequence, some twice: one, two that differ in one bit at any place, or many.
+pub fn sets(r: &mut Random) -> Vec<[u8; 32]> {
+    let first = match r.one_in(2) {
+        true => [0; 32],
+        false => r.digest(),
+    };
+    let mut sets = vec![first; 4];
+    match r.below(3) {
+        0 => (),
+        1 => sets[0][r.below(32)] ^= 1 << r.below(8),
+        _ => sets
+            .iter_mut()
+            .for_each(|set| set[r.below(32)] ^= 1 << r.below(8)),
+    }
+    sets
+}
+
+pub fn step(r: &mut Random, owners: [u32; 3], sets: usize) -> Step {
+    let (owner, set) = (r.pick(&owners), r.below(sets));
     match r.below(12) {
         0..3 => Step::Release(owner),
-        3 => Step::Claim(owner, cases::block(r)),
-        _ => Step::Claim(owner, any_claim(r)),
+        3 => Step::Claim(owner, set, cases::block(r)),
+        _ => Step::Claim(owner, set, any_claim(r)),
     }
 }
 
@@ -208,8 +225,8 @@ pub fn any_words(r: &mut Random) -> Box<[u64; 6145]> {
             1 => r.within(14, 18) as u64,
             _ => r.below(4) as u64,
         };
-        for word in &mut lock[4..8] {
-            *word = r.u64();
+        if r.one_in(4) {
+            lock[r.within(4, 7)] = 1 << r.below(64);
         }
         for word in &mut lock[8..] {
             let (kind, first, second) = r.pick(&BORROWED);

@@ -1,15 +1,16 @@
-//! Locks with owners, which the Rust does not have, in plain lines from the words of document 02's Slip 2, over the Rust's paths; and what the
-//! words of a register mean.
+//! Locks with owners, which the Rust does not have, in plain lines from the words of document 02's Slips 2 and 10, over the Rust's paths; and what
+//! the words of a register mean.
 
 use answers::block::{Component, Event, Path};
-use answers::locks::{Lock, Part};
+use answers::locks::{Lock, Part, Source};
 
-/// The lock that an owner takes on a path. When a borrow begins and where a write is done makes no difference.
-pub fn lock(owner: u32, path: &Path) -> Lock {
+/// The lock that an owner takes on a path, under the source set of its claim. When a borrow begins and where a write is done makes no difference.
+pub fn lock(owner: u32, source: &Source, path: &Path) -> Lock {
     Lock {
         owner,
         write: matches!(path.event, Event::Write(_)),
         root: path.root,
+        source: *source,
         parts: path.components.iter().map(part).collect(),
     }
 }
@@ -30,7 +31,12 @@ fn part(component: &Component) -> Part {
 
 /// Two paths touch when one is the beginning of the other, root and components compared; equal paths touch.
 pub fn touch(a: &Lock, b: &Lock) -> bool {
-    a.root == b.root && (begins(&a.parts, &b.parts) || begins(&b.parts, &a.parts))
+    same_root(a, b) && (begins(&a.parts, &b.parts) || begins(&b.parts, &a.parts))
+}
+
+/// A lock's root is the same exactly where the symbol and the 32-byte source set are both the same.
+fn same_root(a: &Lock, b: &Lock) -> bool {
+    a.root == b.root && a.source == b.source
 }
 
 fn begins(short: &[Part], long: &[Part]) -> bool {
@@ -59,10 +65,9 @@ pub fn applies(held: &[Lock], claimed: &[Lock]) -> [bool; 3] {
     [long, met, full]
 }
 
-/// An owner claims all paths of its function or none. Refused, in this order: 66, 67, 68. A refused claim changes no lock, an accepted one only
+/// An owner claims all paths of its function or none: the locks that it would take. Refused, in this order: 66, 67, 68. A refused claim changes no lock, an accepted one only
 /// adds one for each of its paths.
-pub fn claim(held: &mut Vec<Lock>, owner: u32, paths: &[Path]) -> Result<usize, u8> {
-    let claimed: Vec<Lock> = paths.iter().map(|path| lock(owner, path)).collect();
+pub fn claim(held: &mut Vec<Lock>, claimed: Vec<Lock>) -> Result<usize, u8> {
     let [long, met, full] = applies(held, &claimed);
     if long {
         return Err(66);
@@ -94,15 +99,32 @@ pub fn locks_in(words: &[u64]) -> Vec<Lock> {
     words[1..].chunks(24).take(held).map(lock_in).collect()
 }
 
-/// Owner, write, root, number of parts, four words that mean nothing, sixteen parts.
+/// A lock whose source set is forgotten: its root is the symbol alone, as it was before Slip 10.
+pub fn forgotten(lock: &Lock) -> Lock {
+    Lock {
+        source: [0; 32],
+        ..lock.clone()
+    }
+}
+
+/// Owner, write, root, number of parts, four words of the source set, eight bytes each and the lowest first, sixteen parts.
 fn lock_in(words: &[u64]) -> Lock {
     let parts = words[3].min(16) as usize;
     Lock {
         owner: words[0] as u32,
         write: words[1] != 0,
         root: words[2] as u32,
+        source: bytes_in(&words[4..8]),
         parts: words[8..8 + parts].iter().map(part_in).collect(),
     }
+}
+
+fn bytes_in(words: &[u64]) -> Source {
+    let mut source = [0; 32];
+    for (bytes, word) in source.chunks_mut(8).zip(words) {
+        bytes.copy_from_slice(&word.to_le_bytes());
+    }
+    source
 }
 
 /// From the lowest bits on: 2 of the kind, 32 of the first number, 16 of the second.

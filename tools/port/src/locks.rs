@@ -2,14 +2,14 @@
 
 use crate::refusal;
 use answers::Answer;
-use answers::locks::{Lock, Part};
+use answers::locks::{Lock, Part, Source};
 use falgnust::calls::{self, BlockTables};
 use falgnust::raw;
 use falgnust::semcode_decode::DecodedAccessPathComponent;
 
 pub use falgnust::raw::Register;
 
-/// An owner claims the paths of a block; the answer is how many locks are held.
+/// An owner claims the paths of a block under a source set; the answer is how many locks are held.
 #[inline]
 pub fn claim(
     register: &mut Register,
@@ -17,9 +17,10 @@ pub fn claim(
     base_offset: usize,
     code: &[u8],
     header_rev: u16,
+    source: &Source,
     lent: BlockTables,
 ) -> Answer<usize> {
-    let c = calls::claim(register, owner, base_offset, code, header_rev, lent);
+    let c = calls::claim(register, owner, base_offset, code, header_rev, source, lent);
     if c.accepted {
         assert_eq!(c.refusal, raw::Refusal::default(), "zeros where accepted");
         return Ok(c.held);
@@ -39,6 +40,7 @@ pub fn lock(register: &Register, number: usize) -> Answer<Lock> {
         owner: l.owner,
         write: l.write,
         root: l.root_symbol_id,
+        source: l.source,
         parts: parts.collect::<Answer<_>>()?,
     })
 }
@@ -79,6 +81,7 @@ pub fn of_crate(lock: falgnust::locks::Lock) -> Lock {
         owner: lock.owner,
         write: lock.write,
         root: lock.root_symbol_id,
+        source: lock.source,
         parts: lock.components.iter().map(part).collect(),
     }
 }

@@ -3,7 +3,7 @@
 use super::BlockTables;
 use crate::raw::*;
 
-/// An owner claims all paths of a block, or none. `lent` takes the block's tables.
+/// An owner claims all paths of a block, or none, under a source set. `lent` takes the block's tables.
 #[inline]
 pub fn claim(
     register: &mut Register,
@@ -11,6 +11,7 @@ pub fn claim(
     base_offset: usize,
     code: &[u8],
     header_rev: u16,
+    source: &[u8; 32],
     lent: BlockTables,
 ) -> Claim {
     unsafe {
@@ -21,6 +22,7 @@ pub fn claim(
             code.as_ptr(),
             code.len(),
             header_rev,
+            source,
             lent.strings.as_mut_ptr(),
             lent.strings.len(),
             lent.paths.as_mut_ptr(),

@@ -38,6 +38,8 @@ pub struct Lock {
     pub root_symbol_id: u32,
     /// How many components its path has.
     pub component_count: usize,
+    /// The source set that was brought with the claim.
+    pub source: [u8; 32],
 }
 
 /// A component of a lock's path.
@@ -53,8 +55,8 @@ pub struct LockPart {
 }
 
 unsafe extern "C" {
-    /// An owner claims all paths of a block, or none. It decodes the block first and fills the three tables; a refusal leaves zeros in them, and
-    /// the register as it was.
+    /// An owner claims all paths of a block, or none, under a source set. It decodes the block first and fills the three tables; a refusal leaves
+    /// zeros in them, and the register as it was.
     pub fn falgnust_claim(
         register: *mut Register,
         owner: u32,
@@ -62,6 +64,7 @@ unsafe extern "C" {
         code: *const u8,
         code_len: usize,
         header_rev: u16,
+        source: *const [u8; 32],
         strings: *mut u64,
         strings_len: usize,
         paths: *mut u64,

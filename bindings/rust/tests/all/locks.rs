@@ -8,6 +8,9 @@ use falgnust::semcode_decode::{DecodeError, DecodedAccessPathComponent as Compon
 /// Below revision 20: no signature, and paths without modes.
 const REVISION: u16 = 19;
 
+/// A source set like any other.
+const SET: [u8; 32] = [0; 32];
+
 const BORROW: u8 = 0;
 const WRITE: u8 = 1;
 
@@ -31,7 +34,7 @@ fn block(paths: &[Path]) -> Vec<u8> {
 }
 
 fn claim(register: &mut Register, owner: u32, paths: &[Path]) -> Result<usize, ClaimError> {
-    register.claim(owner, 0, &block(paths), REVISION)
+    register.claim(owner, 0, &block(paths), REVISION, &SET)
 }
 
 /// What the second owner is answered where the first holds one path.
@@ -86,14 +89,14 @@ fn kinds_and_all_values_are_compared() {
     for borrow in borrows {
         for write in writes {
             let mut register = Register::new();
-            assert_eq!(register.claim(0, 0, &path(BORROW, borrow), 22), Ok(1));
-            let answer = register.claim(u32::MAX, 0, &path(WRITE, write), 22);
+            assert_eq!(register.claim(0, 0, &path(BORROW, borrow), 22, &SET), Ok(1));
+            let answer = register.claim(u32::MAX, 0, &path(WRITE, write), 22, &SET);
             assert_eq!(answer.is_err(), borrow == write);
         }
     }
     let mut register = Register::new();
     register
-        .claim(0, 0, &path(BORROW, variants[1]), 22)
+        .claim(0, 0, &path(BORROW, variants[1]), 22, &SET)
         .unwrap();
     let due = Component::AdtPayload {
         variant: 7,
@@ -115,6 +118,7 @@ fn all_paths_or_none() {
         owner,
         write,
         root_symbol_id,
+        source: SET,
         components: field.iter().map(|f| Component::FieldSymbol(*f)).collect(),
     };
     let due = [
@@ -150,7 +154,10 @@ fn at_most_256() {
         assert_eq!(claim(&mut register, 2, paths), Err(ClaimError::Full));
     }
     assert_eq!(claim(&mut register, 2, &[]), Ok(MAX_LOCKS));
-    assert_eq!(register.claim(2, 0, b"\x00\x00", REVISION), Ok(MAX_LOCKS)); // no OWN0
+    assert_eq!(
+        register.claim(2, 0, b"\x00\x00", REVISION, &SET),
+        Ok(MAX_LOCKS)
+    ); // no OWN0
     assert_eq!(register.release(1), 0);
     assert_eq!(claim(&mut register, 2, &equal[..255]), Ok(255));
     assert_eq!(claim(&mut register, 3, &equal[..2]), Err(ClaimError::Full));
@@ -177,7 +184,8 @@ fn order_of_refusals() {
         let error = claim(&mut register, 2, &paths).unwrap_err();
         assert_eq!(error, due);
         let cut = [&block(&paths)[..6], b"\xff\xff", &block(&paths)[8..]].concat();
-        let ClaimError::Block(error) = register.claim(2, 1000, &cut, REVISION).unwrap_err() else {
+        let ClaimError::Block(error) = register.claim(2, 1000, &cut, REVISION, &SET).unwrap_err()
+        else {
             panic!("the block is refused first");
         };
         assert_eq!(error.number(), Some(41));
@@ -197,13 +205,13 @@ fn large_blocks() {
     code.extend(&block(&paths[..200])[2..]);
     code.extend(b"SIG0\x00\x10");
     code.extend([15; 4096]);
-    assert_eq!(register.claim(1, usize::MAX, &code, 20), Ok(200));
+    assert_eq!(register.claim(1, usize::MAX, &code, 20, &SET), Ok(200));
 }
 
 #[test]
 fn errors() {
     let mut register = Register::new();
-    let block = register.claim(1, 1000, b"\x00\x00", 20).unwrap_err();
+    let block = register.claim(1, 1000, b"\x00\x00", 20, &SET).unwrap_err();
     let DecodeError::InvalidOwnershipSection { offset, .. } = (match &block {
         ClaimError::Block(error) => error.clone(),
         other => panic!("{other}"),
@@ -242,7 +250,7 @@ fn what_a_refusal_leaves() {
             paths: &mut starts,
             families: &mut families,
         };
-        let answer = calls::claim(&mut raw, owner, 0, &block(paths), REVISION, lent);
+        let answer = calls::claim(&mut raw, owner, 0, &block(paths), REVISION, &SET, lent);
         let first = if answer.accepted { 8 } else { 0 };
         assert_eq!((strings, families, starts[0]), ([0; 3], [0; 3], first));
         assert_eq!(starts[room - 1], 0);
@@ -255,6 +263,47 @@ fn what_a_refusal_leaves() {
     assert_eq!(ask(2, &most, 300), (68, 0));
     assert_eq!(ask(2, &most, 255), (61, 0));
     assert_eq!(register.release(1), 0);
+}
+
+/// Sets that differ in one byte, at each place, are different roots; an owner does not hinder itself, and releases what it holds, under any.
+#[test]
+fn source_sets() {
+    let write = block(&[(WRITE, 5, &[])]);
+    for at in 0..32 {
+        for bit in 0..8 {
+            let mut other = [0xA5; 32];
+            let set = other;
+            other[at] ^= 1 << bit;
+            let mut register = Register::new();
+            let mut ask = |owner, set| register.claim(owner, 0, &write, REVISION, set);
+            assert_eq!(ask(1, &set), Ok(1));
+            assert_eq!(ask(2, &set), Err(ClaimError::Held));
+            assert_eq!(ask(2, &other), Ok(2));
+            assert_eq!(ask(1, &other), Err(ClaimError::Held));
+            assert_eq!(ask(1, &set), Ok(3));
+            let sets: Vec<[u8; 32]> = register.locks().iter().map(|lock| lock.source).collect();
+            assert_eq!(sets, [set, other, set]);
+            assert_eq!(register.release(1), 1);
+            assert_eq!(register.locks()[0].source, other);
+        }
+    }
+}
+
+/// 256 counts the locks of all sets, and what would be 67 under one set may be 68 under another.
+#[test]
+fn at_most_256_of_all_sets() {
+    let mut register = Register::new();
+    let write = block(&[(WRITE, 5, &[])]);
+    for number in 0..=255 {
+        let answer = register.claim(1, 0, &write, REVISION, &[number; 32]);
+        assert_eq!(answer, Ok(usize::from(number) + 1));
+    }
+    let mut other = [7; 32];
+    let held = register.claim(2, 0, &write, REVISION, &other);
+    assert_eq!(held, Err(ClaimError::Held));
+    other[31] = 8;
+    let full = register.claim(2, 0, &write, REVISION, &other);
+    assert_eq!(full, Err(ClaimError::Full));
 }
 
 /// Any words mean some register: counts are held at 256 and 16, numbers at their width.
@@ -272,6 +321,7 @@ fn any_words() {
         lock.component_count,
     );
     assert_eq!(seen, (u32::MAX, true, u32::MAX, 16));
+    assert_eq!(lock.source, [u8::MAX; 32]);
     let part = calls::lock_part(&register, 255, 15).component;
     assert_eq!(
         (part.kind, part.first, part.second),

@@ -8,4 +8,4 @@ pub falgnust-claim-spec : {M : Type 1} → f.Statement.statement M
 falgnust-claim-spec =
     f.Tie.close (f.Tie.spec (search needs) (search needs) (search needs) (search needs) (search needs)
     λ c. let left = c .before .before .before .before .before .before in
-    claims-mapped flatClaim (λ x. x) _ _ _ _ (left .before .claim .ensures) (c .flat-claim .ensures))
+    claims-mapped flatClaim (λ x. x) _ _ _ _ _ (left .before .claim .ensures) (c .flat-claim .ensures))

@@ -3,19 +3,20 @@ use mathlib.Core.Path.{sym, _∙_}
 use Prim.Native.Nat.{_≤_, _-_}
 use native.Mathlib.Omega.{arith}
 use borrow.Author.Needs.{needs}
+use Rattle.locks.specs.Maps.{sourceIs}
 use Rattle.locks.proofs.ClaimLaws.{Free, free-none, met-found, free-more, free-all}
 use Rattle.locks.proofs.claim.any_met as f
 use f.Tie as tie
 
 abbrev Inv-loop : tie.InvT-loop
-Inv-loop words owner code header-rev starts paths i₀ i =
-    (i ≤ paths) × Free header-rev code starts paths owner words i
+Inv-loop words source owner code header-rev starts paths i₀ i =
+    (i ≤ paths) × Free header-rev code starts paths (sourceIs source) owner words i
 
 abbrev μ-loop : tie.MeasureT-loop
-μ-loop words owner code header-rev starts paths i₀ i = paths - i
+μ-loop words source owner code header-rev starts paths i₀ i = paths - i
 
 loop-holds : tie.Need-loop-holds Inv-loop μ-loop
-loop-holds c = (search needs, free-none _ _ _ _ _ _)
+loop-holds c = (search needs, free-none _ _ _ _ _ _ _)
 
 returns : tie.Need-returns Inv-loop μ-loop
 returns c =
@@ -23,7 +24,7 @@ returns c =
     let test = k .before .before in
     let words = test .before .before .before .before .before .args .words .now in
     let met = sym (c .before .hindered .ensures) ∙ c .if1 .taken in
-    met-found _ _ _ _ _ words _ (test .loop-test .taken) _ (k .path-key .ensures) met
+    met-found _ _ _ _ _ _ words _ (test .loop-test .taken) _ (k .path-key .ensures) met
 
 loop-again : tie.Need-loop-again Inv-loop μ-loop
 loop-again c =
@@ -31,10 +32,10 @@ loop-again c =
     let test = k .before .before in
     let words = test .before .before .before .before .before .args .words .now in
     let free = sym (c .before .hindered .ensures) ∙ c .if1 .left in
-    (search needs, free-more _ _ _ _ _ words _ (test .loop-test .taken) _ (k .path-key .ensures) free (test .before .loop .inv .1))
+    (search needs, free-more _ _ _ _ _ _ words _ (test .loop-test .taken) _ (k .path-key .ensures) free (test .before .loop .inv .1))
 
 returns-2 : tie.Need-returns-2 Inv-loop μ-loop
-returns-2 c = free-all _ _ _ _ _ _ _ (omega arith) (c .before .loop .inv .1)
+returns-2 c = free-all _ _ _ _ _ _ _ _ (omega arith) (c .before .loop .inv .1)
 
 pub any-met-spec : {M : Type 1} → f.Statement.statement M
 any-met-spec =

@@ -5,7 +5,7 @@ use Rattle.local_format.specs.Maps.{refusalOf}
 use Rattle.semcode_decode.specs.declared.decode.Parse.{Parse}
 use Rattle.semcode_decode.specs.Layout.{Lent, tables}
 use Rattle.semcode_decode.specs.Maps.{parseOut}
-use Rattle.locks.specs.Maps.{claimOut}
+use Rattle.locks.specs.Maps.{claimOut, sourceIs}
 use Rattle.locks.proofs.BlockLaws.{block-refused, starts-room, paths-held, paths-refused}
 use Rattle.locks.proofs.claim.claim_in as f
 use f.Tie as tie
@@ -34,7 +34,8 @@ returns c =
     let told = c .before in
     let p = told .before .before .before .before .before .before .before .before in
     let a = start p .args in
-    block-refused (a .owner) (a .base-offset) (a .header-rev) (a .code .now) (a .words .now) (brought p) (left p) (p .parse-block .ensures)
+    block-refused (sourceIs (a .source)) (a .owner) (a .base-offset) (a .header-rev) (a .code .now) (a .words .now) (brought p) (left p)
+    (p .parse-block .ensures)
     (ap parseOut (told .enum-told .given .1))
     (c .parse-refusal .ensures ∙ ap (λ (x : Parse). refusalOf (parseOut x)) (told .enum-told .given .1))
 
@@ -44,7 +45,8 @@ claim-paths-requires c κs =
     let p = decoded k in
     let a = start p .args in (
       search needs,
-      starts-room (a .owner) (a .base-offset) (a .header-rev) (a .code .now) (a .words .now) (brought p) (left p) (p .parse-block .ensures)
+      starts-room (sourceIs (a .source)) (a .owner) (a .base-offset) (a .header-rev) (a .code .now) (a .words .now) (brought p) (left p)
+          (p .parse-block .ensures)
           (ap parseOut (k .answer .given .1)),
     )
 
@@ -58,7 +60,8 @@ returns-2 c =
     let p = decoded (accepted k) in
     let a = start p .args in
     let kept = p .parse-block .kept .1 .1 .1 .1 in
-    paths-refused (a .owner) (a .base-offset) (a .header-rev) (a .code .now) (a .words .now) (brought p) (left p) (p .parse-block .ensures)
+    paths-refused (sourceIs (a .source)) (a .owner) (a .base-offset) (a .header-rev) (a .code .now) (a .words .now) (brought p) (left p)
+    (p .parse-block .ensures)
     (ap parseOut (accepted k .answer .given .1)) (claimOut (k .claim-paths .result)) _ (k .claim-paths .ensures) _
     (ap claimOut (told .enum-told2 .given .1)) (first .clear .ensures) (second .clear2 .ensures) (bytes .clear-bytes .ensures)
     (kept .0) (kept .1 .0) (kept .1 .1 .0)
@@ -68,7 +71,8 @@ returns-3 c =
     let k = c .before .before .before .before .before in
     let p = decoded (accepted k) in
     let a = start p .args in
-    paths-held (a .owner) (a .base-offset) (a .header-rev) (a .code .now) (a .words .now) (brought p) (left p) (p .parse-block .ensures)
+    paths-held (sourceIs (a .source)) (a .owner) (a .base-offset) (a .header-rev) (a .code .now) (a .words .now) (brought p) (left p)
+    (p .parse-block .ensures)
     (ap parseOut (accepted k .answer .given .1)) (claimOut (k .claim-paths .result)) _ (k .claim-paths .ensures)
     (ap claimOut (c .before .verdict .given .1))
 

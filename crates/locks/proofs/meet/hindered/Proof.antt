@@ -4,8 +4,9 @@ use native.Mathlib.Omega.{arith}
 use mathlib.Core.Path.{_≡_, sym, _∙_}
 use mathlib.Core.Bool.{false}
 use Prim.Native.Nat.{ℕ, _+_, _≤_, _<_, _-_}
+use borrow.Author.Tests.{eqb-true, eqb-false}
 use Rattle.locks.specs.Phase.{metAt}
-use Rattle.locks.proofs.MeetLaws.{other-root, met, none-met, passed-none, passed-on}
+use Rattle.locks.proofs.MeetLaws.{other-symbol, met, none-met, passed-none, passed-on}
 use Rattle.locks.proofs.meet.hindered as f
 use f.Tie as tie
 
@@ -16,7 +17,7 @@ abbrev μ-loop : tie.MeasureT-loop
 μ-loop words key n i₀ i = n - i
 
 meets-requires : tie.Need-meets-requires Inv-loop μ-loop
-meets-requires c κs = (search needs, (search needs, sym (c .before .same-root .ensures) ∙ c .if1 .taken))
+meets-requires c κs = (search needs, (search needs, eqb-true _ _ (sym (c .before .same-symbol .ensures) ∙ c .if1 .taken)))
 
 returns : tie.Need-returns Inv-loop μ-loop
 returns c = met _ _ (c .before .before .before .before .before .loop .i) _ (omega arith) (sym (c .before .meets .ensures) ∙ c .if2 .taken)
@@ -33,7 +34,7 @@ loop-again-2 c =
     let other = c .before in
     let l = other .before .before .before .loop in
     let passed = c .pass .ensures in
-    let here = sym (other-root _ _ (sym (other .before .same-root .ensures) ∙ other .if1 .left)) in
+    let here = sym (other-symbol _ _ (eqb-false _ _ (sym (other .before .same-symbol .ensures) ∙ other .if1 .left))) in
     (passed .within, passed-on _ _ _ _ _ (l .inv .1) here passed)
 
 pub hindered-spec : {M : Type 1} → f.Statement.statement M

@@ -8,10 +8,13 @@ use f.Tie as tie
 
 returns : tie.Need-returns
 returns c =
-    let root = c .before .before in
+    let d = c .before .before in
+    let b = d .before .before in
+    let root = b .before .before in
     let owner = root .before .before .word .ensures in
-    let parts = c .parts .ensures ∙ ap (λ (n : ℕ). min n 16) (c .before .word4 .ensures) in
-    lock-told _ _ (search needs) (search needs) owner (root .before .word2 .ensures) (root .word3 .ensures) parts
+    let parts = c .parts .ensures ∙ ap (λ (n : ℕ). min n 16) (c .before .word8 .ensures) in
+    lock-told _ _ (search needs) (search needs) owner (root .before .word2 .ensures) (root .word3 .ensures)
+    (b .before .word4 .ensures) (b .word5 .ensures) (d .before .word6 .ensures) (d .word7 .ensures) parts
 
 returns-2 : tie.Need-returns-2
 returns-2 c =
@@ -21,4 +24,4 @@ returns-2 c =
 pub lock-in-spec : {M : Type 1} → f.Statement.statement M
 lock-in-spec =
     tie.close (tie.spec (search needs) (search needs) (search needs) (search needs) (search needs) (search needs) (search needs) (search needs)
-    returns (search needs) returns-2)
+    (search needs) (search needs) (search needs) (search needs) returns (search needs) returns-2)
