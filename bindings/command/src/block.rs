@@ -10,7 +10,7 @@ use falgnust::semcode_decode::parse_string_table_debug_and_ownership;
 use std::io;
 
 mod tables;
-pub use tables::Tables;
+pub use tables::{Tables, component};
 
 /// The headings of docs/REFUSALS.md that speak of blocks.
 const HEADINGS: &[&str] = &["Blocks"];

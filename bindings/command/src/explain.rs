@@ -36,7 +36,7 @@ pub fn run(mut args: Args, answer: &mut Vec<u8>) -> Result<(), Stop> {
     Ok(())
 }
 
-/// A condition with its smallest input, the place that is named marked in it.
+/// A condition with its smallest input, the place that is named marked in it. Where another input comes with it, none is.
 fn shown(refusals: &Refusals, row: &Row, paint: Paint) -> String {
     let title = format!("{}: {}", row.heading, row.condition);
     let title = paint.text(Style::Bold, &title);
@@ -52,12 +52,18 @@ fn shown(refusals: &Refusals, row: &Row, paint: Paint) -> String {
     if let Some(call) = call(refusals, row) {
         told += &format!("  try     {call}\n");
     }
-    let (_, offset) = row.answer.split_once(" at ").expect("an offset");
-    let offset = offset.parse().expect("an offset");
-    told + &match bytes.len() <= SHORT {
-        true => hex::all(&bytes, offset, paint),
-        false => hex::around(&bytes, offset, paint),
+    let place = place(row).filter(|_| !asked.contains('`'));
+    told + &match place {
+        Some(place) if bytes.len() > SHORT => hex::around(&bytes, place, paint),
+        None if bytes.len() > SHORT => String::new(),
+        place => hex::all(&bytes, place, paint),
     }
+}
+
+/// The place of the input that the offset is; none where every offset of the number is 0.
+fn place(row: &Row) -> Option<usize> {
+    let (_, offset) = row.answer.split_once(" at ")?;
+    (row.offset != "0").then(|| offset.parse().expect("an offset"))
 }
 
 /// A command that shows the refusal, of a number's first row; none where that lends tables of a length of their own.

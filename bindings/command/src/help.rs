@@ -8,6 +8,7 @@ falgnust: evidence sections and function tables of SemCode, shown by proved func
   falgnust page FILE           the same as one HTML page, with a picture of each derivation
   falgnust functions FILE      the functions of a file, with their tables
   falgnust block FILE          the tables of one function's block
+  falgnust locks SCRIPT        claims and releases, one after the other
   falgnust explain NUMBER      what a refusal means, where its offset points, its smallest input
 
 FILE may be - for standard input. A number is decimal, or hexadecimal after 0x.
@@ -97,6 +98,25 @@ revision 20 on the parameters.
 
 Example
   falgnust block examples/tables.block --revision 22
+"
+        }
+        "locks" => {
+            "\
+falgnust locks SCRIPT [--json]
+
+Claims and releases of locks, one after the other, from a register in which nothing is held: whether each claim is
+accepted, and what is held at the end. The status is 1 where some claim was refused; a refused claim changes nothing.
+
+  --json  for scripts
+
+A script has a line for each step; empty lines and those that start with # are passed over.
+  revision N                 the files after it are of that revision: one more than the number in their magic
+  source DIGITS              the files after it are of that source set, 64 hexadecimal digits; zeros where none is named
+  claim OWNER FUNCTION FILE  an owner, a number, claims all paths of a function, by its number in the file
+  release OWNER              drops all that an owner holds
+
+Example
+  falgnust locks examples/locks.txt
 "
         }
         "explain" => {

@@ -11,6 +11,7 @@ mod functions;
 mod help;
 mod hex;
 mod json;
+mod locks;
 mod page;
 mod paint;
 mod progress;
@@ -81,6 +82,7 @@ fn run(answer: &mut Vec<u8>) -> Result<(), Stop> {
         "page" => page::run(args, answer),
         "functions" => functions::run(args, answer),
         "block" => block::run(args, answer),
+        "locks" => locks::run(args, answer),
         "explain" => explain::run(args, answer),
         other => Err(Stop::Failed(format!(
             "no command {other:?}: falgnust --help lists them"

@@ -8,6 +8,7 @@ use crate::paint::{Paint, Style};
 use crate::source::Source;
 use falgnust::calls;
 use falgnust::evr0::{Evr0Error, Evr0ErrorKind};
+use falgnust::locks::ClaimError;
 use falgnust::semcode_decode::DecodeError;
 
 /// What the proved functions say of bytes that they refuse.
@@ -67,6 +68,21 @@ impl From<DecodeError> for Refusal {
     }
 }
 
+impl From<ClaimError> for Refusal {
+    fn from(error: ClaimError) -> Self {
+        let number = error.number().expect("a number of every refusal");
+        match error {
+            ClaimError::Block(error) => error.into(),
+            _ => Refusal {
+                kind: "Added",
+                number,
+                offset: 0,
+                message: None,
+            },
+        }
+    }
+}
+
 /// The refusal of a section whose tag is not at its place.
 const NO_TAG: u8 = 1;
 
@@ -101,7 +117,8 @@ impl Refused {
     /// Ends the run: a script gets the refusal as the answer.
     pub fn end(self, is_script: bool, answer: &mut Vec<u8>) -> Result<(), Stop> {
         if is_script {
-            answer.extend(format!("{}\n", self.json()).bytes());
+            let refusal = Json::Object(self.json().into());
+            answer.extend(format!("{refusal}\n").bytes());
             return Err(Stop::Answered);
         }
         Err(Stop::Refused(self))
@@ -139,20 +156,21 @@ impl Refused {
         told
     }
 
-    fn json(&self) -> Json {
+    /// For a script.
+    pub fn json(&self) -> [(&'static str, Json); 6] {
         let Refusal {
             kind,
             number,
             offset,
             message,
         } = &self.refusal;
-        Json::Object(vec![
+        [
             ("accepted", false.into()),
             ("kind", (*kind).into()),
             ("number", (*number).into()),
             ("offset", (*offset).into()),
             ("meaning", self.sentence().into()),
             ("message", message.clone().map_or(Json::Null, Json::from)),
-        ])
+        ]
     }
 }

@@ -137,7 +137,7 @@ fn when(path: &Path) -> String {
     borrow.or(write).unwrap_or_default()
 }
 
-fn component(component: &Component) -> String {
+pub fn component(component: &Component) -> String {
     match component {
         Component::TupleIndex(index) => format!("tuple index {index}"),
         Component::FieldSymbol(symbol) => format!("field {symbol}"),
