@@ -78,7 +78,8 @@ def joined():
     )
 
 
-here = pathlib.Path(__file__).parent
-(here / "accepted.evr0").write_bytes(specimen(0))
-(here / "refused.evr0").write_bytes(specimen(1))
-(here / "joined.evr0").write_bytes(joined())
+if __name__ == "__main__":
+    here = pathlib.Path(__file__).parent
+    (here / "accepted.evr0").write_bytes(specimen(0))
+    (here / "refused.evr0").write_bytes(specimen(1))
+    (here / "joined.evr0").write_bytes(joined())

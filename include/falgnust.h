@@ -27,7 +27,7 @@ extern "C" {
 
 /* The version of this header: ten thousand times the first number, a hundred times the second, and the third. The first rises where a
  * struct, an argument or an answer changes, and the second where something is added. */
-#define FALGNUST_VERSION 60000
+#define FALGNUST_VERSION 60100
 
 /* Layouts: the size of each struct below is that of the struct in crates/falgnust/src. */
 #define FALGNUST_SIZE(type, size) FALGNUST_ASSERT(sizeof(type) == (size), #type " has another layout")
@@ -57,7 +57,7 @@ typedef struct FalgnustRefusal {
 FALGNUST_SIZE(FalgnustRefusal, 16);
 
 /* The message of each number, in the Rust's words; after those of 31, 36 and 73 the Rust writes the count; 63, 64 and 72 have three each
- * there, and 71 two; it has none of 61, 62 and 66 to 68. 0 stands for no refusal, and 69 and 70 are not given. */
+ * there, and 71 two; it has none of 61, 62 and 66 to 70. 0 stands for no refusal. */
 static const char *const FALGNUST_MESSAGES[74] = {
     "accepted",
     "missing mandatory EVR0 section",
@@ -128,7 +128,8 @@ static const char *const FALGNUST_MESSAGES[74] = {
     "path of more than 16 components",
     "path touches a lock of another owner, and either is a write",
     "more than 256 locks",
-    "", "",
+    "count or rule of a rule table outside its bounds or cut, or bytes left over",
+    "rule's name given twice",
     "OWN0 or SIG0 section missing",
     "parameter count or family cut, or family unknown",
     "too many callable-signature parameters: "
@@ -322,6 +323,87 @@ FALGNUST_SIZE(FalgnustAuthorised, 32);
 
 /* Decodes anew as falgnust_decode_evr0_section does, with its marks; 62 as above. */
 FalgnustAuthorised falgnust_authorised(
+    const uint8_t *bytes, size_t bytes_len, size_t cursor, uint32_t proposition,
+    uint64_t *propositions, size_t propositions_len,
+    uint64_t *proofs, size_t proofs_len,
+    uint64_t *depths, size_t depths_len,
+    uint8_t *marks, size_t marks_len);
+
+/* ---- Sections by loaded rules ----
+ *
+ * A table of rules takes the place of the four. As bytes: their count, 1 to 32, then of each rule its name as text (a 2-byte length and 1
+ * to 64 bytes of UTF-8 without control characters) and its witness count, parent count, operation and polarity, a byte each. A rule has
+ * either one witness, no parent and polarity 0 or 1, or no witness, 1 or 2 parents and polarity 2, which is not asked; its operation is 0
+ * or 1. Rules may stand in any order. These bytes (examples/four.rules) are the four, under which every answer is that of the functions above:
+ *
+ *   04
+ *   0D 00 "POS-WITNESS-1" 01 00 00 01
+ *   0D 00 "NEG-WITNESS-1" 01 00 00 00
+ *   0D 00 "JOIN-SAME-P-1" 00 02 00 02
+ *   0B 00 "OP-T-ONLY-1"   00 01 01 02
+ *
+ * A table is refused before any section is looked at, as FALGNUST_ADDED at 0, the count first, then rule by rule and 69 before 70, and what is
+ * left over last: 69 a count or rule outside these bounds or cut, or bytes left over; 70 a name given twice. No bytes are 69 too, and not the
+ * four. Nothing is kept between calls, so the table comes with each, which loads it anew. */
+
+typedef struct FalgnustRules {
+    bool accepted;
+    FalgnustRefusal refusal; /* 69 or 70, at 0 */
+    size_t count; /* how many rules */
+} FalgnustRules;
+FALGNUST_SIZE(FalgnustRules, 32);
+
+/* Loads a table of rules, to see whether it is one. */
+FalgnustRules falgnust_load_rules(const uint8_t *rules, size_t rules_len);
+
+/* The functions above, by the rules of a table: 69 and 70 first, with every lent table zeros and the cursor that was brought, and then all that
+ * they promise, with the table's rules for the four. A name that the table does not have is 20, though it be one of the four; 29 asks the
+ * polarity that a one-witness rule gives; rules of two parents are joins. */
+FalgnustSection falgnust_decode_evr0_section_by_rules(
+    const uint8_t *rules, size_t rules_len,
+    const uint8_t *bytes, size_t bytes_len, size_t cursor,
+    uint64_t *propositions, size_t propositions_len,
+    uint64_t *proofs, size_t proofs_len,
+    uint64_t *depths, size_t depths_len,
+    uint8_t *marks, size_t marks_len);
+FalgnustSection falgnust_decode_evr0_unmarked_by_rules(
+    const uint8_t *rules, size_t rules_len,
+    const uint8_t *bytes, size_t bytes_len, size_t cursor,
+    uint64_t *propositions, size_t propositions_len,
+    uint64_t *proofs, size_t proofs_len,
+    uint64_t *depths, size_t depths_len);
+FalgnustProposition falgnust_proposition_number_by_rules(
+    const uint8_t *rules, size_t rules_len,
+    const uint8_t *bytes, size_t bytes_len, size_t cursor, uint32_t number,
+    uint64_t *propositions, size_t propositions_len,
+    uint64_t *proofs, size_t proofs_len,
+    uint64_t *depths, size_t depths_len);
+FalgnustProof falgnust_proof_number_by_rules(
+    const uint8_t *rules, size_t rules_len,
+    const uint8_t *bytes, size_t bytes_len, size_t cursor, uint32_t number,
+    uint64_t *propositions, size_t propositions_len,
+    uint64_t *proofs, size_t proofs_len,
+    uint64_t *depths, size_t depths_len);
+FalgnustWitness falgnust_witness_number_by_rules(
+    const uint8_t *rules, size_t rules_len,
+    const uint8_t *bytes, size_t bytes_len, size_t cursor, uint32_t number,
+    uint64_t *propositions, size_t propositions_len,
+    uint64_t *proofs, size_t proofs_len,
+    uint64_t *depths, size_t depths_len);
+FalgnustParent falgnust_parent_number_by_rules(
+    const uint8_t *rules, size_t rules_len,
+    const uint8_t *bytes, size_t bytes_len, size_t cursor, uint32_t number,
+    uint64_t *propositions, size_t propositions_len,
+    uint64_t *proofs, size_t proofs_len,
+    uint64_t *depths, size_t depths_len);
+FalgnustWayDown falgnust_way_down_by_rules(
+    const uint8_t *rules, size_t rules_len,
+    const uint8_t *bytes, size_t bytes_len, size_t cursor, uint32_t from, uint64_t limit,
+    uint64_t *propositions, size_t propositions_len,
+    uint64_t *proofs, size_t proofs_len,
+    uint64_t *depths, size_t depths_len);
+FalgnustAuthorised falgnust_authorised_by_rules(
+    const uint8_t *rules, size_t rules_len,
     const uint8_t *bytes, size_t bytes_len, size_t cursor, uint32_t proposition,
     uint64_t *propositions, size_t propositions_len,
     uint64_t *proofs, size_t proofs_len,

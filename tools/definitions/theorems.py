@@ -1,6 +1,6 @@
 """Writes a crate of theorems, each by computation: the definition gives the Rust's answer to one input.
 
-usage: theorems.py section|block|functions REPOSITORY < the lines of tools/sample"""
+usage: theorems.py section|block|functions|ruled REPOSITORY < the lines of tools/sample"""
 import glob
 import os
 import re
@@ -8,6 +8,7 @@ import sys
 
 import blocks
 import functions
+import ruled
 import sections
 
 
@@ -32,7 +33,7 @@ def with_dependencies(repository, crate):
 
 def main():
     kind, repository = sys.argv[1:]
-    form = {"section": sections, "block": blocks, "functions": functions}[kind]
+    form = {"section": sections, "block": blocks, "functions": functions, "ruled": ruled}[kind]
     uses, names = [], list(form.NAMES)
     crates = with_dependencies(repository, form.CRATE)
     for crate in crates:

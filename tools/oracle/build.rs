@@ -2,7 +2,8 @@
 //!
 //! SEMANTIC_SRC names a checkout of skulmakov-oss/Semantic at commit a38c216cab. Its files must have the sums in sources.sha256. They are
 //! copied to OUT_DIR as they are, but for two mechanical changes: the functions in reach/ are appended, since what they call is private, and so
-//! is the loop of `decode_semcode` as a function of its own. The files of plain/, for what the Rust does not have, are copied beside them.
+//! is the loop of `decode_semcode` as a function of its own. The files of plain/, for what the Rust does not have, are copied beside them, and so
+//! is `evr0_ruled`, evr0.rs with other rules: a model, and not the Rust.
 
 use std::env;
 use std::fs;
@@ -12,7 +13,7 @@ use std::process::{Command, Stdio};
 
 const SUMS: &str = include_str!("sources.sha256");
 const MODULES: [&str; 3] = ["evr0", "local_format", "semcode_decode"];
-const PLAIN: [&str; 2] = ["locks", "marks"];
+const PLAIN: [&str; 3] = ["locks", "marks", "rules"];
 
 fn main() {
     println!("cargo::rerun-if-changed=build.rs");
@@ -38,6 +39,8 @@ fn main() {
         }
         root.push_str(&copied(&out, module, text));
     }
+    let ruled = with_fault("evr0_ruled", ruled(&read(&sources.join("evr0.rs"))));
+    root.push_str(&copied(&out, "evr0_ruled", ruled));
     for module in PLAIN {
         let file = PathBuf::from(format!("plain/{module}.rs"));
         println!("cargo::rerun-if-changed={}", file.display());
@@ -104,6 +107,56 @@ fn functions_from(text: &str) -> String {
         steps.replace("header.rev", "rev")
     )
 }
+
+/// evr0.rs by the rules of a table: in the two places that name rules the caller's table is asked. Its types are those of `evr0`.
+fn ruled(text: &str) -> String {
+    let types = once(text, "#[derive(Debug, Clone, Copy, PartialEq, Eq)]\n");
+    let reader = once(text, "struct Reader<'a> {\n");
+    let mut text = format!("{}{USED}{}", &text[..types], &text[reader..]);
+    for (old, new) in RULED {
+        once(&text, old);
+        text = text.replacen(old, new, 1);
+    }
+    for name in [
+        "POS-WITNESS-1",
+        "NEG-WITNESS-1",
+        "JOIN-SAME-P-1",
+        "OP-T-ONLY-1",
+    ] {
+        assert!(!text.contains(name), "a rule is named elsewhere: {name}");
+    }
+    text
+}
+
+const USED: &str =
+    "use crate::evr0::{DecodedEvr0, Evr0Error, Evr0ErrorKind, Proof, Proposition, Witness};
+use crate::rules::Rule;
+
+";
+
+const RULED: [(&str, &str); 3] = [
+    (
+        "pub fn decode_evr0_section(bytes: &[u8], ",
+        "pub fn decode_evr0_section(rules: &[Rule], bytes: &[u8], ",
+    ),
+    (
+        r#"match item.rule_id.as_str() {
+            "POS-WITNESS-1" | "NEG-WITNESS-1" => (1, 0, 0),
+            "JOIN-SAME-P-1" => (0, 2, 0),
+            "OP-T-ONLY-1" => (0, 1, 1),
+            _ => return"#,
+        r#"match rules.iter().find(|rule| rule.name == item.rule_id) {
+            Some(rule) => (rule.witnesses, rule.parents, rule.operation),
+            None => return"#,
+    ),
+    (
+        r#"if (proof.rule_id == "POS-WITNESS-1" && witness.polarity != 1)
+                || (proof.rule_id == "NEG-WITNESS-1" && witness.polarity != 0)
+            {"#,
+        r#"let rule = rules.iter().find(|rule| rule.name == proof.rule_id);
+            if rule.is_some_and(|rule| rule.polarity != 2 && witness.polarity != rule.polarity) {"#,
+    ),
+];
 
 /// ORACLE_FAULT plants a fault, to see that a comparison finds it: a module, the text to replace and its replacement, a tab between them.
 fn with_fault(module: &str, text: String) -> String {

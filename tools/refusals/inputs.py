@@ -1,7 +1,7 @@
 """The inputs of docs/REFUSALS.md, as the tables there have them.
 
-An input is a row's cell `WORDS` with what is asked after it (rev N, room A B C, string N, from N, claim N, set N, held N `WORDS`, ..); docs/REFUSALS.md says
-how words are read.
+An input is a row's cell `WORDS` with what is asked after it (rev N, room A B C, string N, from N, claim N, set N, held N `WORDS`, as rules, ..);
+docs/REFUSALS.md says how words are read.
 """
 import dataclasses
 import os
@@ -11,15 +11,16 @@ TOP = os.path.dirname(os.path.dirname(os.path.dirname(os.path.abspath(__file__))
 DOCUMENT = os.path.join(TOP, "docs", "REFUSALS.md")
 KINDS = ("Invalid", "Limit", "Strings", "Debug", "Ownership", "Added", "Truncated", "Name", "Signature")
 BLOCK = (256, 8192, 65535, 4096)  # lent tables that are never too short
-LONGEST = {"section": (65536, 65536, 65536), "block": BLOCK, "functions": (1024, *BLOCK), "locks": BLOCK}
+LONGEST = {"section": (65536, 65536, 65536), "block": BLOCK, "functions": (1024, *BLOCK), "locks": BLOCK, "rules": ()}
 OF_LOCKS = ("claim", "lock", "part")
 
 
 @dataclasses.dataclass
 class Case:
     line: int  # of the document
-    form: str  # "section" (at cursor 0), "block" (at base 0), "functions" (from cursor 0) or "locks" (a block that is claimed, or a register)
+    form: str  # "section" (at cursor 0), "block" (at base 0), "functions" (from cursor 0), "locks" (a block that is claimed, or a register) or "rules"
     data: bytes
+    rules: bytes  # the table of rules that a section comes with, or None
     revision: int  # of a block or file
     rooms: tuple  # lengths of the lent tables: propositions, proofs, depths; or functions, of a file, strings, symbols, paths, families
     marks: int  # length of the table of marks where it differs from that of depths, or None
@@ -29,6 +30,10 @@ class Case:
     number: int
     kind: str
     offset: int
+
+    def by_rules(self):
+        """Whether it is a table of rules, or comes with one."""
+        return self.form == "rules" or self.rules is not None
 
 
 def replayed(case):
@@ -48,6 +53,8 @@ def turns(text, names):
 
 def read(text, names):
     parts = re.findall(r"\[[^\]]*\]|\S+", text)
+    if parts == ["-"]:
+        return b""
     out = b""
     for place, part in enumerate(parts):
         if part == "#":
@@ -111,15 +118,21 @@ def cases():
         if not row.get("Input", "none").startswith("`"):
             continue
         text, rest = re.fullmatch(r"`([^`]*)`(.*)", row["Input"]).groups()
+        rules, given = None, re.fullmatch(r" as rules of `([^`]*)`(.*)", rest)
+        if given:
+            rules = read(text, names)
+            text, rest = given.groups()
         held = [(int(owner), read(block, names)) for owner, block in re.findall(r"held (\d+) `([^`]*)`", rest)]
         revision, rooms, asked, source = asked_of(re.sub(r"held \d+ `[^`]*`", "", rest))
         refused, offset = (int(n) for n in row["Answer"].split(" at "))
-        form = "section" if refused <= 29 or text.startswith("EVR0") else "functions" if "from 0" in rest else "block"
+        form = "section" if given or refused <= 29 or text.startswith("EVR0") else "functions" if "from 0" in rest else "block"
         if asked and asked[0] in OF_LOCKS:
             form = "locks"
+        if rest == " as rules":
+            form = "rules"
         rooms, marks = rooms or LONGEST[form], None
         if form == "section" and len(rooms) > 3:
             *rooms, marks = rooms
-        data = b"" if text == "-" else read(text, names)
-        found.append(Case(at, form, data, revision, tuple(rooms), marks, asked, source, held, refused, kinds[refused], offset))
+        data = read(text, names)
+        found.append(Case(at, form, data, rules, revision, tuple(rooms), marks, asked, source, held, refused, kinds[refused], offset))
     return found

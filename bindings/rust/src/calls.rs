@@ -5,8 +5,10 @@ use crate::raw::*;
 
 mod functions;
 mod locks;
+mod rules;
 pub use functions::*;
 pub use locks::*;
+pub use rules::*;
 
 /// The tables that are lent for a section: the start of each proposition and of each proof in the payload, and each proof's depth.
 pub struct SectionTables<'a> {

@@ -2,9 +2,10 @@
 //! witnesses.
 //!
 //! Added beside the original: [`Evr0Error::number`], `Display` and `Error` for [`Evr0Error`], the records by number
-//! ([`proposition_number`], [`proof_number`], [`witness_number`], [`parent_number`]), [`way_down`], [`authorised`] and [`marks`].
+//! ([`proposition_number`], [`proof_number`], [`witness_number`], [`parent_number`]), [`way_down`], [`authorised`] and [`marks`]; and all of
+//! them by other rules than the four ([`RuleTable`], [`RulesError`]).
 
-use crate::calls;
+use crate::calls::{self, SectionTables};
 use crate::messages;
 use crate::raw;
 use std::fmt;
@@ -12,10 +13,12 @@ use std::fmt;
 mod ask;
 mod marks;
 mod records;
+mod rules;
 mod tables;
 
 pub use ask::*;
 pub use marks::marks;
+pub use rules::{RuleTable, RulesError};
 use tables::{Counted, Few};
 
 /// The longest payload.
@@ -173,13 +176,26 @@ pub struct DecodedEvr0 {
 /// assert_eq!((error.number(), error.offset), (Some(1), 0));
 /// ```
 pub fn decode_evr0_section(bytes: &[u8], cursor: &mut usize) -> Result<DecodedEvr0, Evr0Error> {
+    let from = *cursor;
+    decoded(bytes, cursor, |lent| {
+        calls::decode_evr0_unmarked(bytes, from, lent)
+    })
+}
+
+/// The records of the section at `cursor`, which `call` decodes.
+#[inline]
+fn decoded(
+    bytes: &[u8],
+    cursor: &mut usize,
+    call: impl Fn(SectionTables) -> raw::Section,
+) -> Result<DecodedEvr0, Evr0Error> {
     let mut few = Few::default();
-    let mut section = calls::decode_evr0_unmarked(bytes, *cursor, few.lent());
+    let mut section = call(few.lent());
     let (mut propositions, mut proofs) = (&few.propositions[..], &few.proofs[..]);
     let mut counted;
     if section.refusal.number == 61 {
         counted = Counted::new(bytes, section.refusal);
-        section = calls::decode_evr0_unmarked(bytes, *cursor, counted.lent());
+        section = call(counted.lent());
         (propositions, proofs) = (&counted.propositions, &counted.proofs);
     }
     if !section.accepted {

@@ -1,7 +1,7 @@
-//! Document 01's numbers and the messages of skulmakov-oss/Semantic.
+//! Document 01's numbers and the messages of skulmakov-oss/Semantic, which has none of 69 and 70.
 
-/// Those of 31, 36 and 73 go on with the count; 63, 64 and 72 have three each, 71 two. 66 to 68 are not the original's.
-const MESSAGES: [(u8, &str); 76] = [
+/// Those of 31, 36 and 73 go on with the count; 63, 64 and 72 have three each, 71 two. 66 to 70 are not the original's.
+const MESSAGES: [(u8, &str); 78] = [
     (1, "missing mandatory EVR0 section"),
     (2, "EVR0 length truncated"),
     (3, "EVR0 payload exceeds bounded section budget or is empty"),
@@ -84,6 +84,11 @@ const MESSAGES: [(u8, &str); 76] = [
         "path touches a lock of another owner, and either is a write",
     ),
     (68, "more than 256 locks"),
+    (
+        69,
+        "count or rule of a rule table outside its bounds or cut, or bytes left over",
+    ),
+    (70, "rule's name given twice"),
     (71, OWNERSHIP_ABSENT),
     (71, SIGNATURE_ABSENT),
     (72, PARAMETER_COUNT_CUT),

@@ -10,7 +10,7 @@ use Rattle.local_format.specs.Refusal.{Refusal}
 use Rattle.local_format.specs.Out.{Out, ok, refused}
 use Rattle.local_format.proofs.OutLaws.{bind-ok, then-ok, checked-ok, check-ok, ok-same, never}
 use Rattle.lent_table.specs.Lent.{lent}
-use Rattle.derivation.specs.Rule.{fourRules}
+use Rattle.derivation.specs.Rule.{Rule}
 use Rattle.derivation.specs.Pass.{depths}
 use Rattle.derivation.proofs.Tests.{both}
 use Rattle.evr0_section.specs.Head.{Counts, Head, Room, listed, countLimits, withinLimits, sizes, hasRoom, headOf, checkCounts, checkedHead}
@@ -20,9 +20,9 @@ use Rattle.evr0_section.proofs.SectionWithin.{head-end}
 use Rattle.evr0_head.specs.Checks.{Limited}
 use Rattle.evr0_head.proofs.HeadLaws.{limited}
 use Rattle.evr0_tables.specs.PayloadMaps.{Places, placesIn, proofStartsIn, Reads}
-use Rattle.evr0_pass.specs.View.{Layout, TablesThere, view}
+use Rattle.evr0_pass.specs.View.{Layout, TablesThere, RulesKnown, view}
 use Rattle.evr0_pass.specs.Maps.{doneIn, depthsIn, Derives}
-use Rattle.evr0_pass.proofs.ViewOf.{layoutOf, section-view, tables-there, starts-total}
+use Rattle.evr0_pass.proofs.ViewOf.{layoutOf, section-view, tables-there, rules-known, starts-total}
 use Rattle.evr0.specs.Answer.{Lent, roomOf}
 use Rattle.evr0.specs.Steps.{payloadIn, HeadThere, Passes}
 use Rattle.evr0.proofs.AnswerLaws.{refusal-passes}
@@ -91,19 +91,19 @@ same-parts : {c d : Counts} {w v q k : ℕ} → c ≡ d → w ≡ v → q ≡ k 
     (record { counts = d; witnessesAt = v; parentsAt = k })
 same-parts a b c = rw (a, b, c)
 
-module _ (before after : Lent) (p : List ℕ) (counts : Counts) (at : ℕ) (there : HeadThere (roomOf before) p counts at) where
+module _ (rules : List Rule) (before after : Lent) (p : List ℕ) (counts : Counts) (at : ℕ) (there : HeadThere (roomOf before) p counts at) where
   abbrev four : Out Four
-  four = tablesAfter fourRules counts p at
+  four = tablesAfter rules counts p at
 
-  same-tables : {x : Out Four} → four ≡ x → tablesAfter fourRules (there .head .counts) p (there .head .next) ≡ x
+  same-tables : {x : Out Four} → four ≡ x → tablesAfter rules (there .head .counts) p (there .head .next) ≡ x
   same-tables e = rw (there .same, there .next) e
 
   -- ---- Refused tables
   pub tables-refused : {ps qs : List ℕ} {q : Refusal} → Reads four (before .propositions) (before .proofs) ps qs (refused q) → after .propositions ≡ ps
-      → after .proofs ≡ qs → after .depths ≡ lent (length (before .depths)) [] → (end : ℕ) → Passes (payloadIn before p end) before after (refused q)
+      → after .proofs ≡ qs → after .depths ≡ lent (length (before .depths)) [] → (end : ℕ) → Passes (payloadIn rules before p end) before after (refused q)
   tables-refused {q = q} r ep eq d end =
       let x = places-refused four q (sym (r .answer)) in
-      refusal-passes (no-tables fourRules (roomOf before) p end (there .head) (there .read) q (same-tables x))
+      refusal-passes (no-tables rules (roomOf before) p end (there .head) (there .read) q (same-tables x))
       (record { propositions = ep ∙ r .propositions ∙ rw x; proofs = eq ∙ r .proofs ∙ rw x; depths = d })
 
   -- ---- Tables that were read, with what the last pass makes of them
@@ -115,14 +115,14 @@ module _ (before after : Lent) (p : List ℕ) (counts : Counts) (at : ℕ) (ther
     unfolding f
     four-is = places-read four (sym (r .answer)) .1
 
-    of-head : tablesAfter fourRules (there .head .counts) p (there .head .next) ≡ ok f
+    of-head : tablesAfter rules (there .head .counts) p (there .head .next) ≡ ok f
     of-head = same-tables four-is
 
-    read : tablesOf fourRules (roomOf before) p ≡ ok (whole (there .head) f)
-    read = tables-are fourRules (roomOf before) p 0 (there .head) (there .read) f of-head
+    read : tablesOf rules (roomOf before) p ≡ ok (whole (there .head) f)
+    read = tables-are rules (roomOf before) p 0 (there .head) (there .read) f of-head
 
     total : length (startsOf (f .proofs .entries)) ≡ counts .proofs
-    total = starts-total fourRules (roomOf before) p (whole (there .head) f) read ∙ ap (λ (c : Counts). c .proofs) (there .same)
+    total = starts-total rules (roomOf before) p (whole (there .head) f) read ∙ ap (λ (c : Counts). c .proofs) (there .same)
 
     -- the starts that the lent table holds
     starts-are : take (counts .proofs) qs ≡ startsOf (f .proofs .entries)
@@ -136,24 +136,27 @@ module _ (before after : Lent) (p : List ℕ) (counts : Counts) (at : ℕ) (ther
     unfolding f
     same-layout = let b = places-read four (sym (r .answer)) in same-parts (there .same) (b .2) (b .3)
 
-    pub may-derive : TablesThere fourRules p (take (counts .proofs) qs) layout
-    may-derive = rw (starts-are, ← same-layout) (tables-there fourRules (roomOf before) p (whole (there .head) f) read)
+    pub may-derive : TablesThere p (take (counts .proofs) qs) layout
+    may-derive = rw (starts-are, ← same-layout) (tables-there rules (roomOf before) p (whole (there .head) f) read)
 
-    viewed : view fourRules p (take (counts .proofs) qs) layout ≡ sectionOf (whole (there .head) f)
-    viewed = rw (starts-are, ← same-layout) (sym (section-view fourRules (roomOf before) p (whole (there .head) f) read))
+    pub named : RulesKnown rules p (take (counts .proofs) qs)
+    named = rw starts-are (rules-known rules (roomOf before) p (whole (there .head) f) read)
+
+    viewed : view rules p (take (counts .proofs) qs) layout ≡ sectionOf (whole (there .head) f)
+    viewed = rw (starts-are, ← same-layout) (sym (section-view rules (roomOf before) p (whole (there .head) f) read))
 
     abbrev pass : Out (List ℕ)
-    pass = depths (g .parentsAt) (view fourRules p (take (counts .proofs) qs) layout)
+    pass = depths (g .parentsAt) (view rules p (take (counts .proofs) qs) layout)
 
     pass-is : depths (f .rest .witnesses .next) (sectionOf (whole (there .head) f)) ≡ pass
     unfolding f
     pass-is = ap₂ depths (places-read four (sym (r .answer)) .3) (sym viewed)
 
     pub derived : {ds : List ℕ} {u : Unit {0}} → Derives pass (before .depths) ds (ok u) → after .propositions ≡ ps → after .proofs ≡ qs
-        → after .depths ≡ ds → (end : ℕ) → Passes (payloadIn before p end) before after (ok tt)
+        → after .depths ≡ ds → (end : ℕ) → Passes (payloadIn rules before p end) before after (ok tt)
     derived d ep eq ed end =
         let b = bind-ok pass _ (sym (d .answer)) in
-        let x = accepted fourRules (roomOf before) p end (there .head) (there .read) f of-head (b .0) (pass-is ∙ b .1) in
+        let x = accepted rules (roomOf before) p end (there .head) (there .read) f of-head (b .0) (pass-is ∙ b .1) in
         rw x
         (record {
           answer = refl;
@@ -166,10 +169,10 @@ module _ (before after : Lent) (p : List ℕ) (counts : Counts) (at : ℕ) (ther
 
     pub not-derived : {ds : List ℕ} {q : Refusal} → Derives pass (before .depths) ds (refused q)
         → after .propositions ≡ lent (length (before .propositions)) [] → after .proofs ≡ lent (length (before .proofs)) []
-        → after .depths ≡ ds → (end : ℕ) → Passes (payloadIn before p end) before after (refused q)
+        → after .depths ≡ ds → (end : ℕ) → Passes (payloadIn rules before p end) before after (refused q)
     not-derived {q = q} d ep eq ed end =
         let y = pass-refused pass (sym (d .answer)) in
-        refusal-passes (no-depths fourRules (roomOf before) p end (there .head) (there .read) f of-head q (pass-is ∙ y))
+        refusal-passes (no-depths rules (roomOf before) p end (there .head) (there .read) f of-head q (pass-is ∙ y))
         (record {
           propositions = ep;
           proofs = eq;

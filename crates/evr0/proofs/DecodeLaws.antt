@@ -1,19 +1,25 @@
 -- From the section of a payload to the section at a cursor, and to what the lent tables hold in the end.
 use Prim.Native.Nat.{ℕ, _+_, _-_, _≤_}
 use mathlib.Core.Path.{_≡_, refl, sym, ap, _∙_}
-use mathlib.Core.List.{List, []}
+use mathlib.Core.List.{List, [], map}
 use native.Mathlib.Omega.{arith}
 use lib.ListN.{length, take, drop, length-take}
 use Rattle.local_format.specs.Refusal.{Refusal}
 use Rattle.local_format.specs.Out.{Out, ok, refused, moved, atOffset}
 use Rattle.local_format.specs.Text.{bytesAt}
-use Rattle.local_format.proofs.OutLaws.{never}
-use Rattle.evr0_section.proofs.Stages.{four-within}
+use Rattle.local_format.proofs.OutLaws.{never, ok-same, bind-ok}
+use Rattle.evr0_section.proofs.Stages.{section-within}
 use Rattle.lent_table.specs.Lent.{lent}
+use Rattle.derivation.specs.Rule.{Rule, fourRules}
 use Rattle.evr0_section.specs.Section.{Section, Frame, frameAt, sectionAt, decodeSection}
 use Rattle.evr0_section.proofs.Demand.{demand-3}
-use Rattle.evr0.specs.Answer.{Lent, roomOf, Accepted, Answer, answerOf, Filled, decodeIn, Leaves}
-use Rattle.evr0.specs.Steps.{payloadIn, Ends}
+use Rattle.rule_table.specs.Load.{ruleIn, rulesOf}
+use Rattle.rule_table.specs.ByTable.{Given, rulesGiven}
+use Rattle.rule_table.proofs.Load.{loaded}
+use Rattle.rule_table.proofs.ByTable.{table-refused, decodes-by, holds-by}
+use Rattle.evr0_rules.specs.Maps.{RulesThere, countIn, Loads}
+use Rattle.evr0.specs.Answer.{Lent, roomOf, Accepted, Answer, answerOf, Filled, Leaves, LeavesBy}
+use Rattle.evr0.specs.Steps.{payloadIn, sectionBy, Ends}
 use Rattle.evr0.proofs.AnswerLaws.{refusal-ends}
 
 -- ---- The outcome
@@ -38,14 +44,14 @@ module _ (cursor : ℕ) (x : Out Section) (a : Answer) (e : a ≡ answerOf curso
 pub same-part : (s : List ℕ) (start len : ℕ) → take (start + len - start) (drop start s) ≡ bytesAt s start len
 same-part s start len = let n : start + len - start ≡ len = omega arith in rw n
 
-module _ (s : List ℕ) (start len cursor : ℕ) (before after : Lent) (a : Answer)
-    (ends : Ends (payloadIn before (take (start + len - start) (drop start s)) (start + len)) cursor before after a) where
+module _ (rules : List Rule) (s : List ℕ) (start len cursor : ℕ) (before after : Lent) (a : Answer)
+    (ends : Ends (payloadIn rules before (take (start + len - start) (drop start s)) (start + len)) cursor before after a) where
   abbrev part : Out Section
-  part = payloadIn before (take (start + len - start) (drop start s)) (start + len)
+  part = payloadIn rules before (take (start + len - start) (drop start s)) (start + len)
 
   -- the section in the file
   abbrev placed : Out Section
-  placed = moved start (payloadIn before (bytesAt s start len) (start + len))
+  placed = moved start (payloadIn rules before (bytesAt s start len) (start + len))
 
   placed-is : moved start part ≡ placed
   placed-is = rw (same-part s start len)
@@ -53,7 +59,7 @@ module _ (s : List ℕ) (start len cursor : ℕ) (before after : Lent) (a : Answ
   pub refusal-within : (q : Refusal) → a .outcome ≡ refused q → q .offset ≤ len
   refusal-within q k =
       let l : length (take (start + len - start) (drop start s)) ≤ len = simp length-take (omega arith) in
-      omega (arith, four-within (roomOf before) _ (start + len) (outcome-refused cursor part a (ends .answer) q k))
+      omega (arith, section-within rules (roomOf before) _ (start + len) (outcome-refused cursor part a (ends .answer) q k))
 
   pub refused-at : {given : Answer} {r : Refusal} (q : Refusal) → a .outcome ≡ refused q → given ≡ answerOf cursor (refused r)
       → r ≡ atOffset q (start + q .offset) → Ends placed cursor before after given
@@ -71,22 +77,67 @@ module _ (s : List ℕ) (start len cursor : ℕ) (before after : Lent) (a : Answ
 
 -- ---- The section at a cursor
 
-module _ (s : List ℕ) (cursor : ℕ) (before after : Lent) {given : Answer} where
-  leaves : Ends (decodeIn before s cursor) cursor before after given → Leaves s cursor before after given
-  leaves x = record { answer = x .answer; tables = x .tables; demand3 = demand-3 _ _ _ }
-
+module _ (rules : List Rule) (s : List ℕ) (cursor : ℕ) (before after : Lent) {given : Answer} where
   pub no-frame : (q : Refusal) → frameAt s cursor ≡ refused q → given ≡ answerOf cursor (refused q)
       → after .propositions ≡ lent (length (before .propositions)) [] → after .proofs ≡ lent (length (before .proofs)) []
-      → after .depths ≡ lent (length (before .depths)) [] → Leaves s cursor before after given
-  unfolding decodeSection sectionAt
+      → after .depths ≡ lent (length (before .depths)) [] → Ends (sectionBy rules before s cursor) cursor before after given
+  unfolding sectionAt
   no-frame q e g a b c =
-      let x : decodeIn before s cursor ≡ refused q = rw e in
-      leaves (refusal-ends x (record { propositions = a; proofs = b; depths = c }) cursor g)
+      let x : sectionBy rules before s cursor ≡ refused q = rw e in
+      refusal-ends x (record { propositions = a; proofs = b; depths = c }) cursor g
 
   pub framed : (f : Frame) → frameAt s cursor ≡ ok f
-      → Ends (moved (f .start) (payloadIn before (bytesAt s (f .start) (f .len)) (f .start + f .len))) cursor before after given
-      → Leaves s cursor before after given
-  unfolding decodeSection sectionAt
+      → Ends (moved (f .start) (payloadIn rules before (bytesAt s (f .start) (f .len)) (f .start + f .len))) cursor before after given
+      → Ends (sectionBy rules before s cursor) cursor before after given
+  unfolding sectionAt
   framed f e x =
-      let y : decodeIn before s cursor ≡ moved (f .start) (payloadIn before (bytesAt s (f .start) (f .len)) (f .start + f .len)) = rw e in
-      leaves (rw y x)
+      let y : sectionBy rules before s cursor ≡ moved (f .start) (payloadIn rules before (bytesAt s (f .start) (f .len)) (f .start + f .len)) = rw e in
+      rw y x
+
+-- ---- By the four, and by the rules of a call
+
+module _ {s : List ℕ} {cursor : ℕ} {before after : Lent} {given : Answer} where
+  pub leaves : Ends (sectionBy fourRules before s cursor) cursor before after given → Leaves s cursor before after given
+  unfolding decodeSection
+  leaves x = record { answer = x .answer; tables = x .tables; demand3 = demand-3 _ _ _ }
+
+  pub leaves-by : (which : Given) (rules : List Rule) → rulesGiven which ≡ ok rules → Ends (sectionBy rules before s cursor) cursor before after given
+      → LeavesBy which s cursor before after given
+  leaves-by which rules e x =
+      let d = decodes-by which (roomOf before) s cursor rules e in
+      record { answer = x .answer ∙ ap (answerOf cursor) (sym d); tables = rw d (x .tables); holds = holds-by which (roomOf before) s cursor }
+
+  pub not-by : (which : Given) (q : Refusal) → rulesGiven which ≡ refused q → given ≡ answerOf cursor (refused q)
+      → after .propositions ≡ lent (length (before .propositions)) [] → after .proofs ≡ lent (length (before .proofs)) []
+      → after .depths ≡ lent (length (before .depths)) [] → LeavesBy which s cursor before after given
+  not-by which q e g a b c =
+      let d = table-refused which (roomOf before) s cursor q e in
+      record {
+        answer = g ∙ ap (answerOf cursor) (sym d);
+        tables = rw d (record { propositions = a; proofs = b; depths = c });
+        holds = holds-by which (roomOf before) s cursor;
+      }
+
+-- ---- A loaded table
+
+pub not-loaded : {t starts : List ℕ} {g : Out ℕ} {q : Refusal} → Loads t starts g → g ≡ refused q → rulesOf t ≡ refused q
+not-loaded {t} {q = q} l h = go (rulesOf t) (sym h ∙ l .answer)
+  where
+    go : (x : Out (List Rule)) → refused q ≡ countIn x → x ≡ refused q
+    go (ok rs) e = absurd (never e)
+    go (refused r) e = cc
+
+pub record LoadedAt (t places : List ℕ) (n : ℕ) : Type 0 where
+  pub most : n ≤ 32
+  pub is : rulesOf t ≡ ok (map (ruleIn t) (take n places))
+  pub there : RulesThere t (take n places)
+
+pub loaded-at : {t places : List ℕ} {g : Out ℕ} {n : ℕ} → Loads t places g → g ≡ ok n → LoadedAt t places n
+loaded-at {t} {places} {n = n} l h =
+    let (rs, e, k) = bind-ok (rulesOf t) _ (sym (l .answer) ∙ h) in
+    let m : length rs ≡ n = ok-same k in
+    record {
+      most = omega (arith, m, loaded t rs e .most);
+      is = e ∙ ap ok (l .are rs e ∙ ap (λ (i : ℕ). map (ruleIn t) (take i places)) m);
+      there = rw m at (l .there rs e);
+    }

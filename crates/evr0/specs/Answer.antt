@@ -8,6 +8,7 @@ use Rattle.lent_table.specs.Lent.{lent}
 use Rattle.evr0_section.specs.Head.{Counts, Room}
 use Rattle.evr0_section.specs.Section.{Section, decodeSection}
 use Rattle.evr0_section.specs.Demand.{Demand3}
+use Rattle.rule_table.specs.ByTable.{Given, decodeBy, HoldsBy}
 use Rattle.evr0_fields.specs.Maps.{zeros}
 pub use Rattle.evr0_section.specs.Rows.{startsOf}
 
@@ -96,3 +97,13 @@ pub record Leaves (bytes : List ℕ) (cursor : ℕ) (before after : Lent) (given
   pub answer : given ≡ answerOf cursor (decodeIn before bytes cursor)
   pub tables : Filled (decodeIn before bytes cursor) before after
   pub demand3 : Demand3 (roomOf before) bytes cursor
+
+-- ---- The same by the rules of a call
+
+abbrev pub decodeGiven : Given → Lent → List ℕ → ℕ → Out Section
+decodeGiven given tables bytes cursor = decodeBy given (roomOf tables) bytes cursor
+
+pub record LeavesBy (given : Given) (bytes : List ℕ) (cursor : ℕ) (before after : Lent) (answered : Answer) : Type 0 where
+  pub answer : answered ≡ answerOf cursor (decodeGiven given before bytes cursor)
+  pub tables : Filled (decodeGiven given before bytes cursor) before after
+  pub holds : HoldsBy given (roomOf before) bytes cursor

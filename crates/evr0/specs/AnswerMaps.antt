@@ -1,6 +1,11 @@
 -- From the decoder's answer to the definitions' types.
+use Prim.Native.Nat.{ℕ}
+use mathlib.Core.List.{List}
 use Rattle.local_format.specs.Out.{Out, ok, refused}
 use Rattle.local_format.specs.Maps.{refusalOut}
+use Rattle.rule_table.specs.ByTable.{Given, four, table}
+use Rattle.evr0_rules.specs.declared.settle.Rules.{Rules}
+use Rattle.evr0_rules.specs.declared.settle.Rules.the-variants as choice
 use Rattle.evr0_head.specs.Maps.{countsOut}
 use Rattle.evr0_head.specs.declared.head.Head as head
 use Rattle.evr0.specs.Answer as of
@@ -39,3 +44,8 @@ outcomeOut (found.Refused r) = refused (refusalOut r)
 abbrev pub answerOut : DecodedEvr0 → of.Answer
 answerOut d =
     record { sourceSet = d .«source_set»; compilerContract = d .«compiler_contract»; cursor = d .cursor; outcome = outcomeOut (d .outcome) }
+
+-- the rules of a call: the four, or those of the table that comes with it
+abbrev pub givenOut : Rules → List ℕ → Given
+givenOut choice.Four t = four
+givenOut choice.Table t = table t

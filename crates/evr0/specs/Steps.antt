@@ -3,14 +3,18 @@ use Prim.Native.Nat.{ℕ}
 use mathlib.Core.Path.{_≡_}
 use mathlib.Core.List.{List}
 use Rattle.local_format.specs.Out.{Out, ok, _>>=_}
-use Rattle.derivation.specs.Rule.{fourRules}
+use Rattle.derivation.specs.Rule.{Rule}
 use Rattle.evr0_section.specs.Head.{Counts, Head, Room, checkedHead}
-use Rattle.evr0_section.specs.Section.{Section, sectionIn}
+use Rattle.evr0_section.specs.Section.{Section, sectionIn, sectionAt}
 use Rattle.evr0.specs.Answer.{Lent, roomOf, Answer, answerOf, Filled}
 
--- the section of a payload after which the cursor stands at `end`
-abbrev pub payloadIn : Lent → List ℕ → ℕ → Out Section
-payloadIn tables payload end = sectionIn fourRules (roomOf tables) payload end
+-- the section of a payload, by some rules, after which the cursor stands at `end`
+abbrev pub payloadIn : List Rule → Lent → List ℕ → ℕ → Out Section
+payloadIn rules tables payload end = sectionIn rules (roomOf tables) payload end
+
+-- the section at a cursor, by some rules
+abbrev pub sectionBy : List Rule → Lent → List ℕ → ℕ → Out Section
+sectionBy rules tables bytes cursor = sectionAt rules (roomOf tables) bytes cursor
 
 -- a payload has a checked head with these counts, after which stands this place
 pub record HeadThere (room : Room) (p : List ℕ) (counts : Counts) (at : ℕ) : Type 0 where

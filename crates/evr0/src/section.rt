@@ -6,10 +6,11 @@ ghost use Rattle.local_format.specs.Out.{refused, moved};
 ghost use Rattle.local_format.specs.Text.{bytesAt};
 ghost use Rattle.local_format.specs.Maps.{refusalOut};
 ghost use Rattle.evr0_fields.specs.Maps.{checkedOut};
+ghost use Rattle.evr0_rules.specs.Maps.{rulesIn, RulesThere};
 ghost use Rattle.evr0_head.specs.Maps.{countsOut};
-ghost use Rattle.evr0.specs.Answer.{lentOf, roomOf, answerOf, Leaves};
-ghost use Rattle.evr0.specs.AnswerMaps.{acceptedOut, headOutcome, answerOut};
-ghost use Rattle.evr0.specs.Steps.{payloadIn, HeadThere, Passes, Ends};
+ghost use Rattle.evr0.specs.Answer.{lentOf, roomOf, answerOf, Leaves, LeavesBy};
+ghost use Rattle.evr0.specs.AnswerMaps.{acceptedOut, headOutcome, answerOut, givenOut};
+ghost use Rattle.evr0.specs.Steps.{payloadIn, sectionBy, HeadThere, Passes, Ends};
 use crate::frame::Frame;
 use evr0_fields::check::Checked;
 use evr0_head::counts::Counts;
@@ -17,6 +18,9 @@ use evr0_head::head::Head;
 use evr0_head::head::HeadAnswer;
 use evr0_head::head::Room;
 use evr0_pass::pass::Layout;
+use evr0_rules::load::Loading;
+use evr0_rules::load::load_into;
+use evr0_rules::settle::Rules;
 use evr0_tables::payload::Places;
 use local_format::refusal::Refusal;
 
@@ -73,6 +77,9 @@ fn accept(head: Head) -> Accepted
 
 // The tables and the depths of a payload with a checked head, with the starts and the depths in the lent tables.
 fn check_tables(
+    rules: Rules,
+    table: &[u8],
+    places: &[u64],
     payload: &[u8],
     counts: Counts,
     at: usize,
@@ -80,12 +87,24 @@ fn check_tables(
     proofs: &mut [u64],
     depths: &mut [u64],
 ) -> Checked
-    requires { ⌜ HeadThere (roomOf (lentOf (now propositions) (now proofs) (now depths))) (now payload) (countsOut counts) at ⌝ }
-    ensures { λ r. ⌜ ((end : ℕ) → Passes (payloadIn (lentOf (now (propositions .entry)) (now (proofs .entry)) (now (depths .entry))) (now (payload .entry)) end)
+    requires { ⌜ HeadThere (roomOf (lentOf (now propositions) (now proofs) (now depths))) (now payload) (countsOut counts) at
+        × RulesThere (now table) (now places) ⌝ }
+    ensures { λ r. ⌜ ((end : ℕ) → Passes
+        (payloadIn (rulesIn rules (now (table .entry)) (now (places .entry)))
+        (lentOf (now (propositions .entry)) (now (proofs .entry)) (now (depths .entry))) (now (payload .entry)) end)
         (lentOf (now (propositions .entry)) (now (proofs .entry)) (now (depths .entry)))
         (lentOf (now (propositions .exit)) (now (proofs .exit)) (now (depths .exit))) (checkedOut r)) ⌝ }
 {
-    let tables = evr0_tables::payload::read_tables(payload, counts, at, propositions, proofs);
+    let tables = evr0_tables::payload::read_tables(
+        rules,
+        table,
+        places,
+        payload,
+        counts,
+        at,
+        propositions,
+        proofs,
+    );
     match tables {
         Places::Refused(refusal) => {
             lent_table::clear(depths);
@@ -101,7 +120,15 @@ fn check_tables(
                 witnesses_at,
                 parents_at,
             };
-            let derived = evr0_pass::pass::derive(payload, &proofs[..count], layout, depths);
+            let derived = evr0_pass::pass::derive(
+                rules,
+                table,
+                places,
+                payload,
+                &proofs[..count],
+                layout,
+                depths,
+            );
             match derived {
                 Checked::Refused(refusal) => {
                     lent_table::clear(propositions);
@@ -116,6 +143,9 @@ fn check_tables(
 
 // The section of a payload after which the cursor stands at `end`, with its starts and depths in the lent tables.
 fn decode_payload(
+    rules: Rules,
+    table: &[u8],
+    places: &[u64],
     payload: &[u8],
     end: usize,
     cursor: usize,
@@ -123,7 +153,10 @@ fn decode_payload(
     proofs: &mut [u64],
     depths: &mut [u64],
 ) -> DecodedEvr0
-    ensures { λ r. ⌜ Ends (payloadIn (lentOf (now (propositions .entry)) (now (proofs .entry)) (now (depths .entry))) (now (payload .entry)) end)
+    requires { ⌜ RulesThere (now table) (now places) ⌝ }
+    ensures { λ r. ⌜ Ends
+        (payloadIn (rulesIn rules (now (table .entry)) (now (places .entry)))
+        (lentOf (now (propositions .entry)) (now (proofs .entry)) (now (depths .entry))) (now (payload .entry)) end)
         cursor (lentOf (now (propositions .entry)) (now (proofs .entry)) (now (depths .entry)))
         (lentOf (now (propositions .exit)) (now (proofs .exit)) (now (depths .exit))) (answerOut r) ⌝ }
 {
@@ -143,7 +176,17 @@ fn decode_payload(
         }
         HeadAnswer::Read(head) => {
             let counts = head.counts;
-            let checked = check_tables(payload, counts, head.next, propositions, proofs, depths);
+            let checked = check_tables(
+                rules,
+                table,
+                places,
+                payload,
+                counts,
+                head.next,
+                propositions,
+                proofs,
+                depths,
+            );
             match checked {
                 Checked::Refused(refusal) => refused_section(refusal, cursor),
                 Checked::Passed => {
@@ -163,6 +206,9 @@ fn decode_payload(
 
 // The section whose payload starts at `start` and is `len` bytes long.
 fn decode_at(
+    rules: Rules,
+    table: &[u8],
+    places: &[u64],
     bytes: &[u8],
     start: usize,
     len: usize,
@@ -171,15 +217,18 @@ fn decode_at(
     proofs: &mut [u64],
     depths: &mut [u64],
 ) -> DecodedEvr0
-    requires { ⌜ start + len ≤ length (now bytes) ⌝ }
+    requires { ⌜ (start + len ≤ length (now bytes)) × RulesThere (now table) (now places) ⌝ }
     ensures { λ r. ⌜ Ends
-        (moved start (payloadIn
+        (moved start (payloadIn (rulesIn rules (now (table .entry)) (now (places .entry)))
         (lentOf (now (propositions .entry)) (now (proofs .entry)) (now (depths .entry))) (bytesAt (now (bytes .entry)) start len) (start + len)))
         cursor (lentOf (now (propositions .entry)) (now (proofs .entry)) (now (depths .entry)))
         (lentOf (now (propositions .exit)) (now (proofs .exit)) (now (depths .exit))) (answerOut r) ⌝ }
 {
     let end = start + len;
     let read = decode_payload(
+        rules,
+        table,
+        places,
         &bytes[start..end],
         end,
         cursor,
@@ -196,6 +245,48 @@ fn decode_at(
     }
 }
 
+// The section at `cursor`, by the four or by the rules that start at `places` of the table.
+fn decode_with(
+    rules: Rules,
+    table: &[u8],
+    places: &[u64],
+    bytes: &[u8],
+    cursor: usize,
+    propositions: &mut [u64],
+    proofs: &mut [u64],
+    depths: &mut [u64],
+) -> DecodedEvr0
+    requires { ⌜ RulesThere (now table) (now places) ⌝ }
+    ensures { λ r. ⌜ Ends
+        (sectionBy (rulesIn rules (now (table .entry)) (now (places .entry)))
+        (lentOf (now (propositions .entry)) (now (proofs .entry)) (now (depths .entry)))
+        (now (bytes .entry)) cursor)
+        cursor (lentOf (now (propositions .entry)) (now (proofs .entry)) (now (depths .entry)))
+        (lentOf (now (propositions .exit)) (now (proofs .exit)) (now (depths .exit))) (answerOut r) ⌝ }
+{
+    let frame = crate::frame::read_frame(bytes, cursor);
+    match frame {
+        Frame::Refused(refusal) => {
+            lent_table::clear(propositions);
+            lent_table::clear(proofs);
+            lent_table::clear(depths);
+            refused_section(refusal, cursor)
+        }
+        Frame::Payload { start, len } => decode_at(
+            rules,
+            table,
+            places,
+            bytes,
+            start,
+            len,
+            cursor,
+            propositions,
+            proofs,
+            depths,
+        ),
+    }
+}
+
 // Decodes the section at `cursor`, without the marks of its proofs. Each lent table is filled to its count and has zeros past it; a
 // refusal leaves zeros in all three.
 pub fn decode_evr0_unmarked(
@@ -209,22 +300,65 @@ pub fn decode_evr0_unmarked(
         (lentOf (now (propositions .entry)) (now (proofs .entry)) (now (depths .entry)))
         (lentOf (now (propositions .exit)) (now (proofs .exit)) (now (depths .exit))) (answerOut r) ⌝ }
 {
-    let frame = crate::frame::read_frame(bytes, cursor);
-    match frame {
-        Frame::Refused(refusal) => {
-            lent_table::clear(propositions);
-            lent_table::clear(proofs);
-            lent_table::clear(depths);
-            refused_section(refusal, cursor)
-        }
-        Frame::Payload { start, len } => decode_at(
+    let places = [0u64; 1];
+    decode_with(
+        Rules::Four,
+        &bytes[..0],
+        &places[..0],
+        bytes,
+        cursor,
+        propositions,
+        proofs,
+        depths,
+    )
+}
+
+// The same by the rules of a call: the four, or those of a table, which is loaded first.
+pub fn decode_evr0_by(
+    rules: Rules,
+    table: &[u8],
+    bytes: &[u8],
+    cursor: usize,
+    propositions: &mut [u64],
+    proofs: &mut [u64],
+    depths: &mut [u64],
+) -> DecodedEvr0
+    ensures { λ r. ⌜ LeavesBy (givenOut rules (now (table .entry))) (now (bytes .entry)) cursor
+        (lentOf (now (propositions .entry)) (now (proofs .entry)) (now (depths .entry)))
+        (lentOf (now (propositions .exit)) (now (proofs .exit)) (now (depths .exit))) (answerOut r) ⌝ }
+{
+    let mut places = [0u64; 32];
+    match rules {
+        Rules::Four => decode_with(
+            rules,
+            table,
+            &places[..0],
             bytes,
-            start,
-            len,
             cursor,
             propositions,
             proofs,
             depths,
         ),
+        Rules::Table => {
+            let loading = load_into(table, &mut places);
+            match loading {
+                Loading::Refused(refusal) => {
+                    lent_table::clear(propositions);
+                    lent_table::clear(proofs);
+                    lent_table::clear(depths); // of a refused table
+                    refused_section(refusal, cursor)
+                }
+                Loading::Loaded(count) => decode_with(
+                    rules,
+                    table,
+                    &places[..count],
+                    bytes,
+                    cursor,
+                    propositions,
+                    proofs,
+                    depths,
+                ),
+            }
+        }
     }
 }

@@ -11,7 +11,7 @@ use Rattle.local_format.specs.Refusal.{Refusal}
 use Rattle.local_format.specs.Out.{Out, ok, refused, refuse}
 use Rattle.local_format.proofs.NumberLaws.{not-there, is-there}
 use Rattle.lent_table.specs.Lent.{lent, Front}
-use Rattle.derivation.specs.Rule.{fourRules}
+use Rattle.derivation.specs.Rule.{Rule}
 use Rattle.derivation.specs.Section as derivation
 use Rattle.derivation.specs.Section.{proofTotal}
 use Rattle.derivation.specs.Friendly.{operates, authorised}
@@ -19,19 +19,22 @@ use Rattle.evr0_section.specs.Head.{Counts}
 use Rattle.evr0_section.specs.Rows.{startsOf}
 use Rattle.evr0_section.specs.Section.{Section, sectionOf, proofItem}
 use Rattle.evr0_section.specs.Marks.{marksOf}
-use Rattle.evr0_section.proofs.Marks.{four-marks}
+use Rattle.evr0_section.proofs.Marks.{marks-read}
 use Rattle.evr0_pass.specs.View.{proofView, view}
 use Rattle.evr0_pass.proofs.ViewOf.{section-view, tables-there}
 use Rattle.evr0.specs.Answer as unmarked
 use Rattle.evr0.specs.Answer.{Answer, answerOf, lentOf}
 use Rattle.evr0_read.specs.Listing.{payloadTo}
+use Rattle.evr0_read.proofs.AcceptedLaws.{Accepted}
 use Rattle.evr0_read.proofs.TableLaws.{facts}
-use Rattle.evr0_read.proofs.FindLaws.{answer-refused, answer-accepted}
-use Rattle.evr0_section.specs.Section.{decodeSection}
-use Rattle.evr0_marks.specs.Answer.{Lent, withMarks, roomOf, proofMarks, decodeIn, Leaves}
+use Rattle.evr0_read.proofs.FindLaws.{answer-refused, answer-accepted, by-given}
+use Rattle.evr0_section.specs.Section.{sectionAt}
+use Rattle.rule_table.specs.ByTable.{Given, rulesGiven}
+use Rattle.rule_table.proofs.ByTable.{given-shaped}
+use Rattle.evr0_marks.specs.Answer.{Lent, withMarks, roomOf, proofMarks, decodeGiven, LeavesBy}
 use Rattle.evr0_marks.specs.Steps.{Due}
 use Rattle.evr0_marks.proofs.FillLaws.{read, starts-are, total}
-use Rattle.evr0_authorised.specs.Authorised.{authorisedTold, Authorises}
+use Rattle.evr0_authorised.specs.Authorised.{authorisedTold, AuthorisesBy}
 use Rattle.evr0_authorised.specs.Maps.{Inside}
 use Rattle.evr0_authorised.proofs.OperatesLaws.{operates-front}
 
@@ -43,34 +46,34 @@ module _ {bytes : List ℕ} {cursor end : ℕ} {counts : Counts} {proofs marks :
 
   pub inside : Inside p starts
   inside =
-      let tables = tables-there fourRules (due .room) p (due .section .tables) (read due p starts part front) in
+      let tables = tables-there (due .rules) (due .room) p (due .section .tables) (read due p starts part front) in
       rw (starts-are due p starts part front) (λ i h. tables .proofs i h .inside)
 
   pub long : length starts ≤ length marks
   long = omega (arith, total due p starts part front, due .fits)
 
-  proofs-are : map (proofView fourRules p) starts ≡ s .proofs
+  proofs-are : map (proofView (due .rules) p) starts ≡ s .proofs
   unfolding view
   proofs-are =
-      ap (map (proofView fourRules p)) (starts-are due p starts part front)
-      ∙ sym (ap (λ (t : derivation.Section). t .proofs) (section-view fourRules (due .room) p (due .section .tables) (read due p starts part front)))
+      ap (map (proofView (due .rules) p)) (starts-are due p starts part front)
+      ∙ sym (ap (λ (t : derivation.Section). t .proofs) (section-view (due .rules) (due .room) p (due .section .tables) (read due p starts part front)))
 
   marks-total : length (marksOf (due .section)) ≡ proofTotal s
-  unfolding decodeSection
-  marks-total = four-marks (due .room) bytes cursor (due .section) (due .decoded) .total
+  marks-total = marks-read (due .rules) (due .shaped) (due .room) bytes cursor (due .section) (due .decoded) .total
 
-  pub told : {r : Bool} (n : ℕ) → r ≡ operates (map (proofView fourRules p) starts) marks n → Front (marksOf (due .section)) marks → r ≡ authorised s n
+  pub told : {r : Bool} (n : ℕ) → r ≡ operates (map (proofView (due .rules) p) starts) marks n → Front (marksOf (due .section)) marks → r ≡ authorised s n
   unfolding authorised proofTotal
   told n e f =
       e ∙ ap (λ (ps : List derivation.Proof). operates ps marks n) proofs-are
       ∙ operates-front n (s .proofs) (marksOf (due .section)) marks (omega (arith, marks-total)) f
 
 -- ---- The decoder's answer
-module _ {bytes : List ℕ} {cursor : ℕ} {before after : Lent} {given : Answer} (leaves : Leaves bytes cursor before after given) (n : ℕ) where
+module _ {which : Given} {bytes : List ℕ} {cursor : ℕ} {before after : Lent} {given : Answer} (leaves : LeavesBy which bytes cursor before after given)
+    (n : ℕ) where
   abbrev x : Out Section
-  x = decodeIn before bytes cursor
+  x = decodeGiven which before bytes cursor
 
-  pub not-decoded : {r : Refusal} → given .outcome ≡ refused r → Authorises n (authorisedTold n) bytes cursor before after (refused r)
+  pub not-decoded : {r : Refusal} → given .outcome ≡ refused r → AuthorisesBy which n (authorisedTold n) bytes cursor before after (refused r)
   not-decoded e =
       let z : x ≡ refused _ = answer-refused cursor x (sym (ap (λ (a : Answer). a .outcome) (leaves .answer)) ∙ e) in
       record { answer = rw z; tables = rw z (rw z at (leaves .tables)) }
@@ -82,24 +85,32 @@ module _ {bytes : List ℕ} {cursor : ℕ} {before after : Lent} {given : Answer
     abbrev d : Section
     d = found .0
 
+    -- by some of the call's rules
+    by : (rules : List Rule) × (rulesGiven which ≡ ok rules) × (sectionAt rules (roomOf before) bytes cursor ≡ ok d)
+    by = by-given which (roomOf before) bytes cursor (found .1)
+
+    counted : Accepted (by .0) (roomOf before) bytes cursor d
+    counted = facts (by .0) (roomOf before) bytes cursor d (by .2)
+
     marks-are : after .marks ≡ lent (length (before .marks)) (marksOf d)
     marks-are = leaves .tables .marks ∙ ap (λ (y : Out Section). lent (length (before .marks)) (proofMarks y)) (found .1)
 
     one-each : length (marksOf d) ≡ a .counts .proofs
-    unfolding decodeSection proofTotal sectionOf
+    unfolding proofTotal sectionOf
     one-each =
-        let f = facts (roomOf before) bytes cursor d (found .1) in
-        leaves .marked d (found .1) .total ∙ length-map (d .tables .proofs .entries) proofItem ∙ f .proofs ∙ ap (λ (c : Counts). c .proofs) (sym (found .3))
+        leaves .holds .marks (by .0) (by .1) d (by .2) .total ∙ length-map (d .tables .proofs .entries) proofItem ∙ counted .proofs ∙ ap
+        (λ (c : Counts). c .proofs) (sym (found .3))
 
     pub due : Due bytes cursor (given .cursor) (a .counts) (after .others .proofs) (after .marks)
     due =
-        let f = facts (roomOf before) bytes cursor d (found .1) in
         let n : length (startsOf (d .tables .proofs .entries)) ≡ a .counts .proofs =
-        length-map (d .tables .proofs .entries) (λ e. e .start) ∙ f .proofs ∙ ap (λ (c : Counts). c .proofs) (sym (found .3)) in
+        length-map (d .tables .proofs .entries) (λ e. e .start) ∙ counted .proofs ∙ ap (λ (c : Counts). c .proofs) (sym (found .3)) in
         record {
+          rules = by .0;
+          shaped = given-shaped which (by .0) (by .1);
           room = roomOf before;
           section = d;
-          decoded = found .1;
+          decoded = by .2;
           ends = sym (ap (λ (a : Answer). a .cursor) (leaves .answer) ∙ found .2);
           counted = sym (found .3);
           started = ap (take (a .counts .proofs))
@@ -113,10 +124,10 @@ module _ {bytes : List ℕ} {cursor : ℕ} {before after : Lent} {given : Answer
     front = ap (take (length (marksOf d))) marks-are ∙ take-at (marksOf d) _ (length (marksOf d)) refl
 
     propositions : length (d .tables .propositions .entries) ≡ a .counts .propositions
-    propositions = facts (roomOf before) bytes cursor d (found .1) .propositions ∙ ap (λ (c : Counts). c .propositions) (sym (found .3))
+    propositions = counted .propositions ∙ ap (λ (c : Counts). c .propositions) (sym (found .3))
 
     pub answered : {r : Bool} → n < a .counts .propositions → r ≡ authorised (sectionOf (due .section .tables)) n
-        → Authorises n (authorisedTold n) bytes cursor before after (ok r)
+        → AuthorisesBy which n (authorisedTold n) bytes cursor before after (ok r)
     unfolding due
     answered h same =
         let t = is-there n (d .tables .propositions .entries) (omega (arith, propositions)) in
@@ -124,7 +135,7 @@ module _ {bytes : List ℕ} {cursor : ℕ} {before after : Lent} {given : Answer
 
     pub no-such : {ps qs ds ms : List ℕ} → a .counts .propositions ≤ n → ps ≡ lent (length (before .others .propositions)) []
         → qs ≡ lent (length (before .others .proofs)) [] → ds ≡ lent (length (before .others .depths)) [] → ms ≡ lent (length (before .marks)) []
-        → Authorises n (authorisedTold n) bytes cursor before (withMarks (lentOf ps qs ds) ms) (refuse 62 0)
+        → AuthorisesBy which n (authorisedTold n) bytes cursor before (withMarks (lentOf ps qs ds) ms) (refuse 62 0)
     no-such h ep eq ed em =
         let t = not-there n (d .tables .propositions .entries) (omega (arith, propositions)) in
         record {

@@ -38,10 +38,12 @@ module _ (room : Room) (bytes : List ℕ) (cursor : ℕ) (d : Section) (decodes 
   count = d .tables .head .counts .propositions
 
   proposed : n < count → authorisedAnswer n d ≡ ok (authorised s n)
-  proposed h = rw (is-there n (d .tables .propositions .entries) (omega (arith, facts room bytes cursor d decodes .propositions)) .1)
+  unfolding decodeSection
+  proposed h = rw (is-there n (d .tables .propositions .entries) (omega (arith, facts _ room bytes cursor d decodes .propositions)) .1)
 
   unproposed : count ≤ n → authorisedAnswer n d ≡ refuse 62 0
-  unproposed h = rw (not-there n (d .tables .propositions .entries) (omega (arith, facts room bytes cursor d decodes .propositions)))
+  unfolding decodeSection
+  unproposed h = rw (not-there n (d .tables .propositions .entries) (omega (arith, facts _ room bytes cursor d decodes .propositions)))
 
   -- a proposition that is authorised is one of the table
   told : authorisedAnswer n d ≡ ok true → authorised s n ≡ true

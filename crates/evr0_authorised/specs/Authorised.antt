@@ -17,18 +17,26 @@ use Rattle.evr0_section.specs.Section.{Section, sectionOf}
 use Rattle.evr0_section.specs.Marks.{marksOf}
 use Rattle.evr0_read.specs.Ask.{propositionNumber}
 use Rattle.evr0_read.specs.Asked.{telling}
-use Rattle.evr0_marks.specs.Answer.{Lent, Filled, decodeIn}
+use Rattle.rule_table.specs.ByTable.{Given}
+use Rattle.evr0_marks.specs.Answer.{Lent, Filled, decodeIn, decodeGiven}
 
 -- whether some proof of the proposition with the number n has operation 1 and mark 1
 abbrev pub authorisedTold : ℕ → Out (Chosen Section (Entry Proposition)) → Out Bool
 authorisedTold n = telling (λ c. authorised (sectionOf (c .decoded .tables)) n)
 
--- the proposition is one of the section that was decoded anew, and the answer is what `tell` says of it; the tables are those of the section,
--- and zeros after a refusal
-pub record Authorises {B : Type 0} (n : ℕ) (tell : Out (Chosen Section (Entry Proposition)) → B) (bytes : List ℕ) (cursor : ℕ) (before after : Lent)
-    (r : B) : Type 0 where
-  pub answer : r ≡ tell (propositionNumber n (decodeIn before bytes cursor))
-  pub tables : Filled (telling (λ c. c .decoded) (propositionNumber n (decodeIn before bytes cursor))) before after
+-- the proposition is one of the section x, and the answer is what `tell` says of it; the tables are those of the section, and zeros after a
+-- refusal
+pub record Asks {B : Type 0} (n : ℕ) (tell : Out (Chosen Section (Entry Proposition)) → B) (x : Out Section) (before after : Lent) (r : B) : Type 0 where
+  pub answer : r ≡ tell (propositionNumber n x)
+  pub tables : Filled (telling (λ c. c .decoded) (propositionNumber n x)) before after
+
+-- of the section that was decoded anew
+abbrev pub Authorises : {B : Type 0} → ℕ → (Out (Chosen Section (Entry Proposition)) → B) → List ℕ → ℕ → Lent → Lent → B → Type 0
+Authorises n tell bytes cursor before after r = Asks n tell (decodeIn before bytes cursor) before after r
+
+-- the same by the rules of a call
+abbrev pub AuthorisesBy : {B : Type 0} → Given → ℕ → (Out (Chosen Section (Entry Proposition)) → B) → List ℕ → ℕ → Lent → Lent → B → Type 0
+AuthorisesBy given n tell bytes cursor before after r = Asks n tell (decodeGiven given before bytes cursor) before after r
 
 -- ---- What is stated of the answer for the proposition with the number n of an accepted section d
 

@@ -1,27 +1,29 @@
 // Whether some proof of a proposition has operation 1 and mark 1.
 ghost use Prim.Native.Nat.{_+_, _≤_};
 ghost use mathlib.Core.Path.{_≡_};
-ghost use mathlib.Core.List.{map};
+ghost use mathlib.Core.List.{List, map};
 ghost use lib.ListN.{length};
 ghost use Rattle.lent_table.specs.Lent.{Front};
-ghost use Rattle.derivation.specs.Rule.{fourRules};
+ghost use Rattle.derivation.specs.Rule.{Rule};
 ghost use Rattle.derivation.specs.Friendly as of;
 ghost use Rattle.evr0_section.specs.Section.{sectionOf};
 ghost use Rattle.evr0_section.specs.Marks.{marksOf};
 ghost use Rattle.evr0_head.specs.Maps.{countsOut};
 ghost use Rattle.evr0_pass.specs.View.{afterName, proofView};
 ghost use Rattle.evr0.specs.Answer.{lentOf};
+ghost use Rattle.evr0.specs.AnswerMaps.{givenOut};
 ghost use Rattle.evr0_marks.specs.Answer.{withMarks};
 ghost use Rattle.evr0_marks.specs.Steps.{Due};
-ghost use Rattle.evr0_authorised.specs.Authorised.{authorisedTold, Authorises};
+ghost use Rattle.evr0_authorised.specs.Authorised.{authorisedTold, Authorises, AuthorisesBy};
 ghost use Rattle.evr0_authorised.specs.Maps.{Inside, own, authorisedOut};
 use evr0::section::Outcome;
 use evr0_fields::number::PropositionIndex;
 use evr0_head::counts::Counts;
 use evr0_marks::record::after_name;
-use evr0_marks::section::decode_evr0_section;
+use evr0_marks::section::decode_evr0_section_by;
 use evr0_read::table::front;
 use evr0_read::table::payload_of;
+use evr0_rules::settle::Rules;
 use lent_table::clear;
 use lent_table::clear_bytes;
 use local_format::field::u32_at;
@@ -30,7 +32,7 @@ use local_format::refusal::Refusal;
 // Whether the proof at `start` with a mark is one of the proposition, with operation 1 and mark 1.
 fn operates(payload: &[u8], start: usize, mark: u8, proposition: u32) -> bool
     requires { ⌜ afterName (now payload) start + 24 ≤ length (now payload) ⌝ }
-    ensures { λ r. ⌜ r ≡ own (proofView fourRules (now (payload .entry)) start) mark proposition ⌝ }
+    ensures { λ r. ⌜ ((rules : List Rule) → r ≡ own (proofView rules (now (payload .entry)) start) mark proposition) ⌝ }
 {
     if mark != 1 {
         return false;
@@ -45,7 +47,8 @@ fn operates(payload: &[u8], start: usize, mark: u8, proposition: u32) -> bool
 fn authorised_by(payload: &[u8], starts: &[u64], marks: &[u8], proposition: u32) -> bool
     requires { ⌜ Inside (now payload) (now starts) ⌝ }
     requires { ⌜ length (now starts) ≤ length (now marks) ⌝ }
-    ensures { λ r. ⌜ r ≡ of.operates (map (proofView fourRules (now (payload .entry))) (now (starts .entry))) (now (marks .entry)) proposition ⌝ }
+    ensures { λ r. ⌜ ((rules : List Rule)
+        → r ≡ of.operates (map (proofView rules (now (payload .entry))) (now (starts .entry))) (now (marks .entry)) proposition) ⌝ }
 {
     let mut i: usize = 0;
     while i < starts.len() {
@@ -80,8 +83,10 @@ pub enum AuthorisedAnswer {
     Refused(Refusal),
 }
 
-// Whether a proposition of the section at a cursor, which is decoded anew, is authorised.
-pub fn authorised(
+// Whether a proposition of the section at a cursor, which is decoded anew by the rules of a call, is authorised.
+pub fn authorised_given(
+    rules: Rules,
+    table: &[u8],
     bytes: &[u8],
     cursor: usize,
     proposition: PropositionIndex,
@@ -90,11 +95,20 @@ pub fn authorised(
     depths: &mut [u64],
     marks: &mut [u8],
 ) -> AuthorisedAnswer
-    ensures { λ r. ⌜ Authorises (proposition .0) (authorisedTold (proposition .0)) (now (bytes .entry)) cursor
+    ensures { λ r. ⌜ AuthorisesBy (givenOut rules (now (table .entry))) (proposition .0) (authorisedTold (proposition .0)) (now (bytes .entry)) cursor
         (withMarks (lentOf (now (propositions .entry)) (now (proofs .entry)) (now (depths .entry))) (now (marks .entry)))
         (withMarks (lentOf (now (propositions .exit)) (now (proofs .exit)) (now (depths .exit))) (now (marks .exit))) (authorisedOut r) ⌝ }
 {
-    let decoded = decode_evr0_section(bytes, cursor, propositions, proofs, depths, marks);
+    let decoded = decode_evr0_section_by(
+        rules,
+        table,
+        bytes,
+        cursor,
+        propositions,
+        proofs,
+        depths,
+        marks,
+    );
     let end = decoded.cursor;
     let outcome = decoded.outcome;
     match outcome {
@@ -119,4 +133,31 @@ pub fn authorised(
             ))
         }
     }
+}
+
+// Whether a proposition of the section at a cursor, which is decoded anew by the four, is authorised.
+pub fn authorised(
+    bytes: &[u8],
+    cursor: usize,
+    proposition: PropositionIndex,
+    propositions: &mut [u64],
+    proofs: &mut [u64],
+    depths: &mut [u64],
+    marks: &mut [u8],
+) -> AuthorisedAnswer
+    ensures { λ r. ⌜ Authorises (proposition .0) (authorisedTold (proposition .0)) (now (bytes .entry)) cursor
+        (withMarks (lentOf (now (propositions .entry)) (now (proofs .entry)) (now (depths .entry))) (now (marks .entry)))
+        (withMarks (lentOf (now (propositions .exit)) (now (proofs .exit)) (now (depths .exit))) (now (marks .exit))) (authorisedOut r) ⌝ }
+{
+    authorised_given(
+        Rules::Four,
+        &bytes[..0],
+        bytes,
+        cursor,
+        proposition,
+        propositions,
+        proofs,
+        depths,
+        marks,
+    )
 }

@@ -6,7 +6,6 @@ use mathlib.Core.List.{List}
 use native.Mathlib.Omega.{arith}
 use lib.ListN.{length, take}
 use Rattle.lent_table.specs.Lent.{lent}
-use Rattle.derivation.specs.Rule.{fourRules}
 use Rattle.derivation.specs.Mark.{marks}
 use Rattle.evr0_section.specs.Head.{Counts}
 use Rattle.evr0_section.specs.Section.{Section, sectionOf, tablesOf}
@@ -31,14 +30,14 @@ module _ {bytes : List ℕ} {cursor end : ℕ} {counts : Counts} {proofs held : 
   payload-is : p ≡ payloadTo bytes cursor (d .cursor)
   payload-is = part ∙ ap (payloadTo bytes cursor) (sym (due .ends))
 
-  pub read : tablesOf fourRules (due .room) p ≡ ok (d .tables)
-  read = ap (tablesOf fourRules (due .room)) payload-is ∙ facts (due .room) bytes cursor d (due .decoded) .read
+  pub read : tablesOf (due .rules) (due .room) p ≡ ok (d .tables)
+  read = ap (tablesOf (due .rules) (due .room)) payload-is ∙ facts (due .rules) (due .room) bytes cursor d (due .decoded) .read
 
   pub starts-are : starts ≡ startsOf (d .tables .proofs .entries)
   starts-are = front ∙ due .started
 
   pub total : length starts ≡ counts .proofs
-  total = ap length starts-are ∙ starts-total fourRules (due .room) p (d .tables) read ∙ ap (λ (c : Counts). c .proofs) (due .counted)
+  total = ap length starts-are ∙ starts-total (due .rules) (due .room) p (d .tables) read ∙ ap (λ (c : Counts). c .proofs) (due .counted)
 
   module _ {witnessesAt parentsAt : ℕ} (cells : parentsAt ≡ length p - 4 * counts .parents)
       (seen : witnessesAt ≡ parentsAt - 84 * counts .witnesses) where
@@ -47,20 +46,20 @@ module _ {bytes : List ℕ} {cursor end : ℕ} {counts : Counts} {proofs held : 
 
     layout-is : layoutOf (d .tables) ≡ layout
     layout-is =
-        let a = parents-at (due .room) bytes cursor d (due .decoded) in
-        let b = witnesses-at (due .room) bytes cursor d (due .decoded) in
+        let a = parents-at (due .rules) (due .room) bytes cursor d (due .decoded) in
+        let b = witnesses-at (due .rules) (due .room) bytes cursor d (due .decoded) in
         let l = ap length payload-is in
         let m = ap (λ (c : Counts). c .parents) (due .counted) in
         let n = ap (λ (c : Counts). c .witnesses) (due .counted) in
         same-parts (due .counted) (omega (arith, a, b, l, m, n, cells, seen)) (omega (arith, a, b, l, m, n, cells, seen))
 
-    pub may-mark : TablesThere fourRules p starts layout
-    may-mark = rw (starts-are, ← layout-is) (tables-there fourRules (due .room) p (d .tables) read)
+    pub may-mark : TablesThere p starts layout
+    may-mark = rw (starts-are, ← layout-is) (tables-there (due .rules) (due .room) p (d .tables) read)
 
-    viewed : view fourRules p starts layout ≡ sectionOf (d .tables)
-    viewed = rw (starts-are, ← layout-is) (sym (section-view fourRules (due .room) p (d .tables) read))
+    viewed : view (due .rules) p starts layout ≡ sectionOf (d .tables)
+    viewed = rw (starts-are, ← layout-is) (sym (section-view (due .rules) (due .room) p (d .tables) read))
 
-    pub filled : (marked : List ℕ) {after : List ℕ} → length marked ≡ length held → take (length starts) marked ≡ marks (view fourRules p starts layout)
+    pub filled : (marked : List ℕ) {after : List ℕ} → length marked ≡ length held → take (length starts) marked ≡ marks (view (due .rules) p starts layout)
         → after ≡ lent (length marked) (take (length starts) marked) → after ≡ lent (length held) (marksOf d)
     filled marked kept e f =
         f ∙ ap (λ (n : ℕ). lent n (take (length starts) marked)) kept ∙ ap (lent (length held)) (e ∙ ap marks viewed)

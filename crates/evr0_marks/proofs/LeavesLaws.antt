@@ -8,17 +8,21 @@ use lib.ListN.{length, take, drop, replicate, length-drop, length-append, length
 use lib.Seq.{take-at, length-take-le}
 use Rattle.local_format.specs.Refusal.{Refusal}
 use Rattle.local_format.specs.Out.{Out, ok, refused}
+use Rattle.local_format.proofs.OutLaws.{bind-ok}
 use Rattle.lent_table.specs.Lent.{lent}
 use Rattle.evr0_section.specs.Head.{Counts, Room}
 use Rattle.evr0_section.specs.Rows.{startsOf}
 use Rattle.evr0_section.specs.Section.{Section, decodeSection}
 use Rattle.evr0_section.specs.Marks.{marksOf}
 use Rattle.evr0_section.proofs.Marks.{four-marks}
+use Rattle.evr0_section.proofs.Demand.{demand-3}
+use Rattle.rule_table.specs.ByTable.{Given, four, rulesGiven, decodeBy}
+use Rattle.rule_table.proofs.ByTable.{given-shaped}
 use Rattle.evr0.specs.Answer as unmarked
 use Rattle.evr0.specs.Answer.{Answer, answerOf, lentOf, propositionStarts, proofStarts, proofDepths}
 use Rattle.evr0_read.proofs.TableLaws.{facts}
 use Rattle.evr0_read.proofs.FindLaws.{answer-refused, answer-accepted}
-use Rattle.evr0_marks.specs.Answer.{Lent, withMarks, roomOf, proofMarks, decodeIn, Leaves}
+use Rattle.evr0_marks.specs.Answer.{Lent, withMarks, roomOf, proofMarks, Leaves, decodeGiven, LeavesBy}
 use Rattle.evr0_marks.specs.Steps.{Due}
 
 -- zeros past a table that already ends in zeros
@@ -28,7 +32,8 @@ lent-twice n m xs h k =
     let b : m - length xs + (n - m) ≡ n - length xs = omega arith in
     rw (a, append-assoc, replicate-append-replicate, b)
 
-module _ (bytes : List ℕ) (cursor : ℕ) (before : Lent) {room : ℕ} (least : room ≡ min (length (before .others .depths)) (length (before .marks))) where
+module _ (which : Given) (bytes : List ℕ) (cursor : ℕ) (before : Lent) {room : ℕ}
+    (least : room ≡ min (length (before .others .depths)) (length (before .marks))) where
   abbrev depths : List ℕ
   depths = before .others .depths
 
@@ -44,12 +49,12 @@ module _ (bytes : List ℕ) (cursor : ℕ) (before : Lent) {room : ℕ} (least :
       ap (λ (n : ℕ). record { propositions = length (before .others .propositions); proofs = length (before .others .proofs); depths = n }) (cut-length ∙ least)
 
   abbrev x : Out Section
-  x = decodeIn before bytes cursor
+  x = decodeGiven which before bytes cursor
 
-  same-section : unmarked.decodeIn cut bytes cursor ≡ x
-  same-section = ap (λ (r : Room). decodeSection r bytes cursor) same-room
+  same-section : unmarked.decodeGiven which cut bytes cursor ≡ x
+  same-section = ap (λ (r : Room). decodeBy which r bytes cursor) same-room
 
-  module _ {left : unmarked.Lent} {given : Answer} (leaves : unmarked.Leaves bytes cursor cut left given) (kept : length (left .depths) ≡ room) where
+  module _ {left : unmarked.Lent} {given : Answer} (leaves : unmarked.LeavesBy which bytes cursor cut left given) (kept : length (left .depths) ≡ room) where
     answered : given ≡ answerOf cursor x
     answered = leaves .answer ∙ ap (answerOf cursor) same-section
 
@@ -70,7 +75,7 @@ module _ (bytes : List ℕ) (cursor : ℕ) (before : Lent) {room : ℕ} (least :
           ∙ ap₂ lent n (take-at (left .depths) (drop room depths) room kept ∙ depths-are)
           ∙ lent-twice (length depths) room (proofDepths x) short (omega (arith, least))
 
-      pub whole : Leaves bytes cursor before (withMarks (lentOf (left .propositions) (left .proofs) all) marks) given
+      pub whole : LeavesBy which bytes cursor before (withMarks (lentOf (left .propositions) (left .proofs) all) marks) given
       whole =
           record {
             answer = answered;
@@ -83,8 +88,7 @@ module _ (bytes : List ℕ) (cursor : ℕ) (before : Lent) {room : ℕ} (least :
               };
               marks = marked;
             };
-            demand3 = rw same-room at (leaves .demand3);
-            marked = four-marks (roomOf before) bytes cursor;
+            holds = rw same-room at (leaves .holds);
           }
 
     -- ---- A refusal
@@ -98,17 +102,21 @@ module _ (bytes : List ℕ) (cursor : ℕ) (before : Lent) {room : ℕ} (least :
       found = answer-accepted cursor x (sym (ap (λ (a : Answer). a .outcome) answered) ∙ e)
 
       pub due : Due bytes cursor (given .cursor) (a .counts) (left .proofs) (before .marks)
+      unfolding decodeBy
       due =
           let (d, is, end, counts) = found in
-          let f = facts (roomOf before) bytes cursor d is in
+          let (rules, given-are, decoded) = bind-ok (rulesGiven which) _ is in
+          let f = facts rules (roomOf before) bytes cursor d decoded in
           let n : length (startsOf (d .tables .proofs .entries)) ≡ a .counts .proofs =
           length-map (d .tables .proofs .entries) (λ e. e .start) ∙ f .proofs ∙ ap (λ (c : Counts). c .proofs) (sym counts) in
           let depthed : length (proofDepths x) ≡ a .counts .proofs =
           ap (λ (y : Out Section). length (proofDepths y)) is ∙ f .depthCount ∙ ap (λ (c : Counts). c .proofs) (sym counts) in
           record {
+            rules = rules;
+            shaped = given-shaped which rules given-are;
             room = roomOf before;
             section = d;
-            decoded = is;
+            decoded = decoded;
             ends = sym (ap (λ (a : Answer). a .cursor) answered ∙ end);
             counted = sym counts;
             started = ap (take (a .counts .proofs))
@@ -120,3 +128,15 @@ module _ (bytes : List ℕ) (cursor : ℕ) (before : Lent) {room : ℕ} (least :
       pub some : {marks : List ℕ} → marks ≡ lent (length (before .marks)) (marksOf (due .section)) → marks ≡ lent (length (before .marks)) (proofMarks x)
       unfolding due
       some h = rw (found .1) h
+
+-- ---- By the four
+pub by-four : {bytes : List ℕ} {cursor : ℕ} {before after : Lent} {given : Answer} → LeavesBy four bytes cursor before after given
+    → Leaves bytes cursor before after given
+unfolding decodeSection decodeBy
+by-four {bytes} {cursor} {before} l =
+    record {
+      answer = l .answer;
+      tables = l .tables;
+      demand3 = demand-3 (roomOf before) bytes cursor;
+      marked = four-marks (roomOf before) bytes cursor;
+    }

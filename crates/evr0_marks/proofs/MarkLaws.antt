@@ -9,7 +9,7 @@ use lib.ListN.{length, getD, take, set, length-map, List·getD-eq-default}
 use lib.Seq.{take-suc-set, length-take-le}
 use Rattle.local_format.specs.Field.{le}
 use Rattle.local_format.proofs.FieldLaws.{le-1}
-use Rattle.derivation.specs.Rule.{fourRules}
+use Rattle.derivation.specs.Rule.{Rule}
 use Rattle.derivation.specs.Section.{Proof, Section, Witness, noWitness, proofAt, witnessAt}
 use Rattle.derivation.specs.InOrder.{inOrder, gathered}
 use Rattle.derivation.specs.Mark.{endPolarity, endMark, joined, markOf, marks}
@@ -17,14 +17,14 @@ use Rattle.derivation.proofs.Laws.{in-order-none, in-order-turn, gathered-turn,
 use Rattle.evr0_pass.specs.View.{Layout, afterName, places, proofView, witnessView, view, ProofThere}
 use Rattle.evr0_pass.proofs.ViewLaws.{length-places, proof-total, proof-at, witness-at, parent-at}
 
-module _ (p starts : List ℕ) (l : Layout) where
+module _ (rules : List Rule) (p starts : List ℕ) (l : Layout) where
   abbrev s : Section
-  s = view fourRules p starts l
+  s = view rules p starts l
 
   -- ---- A witness
   pub polarity-there : (w : ℕ) → w < l .counts .witnesses → getD p (l .witnessesAt + 84 * w + 8) 0 ≡ witnessAt s w .polarity
   unfolding witnessView
-  polarity-there w h = le-1 p (l .witnessesAt + 84 * w + 8) ∙ sym (ap (λ (x : Witness). x .polarity) (witness-at fourRules p starts l w h))
+  polarity-there w h = le-1 p (l .witnessesAt + 84 * w + 8) ∙ sym (ap (λ (x : Witness). x .polarity) (witness-at rules p starts l w h))
 
   pub polarity-none : (w : ℕ) → l .counts .witnesses ≤ w → 0 ≡ witnessAt s w .polarity
   unfolding witnessAt view
@@ -40,13 +40,13 @@ module _ (p starts : List ℕ) (l : Layout) where
       → gathered joined s known (end - (c + 1)) (c + 1) mark ≡ whole
   parent-turn known end c m parent h t is e inv =
       let n : end - c - 1 ≡ end - (c + 1) = omega arith in
-      rw (e, is, ← parent-at fourRules p starts l c t, ← n) (sym (gathered-turn joined s known (end - c) c m (omega arith)) ∙ inv)
+      rw (e, is, ← parent-at rules p starts l c t, ← n) (sym (gathered-turn joined s known (end - c) c m (omega arith)) ∙ inv)
 
   -- ---- A proof, of whose record these numbers were read
   module _ (known : List ℕ) {i rest parents : ℕ} (there : i < length starts) (named : rest ≡ afterName p (getD starts i 0))
       (counted : parents ≡ le 4 p (rest + 16)) where
-    is : proofAt s i ≡ proofView fourRules p (getD starts i 0)
-    is = proof-at fourRules p starts l i there
+    is : proofAt s i ≡ proofView rules p (getD starts i 0)
+    is = proof-at rules p starts l i there
 
     count : proofAt s i .parentCount ≡ parents
     unfolding proofView
@@ -67,20 +67,19 @@ module _ (p starts : List ℕ) (l : Layout) where
         m ∙ ap₂ (λ (k c : ℕ). gathered joined s known k c 0) (sym count) cell ∙ sym (mark-inner s i known (λ e. z (sym count ∙ e)))
 
 -- the parents of a proof that is there are there
-pub parents-there : {p : List ℕ} {l : Layout} {start i rest parents first : ℕ} → ProofThere fourRules p l start i → rest ≡ afterName p start
+pub parents-there : {p : List ℕ} {l : Layout} {start i rest parents first : ℕ} → ProofThere p l start i → rest ≡ afterName p start
     → parents ≡ le 4 p (rest + 16) → first ≡ le 4 p (rest + 12) → first + parents ≤ l .counts .parents
-unfolding proofView
 parents-there {p} there named counted f =
     omega (arith, there .parents, f ∙ ap (λ (n : ℕ). le 4 p (n + 12)) named, counted ∙ ap (λ (n : ℕ). le 4 p (n + 16)) named)
 
 -- ---- All proofs, one after the other
-module _ (p starts : List ℕ) (l : Layout) where
+module _ (rules : List Rule) (p starts : List ℕ) (l : Layout) where
   abbrev tables : Section
-  tables = view fourRules p starts l
+  tables = view rules p starts l
 
   pub none-marked : inOrder (markOf tables) (length starts - 0) 0 [] ≡ marks tables
   unfolding marks
-  none-marked = let n : length starts - 0 ≡ length starts = omega arith in rw (n, proof-total fourRules p starts l)
+  none-marked = let n : length starts - 0 ≡ length starts = omega arith in rw (n, proof-total rules p starts l)
 
   pub next-marked : (i mark : ℕ) (table : List ℕ) → i < length starts → i < length table → mark ≡ markOf tables (length (take i table)) (take i table)
       → inOrder (markOf tables) (length starts - i) i (take i table) ≡ marks tables

@@ -10,6 +10,7 @@ use Rattle.evr0_section.specs.Head.{Room}
 use Rattle.evr0_section.specs.Section.{Section, decodeSection}
 use Rattle.evr0_section.specs.Demand.{Demand3}
 use Rattle.evr0_section.specs.Marks.{marksOf, MarksByRules}
+use Rattle.rule_table.specs.ByTable.{Given, decodeBy, HoldsBy}
 use Rattle.evr0.specs.Answer as unmarked
 use Rattle.evr0.specs.Answer.{Answer, answerOf}
 
@@ -51,3 +52,13 @@ pub record Leaves (bytes : List ℕ) (cursor : ℕ) (before after : Lent) (given
   pub demand3 : Demand3 (roomOf before) bytes cursor
   -- each mark says what document 02 has it say
   pub marked : MarksByRules fourRules (roomOf before) bytes cursor
+
+-- ---- The same by the rules of a call
+
+abbrev pub decodeGiven : Given → Lent → List ℕ → ℕ → Out Section
+decodeGiven given tables bytes cursor = decodeBy given (roomOf tables) bytes cursor
+
+pub record LeavesBy (given : Given) (bytes : List ℕ) (cursor : ℕ) (before after : Lent) (answered : Answer) : Type 0 where
+  pub answer : answered ≡ answerOf cursor (decodeGiven given before bytes cursor)
+  pub tables : Filled (decodeGiven given before bytes cursor) before after
+  pub holds : HoldsBy given (roomOf before) bytes cursor

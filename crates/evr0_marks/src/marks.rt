@@ -4,7 +4,7 @@ ghost use mathlib.Core.Path.{_≡_};
 ghost use mathlib.Core.List.{List};
 ghost use Prim.Native.Nat.{ℕ, _+_, _*_, _≤_, _<_};
 ghost use lib.ListN.{length, getD, take};
-ghost use Rattle.derivation.specs.Rule.{fourRules};
+ghost use Rattle.derivation.specs.Rule.{Rule};
 ghost use Rattle.derivation.specs.Section.{witnessAt};
 ghost use Rattle.derivation.specs.InOrder.{gathered};
 ghost use Rattle.derivation.specs.Mark as of;
@@ -54,7 +54,7 @@ fn byte_at(table: &[u8], i: usize) -> u8
 // The polarity of a witness; 0 where there is none with the number.
 fn polarity_at(payload: &[u8], tables: Layout, witness: usize) -> u8
     requires { ⌜ tables .«witnesses_at» + 84 * tables .counts .witnesses ≤ length (now payload) ⌝ }
-    ensures { λ r. ⌜ ((starts : List ℕ) → r ≡ witnessAt (tablesIn (now (payload .entry)) starts tables) witness .polarity) ⌝ }
+    ensures { λ r. ⌜ ((rules : List Rule) (starts : List ℕ) → r ≡ witnessAt (tablesIn rules (now (payload .entry)) starts tables) witness .polarity) ⌝ }
 {
     if witness < tables.counts.witnesses {
         return payload[tables.witnesses_at + 84 * witness + 8];
@@ -66,8 +66,8 @@ fn polarity_at(payload: &[u8], tables: Layout, witness: usize) -> u8
 fn by_parents(payload: &[u8], tables: Layout, known: &[u8], first: usize, count: usize) -> u8
     requires { ⌜ tables .«parents_at» + 4 * tables .counts .parents ≤ length (now payload) ⌝ }
     requires { ⌜ first + count ≤ tables .counts .parents ⌝ }
-    ensures { λ r. ⌜ ((starts : List ℕ) → r
-        ≡ gathered of.joined (tablesIn (now (payload .entry)) starts tables) (now (known .entry)) count first 0) ⌝ }
+    ensures { λ r. ⌜ ((rules : List Rule) (starts : List ℕ) → r
+        ≡ gathered of.joined (tablesIn rules (now (payload .entry)) starts tables) (now (known .entry)) count first 0) ⌝ }
 {
     let mut cell = first;
     let end = first + count;
@@ -82,9 +82,10 @@ fn by_parents(payload: &[u8], tables: Layout, known: &[u8], first: usize, count:
 
 // The mark of the proof after those whose marks are known.
 fn mark_after(payload: &[u8], starts: &[u64], tables: Layout, known: &[u8]) -> u8
-    requires { ⌜ TablesThere fourRules (now payload) (now starts) (layoutOut tables) ⌝ }
+    requires { ⌜ TablesThere (now payload) (now starts) (layoutOut tables) ⌝ }
     requires { ⌜ length (now known) < length (now starts) ⌝ }
-    ensures { λ r. ⌜ r ≡ of.markOf (tablesIn (now (payload .entry)) (now (starts .entry)) tables) (length (now (known .entry))) (now (known .entry)) ⌝ }
+    ensures { λ r. ⌜ ((rules : List Rule) → r
+        ≡ of.markOf (tablesIn rules (now (payload .entry)) (now (starts .entry)) tables) (length (now (known .entry))) (now (known .entry))) ⌝ }
 {
     let rest = after_name(payload, starts[known.len()] as usize);
     let parents = wide(u32_at(payload, rest + 16));
@@ -102,9 +103,10 @@ fn mark_after(payload: &[u8], starts: &[u64], tables: Layout, known: &[u8]) -> u
 
 // The mark of each proof, whose starts are given, at the front of the lent table.
 pub fn mark_proofs(payload: &[u8], starts: &[u64], tables: Layout, marks: &mut [u8])
-    requires { ⌜ TablesThere fourRules (now payload) (now starts) (layoutOut tables) ⌝ }
+    requires { ⌜ TablesThere (now payload) (now starts) (layoutOut tables) ⌝ }
     requires { ⌜ length (now starts) ≤ length (now marks) ⌝ }
-    ensures { λ r. ⌜ take (length (now (starts .entry))) (now (marks .exit)) ≡ of.marks (tablesIn (now (payload .entry)) (now (starts .entry)) tables) ⌝ }
+    ensures { λ r. ⌜ ((rules : List Rule)
+        → take (length (now (starts .entry))) (now (marks .exit)) ≡ of.marks (tablesIn rules (now (payload .entry)) (now (starts .entry)) tables)) ⌝ }
 {
     let mut i: usize = 0;
     while i < starts.len() {

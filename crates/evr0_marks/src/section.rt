@@ -5,19 +5,20 @@ ghost use Rattle.lent_table.specs.Lent.{lent};
 ghost use Rattle.evr0_section.specs.Marks.{marksOf};
 ghost use Rattle.evr0_head.specs.Maps.{countsOut};
 ghost use Rattle.evr0.specs.Answer.{lentOf};
-ghost use Rattle.evr0.specs.AnswerMaps.{answerOut};
-ghost use Rattle.evr0_marks.specs.Answer.{withMarks, Leaves};
+ghost use Rattle.evr0.specs.AnswerMaps.{answerOut, givenOut};
+ghost use Rattle.evr0_marks.specs.Answer.{withMarks, Leaves, LeavesBy};
 ghost use Rattle.evr0_marks.specs.Steps.{Due};
 use crate::marks::mark_proofs;
 use evr0::section::DecodedEvr0;
 use evr0::section::Outcome;
-use evr0::section::decode_evr0_unmarked;
+use evr0::section::decode_evr0_by;
 use evr0_head::counts::Counts;
 use evr0_pass::pass::Layout;
 use evr0_read::cell::before_parents;
 use evr0_read::cell::before_witnesses;
 use evr0_read::table::front;
 use evr0_read::table::payload_of;
+use evr0_rules::settle::Rules;
 use lent_table::clear_bytes_from;
 
 // The marks of the section at a cursor that ends at `end`, and zeros past them.
@@ -46,9 +47,12 @@ fn fill_marks(
     clear_bytes_from(marks, starts.len());
 }
 
-// Decodes the section at `cursor`. Each lent table is filled to its count and has zeros past it; a refusal leaves zeros in all four. Depths
-// and marks are one for each proof: the decoder is lent as many depths as there are marks.
-pub fn decode_evr0_section(
+// Decodes the section at `cursor` by the rules of a call: the four, or those of a table, which is loaded first. Each lent table is filled
+// to its count and has zeros past it; a refusal leaves zeros in all four. Depths and marks are one for each proof: the decoder is lent as
+// many depths as there are marks.
+pub fn decode_evr0_section_by(
+    rules: Rules,
+    table: &[u8],
     bytes: &[u8],
     cursor: usize,
     propositions: &mut [u64],
@@ -56,12 +60,20 @@ pub fn decode_evr0_section(
     depths: &mut [u64],
     marks: &mut [u8],
 ) -> DecodedEvr0
-    ensures { λ r. ⌜ Leaves (now (bytes .entry)) cursor
+    ensures { λ r. ⌜ LeavesBy (givenOut rules (now (table .entry))) (now (bytes .entry)) cursor
         (withMarks (lentOf (now (propositions .entry)) (now (proofs .entry)) (now (depths .entry))) (now (marks .entry)))
         (withMarks (lentOf (now (propositions .exit)) (now (proofs .exit)) (now (depths .exit))) (now (marks .exit))) (answerOut r) ⌝ }
 {
     let room = lent_table::least(depths.len(), marks.len());
-    let decoded = decode_evr0_unmarked(bytes, cursor, propositions, proofs, &mut depths[..room]);
+    let decoded = decode_evr0_by(
+        rules,
+        table,
+        bytes,
+        cursor,
+        propositions,
+        proofs,
+        &mut depths[..room],
+    );
     lent_table::clear_from(depths, room);
     let end = decoded.cursor;
     let outcome = decoded.outcome;
@@ -75,4 +87,29 @@ pub fn decode_evr0_section(
         }
     }
     decoded
+}
+
+// The same by the four.
+pub fn decode_evr0_section(
+    bytes: &[u8],
+    cursor: usize,
+    propositions: &mut [u64],
+    proofs: &mut [u64],
+    depths: &mut [u64],
+    marks: &mut [u8],
+) -> DecodedEvr0
+    ensures { λ r. ⌜ Leaves (now (bytes .entry)) cursor
+        (withMarks (lentOf (now (propositions .entry)) (now (proofs .entry)) (now (depths .entry))) (now (marks .entry)))
+        (withMarks (lentOf (now (propositions .exit)) (now (proofs .exit)) (now (depths .exit))) (now (marks .exit))) (answerOut r) ⌝ }
+{
+    decode_evr0_section_by(
+        Rules::Four,
+        &bytes[..0],
+        bytes,
+        cursor,
+        propositions,
+        proofs,
+        depths,
+        marks,
+    )
 }

@@ -1,4 +1,3 @@
-pub mod RuleLaws
 pub mod ViewLaws
 pub mod ViewOf
 pub mod DeriveLaws

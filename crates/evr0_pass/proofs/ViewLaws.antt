@@ -10,7 +10,7 @@ use Rattle.local_format.specs.Field.{le}
 use Rattle.derivation.specs.Rule.{Rule}
 use Rattle.derivation.specs.Pass.{agrees}
 use Rattle.derivation.specs.Section.{Proof, proofAt, witnessAt, parentAt, proofTotal}
-use Rattle.evr0_pass.specs.View.{Layout, places, proofView, witnessView, view}
+use Rattle.evr0_pass.specs.View.{Layout, places, afterName, proofView, witnessView, view}
 
 pub getD-map-in : {A B : Type 0} (f : A → B) (l : List A) (i : ℕ) (d : A) (e : B) → i < length l → getD (map f l) i e ≡ f (getD l i d)
 getD-map-in f [] i d e h = absurd (omega arith)
@@ -51,6 +51,6 @@ module _ (rules : List Rule) (p starts : List ℕ) (l : Layout) where
 
   pub agrees-at : (q : Proof) (j : ℕ) → j < length starts
       → agrees (view rules p starts l) q j
-      ≡ (eqb (proofView rules p (getD starts j 0) .proposition) (q .proposition) && eqb (proofView rules p (getD starts j 0) .authority) (q .authority))
-  unfolding agrees
+      ≡ (eqb (le 4 p (getD starts j 0 + 4)) (q .proposition) && eqb (le 4 p (afterName p (getD starts j 0))) (q .authority))
+  unfolding agrees proofView
   agrees-at q j h = rw (proof-at j h)

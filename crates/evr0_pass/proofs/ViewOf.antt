@@ -20,7 +20,7 @@ use Rattle.evr0_section.proofs.RowChecks.{GoodProof, proof-known, proof-behind,
 use Rattle.evr0_section.proofs.RecordLaws.{ProofLies, proof-lies, witness-lies, parent-lies}
 use Rattle.evr0_section.proofs.CheckedTables.{Steps, steps}
 use Rattle.evr0_section.specs.Rows.{startsOf}
-use Rattle.evr0_pass.specs.View.{Layout, places, nameAt, proofView, witnessView, view, ProofThere, TablesThere}
+use Rattle.evr0_pass.specs.View.{Layout, places, nameAt, proofView, witnessView, view, ProofThere, TablesThere, RulesKnown}
 
 -- ---- Any table
 
@@ -78,12 +78,12 @@ module _ (rules : List Rule) (p : List ℕ) (l : Layout) (u : Unowned) (at : ℕ
   good : GoodProof rules (l .counts) u (proofView rules p at)
   good = rw (← proof-view) (proof-known rules (l .counts) u (drop at p) r e .good at)
 
-  proof-there : ProofThere rules p l at (u .proof)
+  proof-there : ProofThere p l at (u .proof)
+  unfolding proofView
   proof-there =
       record {
         inside = omega (arith, lies .inside, lies .len);
         number = good .number;
-        named = (r .item .rule, name-is);
         witnesses = omega (arith, good .firstWitness, good .witnessesEnd);
         parents = omega (arith, good .firstParent, good .parentsEnd);
       }
@@ -94,7 +94,7 @@ module _ (rules : List Rule) (p : List ℕ) (l : Layout) (u : Unowned) (at : ℕ
 -- the i-th proof of a table whose first has the number of the state
 proofs-there : (rules : List Rule) (p : List ℕ) (l : Layout) {n at end : ℕ} {u v : Unowned} {es : List (Entry Settled)}
     → Trace (proofRow rules (l .counts)) p n u at es v end → (i : ℕ) → i < length (startsOf es)
-    → ProofThere rules p l (getD (startsOf es) i 0) (u .proof + i)
+    → ProofThere p l (getD (startsOf es) i 0) (u .proof + i)
 proofs-there rules p l none i h = absurd (omega arith)
 proofs-there rules p l (more {at = at} {state = u} r e w) zero h =
     let q : u .proof + 0 ≡ u .proof = omega arith in
@@ -102,6 +102,12 @@ proofs-there rules p l (more {at = at} {state = u} r e w) zero h =
 proofs-there rules p l (more {at = at} {state = u} r e w) (suc i) h =
     let q : r .state .proof + i ≡ u .proof + suc i = omega (arith, next-proof rules p l u at r e) in
     rw q at (proofs-there rules p l w i (omega arith))
+
+names-known : (rules : List Rule) (p : List ℕ) (l : Layout) {n at end : ℕ} {u v : Unowned} {es : List (Entry Settled)}
+    → Trace (proofRow rules (l .counts)) p n u at es v end → RulesKnown rules p (startsOf es)
+names-known rules p l none i h = absurd (omega arith)
+names-known rules p l (more {at = at} {state = u} r e w) zero h = (r .item .rule, name-is rules p l u at r e)
+names-known rules p l (more {at = at} {state = u} r e w) (suc i) h = names-known rules p l w i (omega arith)
 
 -- ---- A witness and a parent cell
 
@@ -158,7 +164,7 @@ module _ (rules : List Rule) (room : Room) (p : List ℕ) (t : Tables) (read : t
       )
 
   -- and they are there, as the last pass asks
-  pub tables-there : TablesThere rules p (startsOf (t .proofs .entries)) (layoutOf t)
+  pub tables-there : TablesThere p (startsOf (t .proofs .entries)) (layoutOf t)
   tables-there =
       let ws = same-size (witnessRow 4 (t .head .counts)) p 84 (witness-size p (t .head .counts)) witnesses-read in
       let cs = same-size parentRow p 4 (λ u at r e. parent-lies p at u r e .1) parents-read in
@@ -167,3 +173,6 @@ module _ (rules : List Rule) (room : Room) (p : List ℕ) (t : Tables) (read : t
         witnesses = omega (arith, ws .1, cs .1, read-steps .whole);
         parents = omega (arith, cs .1, read-steps .whole);
       }
+
+  pub rules-known : RulesKnown rules p (startsOf (t .proofs .entries))
+  rules-known = names-known rules p (layoutOf t) proofs-read

@@ -8,7 +8,7 @@ use borrow.Author.Tests.{eqb-true, eqb-false}
 use Rattle.local_format.specs.Refusal.{Refusal, refusal}
 use Rattle.local_format.specs.Out.{Out, ok, refused, check}
 use Rattle.local_format.proofs.OutLaws.{never, refused-same, checked-ok, checked-refused, check-ok}
-use Rattle.derivation.specs.Rule.{Rule, polarityFits}
+use Rattle.derivation.specs.Rule.{polarityFits}
 use Rattle.derivation.specs.Section.{Proof, Section, witnessAt}
 use Rattle.derivation.specs.Pass.{witnessesFrom}
 use Rattle.derivation.proofs.Laws.{witnesses-28, witnesses-29, witnesses-turn}

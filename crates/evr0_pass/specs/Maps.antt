@@ -7,10 +7,10 @@ use lib.Dec.{eqb}
 use Rattle.local_format.specs.Out.{Out, ok, refused, check, _>>=_, _>>_}
 use Rattle.local_format.specs.Maps.{refusalOut}
 use Rattle.lent_table.specs.Lent.{lent}
-use Rattle.derivation.specs.Rule.{Rule, fourRules, polarityFits}
+use Rattle.derivation.specs.Rule.{Rule, polarityFits}
 use Rattle.derivation.specs.Section as section
 use Rattle.evr0_head.specs.Maps.{countsOut}
-use Rattle.evr0_records.specs.Maps.{ruleOut}
+use Rattle.evr0_rules.specs.Maps.{ruleOut}
 use Rattle.evr0_fields.specs.declared.check.Checked.{Checked}
 use Rattle.evr0_fields.specs.declared.check.Checked.the-variants as checked
 use Rattle.evr0_pass.specs.View as view
@@ -22,16 +22,17 @@ use Rattle.evr0_pass.specs.declared.pass.Depth.the-variants as depth
 abbrev pub layoutOut : Layout → view.Layout
 layoutOut l = record { counts = countsOut (l .counts); witnessesAt = l .«witnesses_at»; parentsAt = l .«parents_at» }
 
--- the tables of a payload, under the four rules
-abbrev pub tablesIn : List ℕ → List ℕ → Layout → section.Section
-tablesIn payload starts l = view.view fourRules payload starts (layoutOut l)
+-- the tables of a payload, by some rules
+abbrev pub tablesIn : List Rule → List ℕ → List ℕ → Layout → section.Section
+tablesIn rules payload starts l = view.view rules payload starts (layoutOut l)
 
-abbrev pub proofOut : SettledProof → section.Proof
-proofOut p =
+-- a proof whose rule has this name
+abbrev pub proofOut : List ℕ → SettledProof → section.Proof
+proofOut name p =
     record {
       number = p .«proof_id» .0;
       proposition = p .«proposition_index» .0;
-      rule = ruleOut (p .rule);
+      rule = ruleOut name (p .rule);
       authority = p .«authority_context»;
       firstWitness = p .«witness_first» .0;
       witnessCount = p .«witness_count»;

@@ -8,6 +8,7 @@ use Rattle.local_format.specs.Text.{bytesAt}
 use Rattle.derivation.specs.Rule.{Rule, Named, known, unknown, ruleNamed}
 use Rattle.derivation.specs.Section.{Proof, Witness, Section}
 use Rattle.evr0_section.specs.Head.{Counts}
+use Rattle.evr0_rules.specs.Maps.{Known}
 
 -- the counts of the tables, and where those of the witnesses and of the parents start
 pub record Layout : Type 0 where
@@ -67,26 +68,25 @@ view rules p starts l =
 
 -- ---- What the last pass relies on
 
--- a name that one of the rules has
-abbrev pub Known : List Rule → List ℕ → Type 0
-Known rules name = (r : Rule) × (ruleNamed rules name ≡ known r)
-
--- the proof at a start is the i-th and lies in the payload, with 24 bytes after its rule's name; its rule is known, and what it owns is there
-pub record ProofThere (rules : List Rule) (p : List ℕ) (l : Layout) (start i : ℕ) : Type 0 where
+-- the proof at a start is the i-th and lies in the payload, with 24 bytes after its rule's name, and what it owns is there
+pub record ProofThere (p : List ℕ) (l : Layout) (start i : ℕ) : Type 0 where
   pub inside : afterName p start + 24 ≤ length p
-  pub number : proofView rules p start .number ≡ i
-  pub named : Known rules (nameAt p start)
-  pub witnesses : proofView rules p start .firstWitness + proofView rules p start .witnessCount ≤ l .counts .witnesses
-  pub parents : proofView rules p start .firstParent + proofView rules p start .parentCount ≤ l .counts .parents
+  pub number : le 4 p start ≡ i
+  pub witnesses : le 4 p (afterName p start + 4) + le 4 p (afterName p start + 8) ≤ l .counts .witnesses
+  pub parents : le 4 p (afterName p start + 12) + le 4 p (afterName p start + 16) ≤ l .counts .parents
 
-pub record TablesThere (rules : List Rule) (p starts : List ℕ) (l : Layout) : Type 0 where
-  pub proofs : (i : ℕ) → i < length starts → ProofThere rules p l (getD starts i 0) i
+pub record TablesThere (p starts : List ℕ) (l : Layout) : Type 0 where
+  pub proofs : (i : ℕ) → i < length starts → ProofThere p l (getD starts i 0) i
   pub witnesses : l .witnessesAt + 84 * l .counts .witnesses ≤ length p
   pub parents : l .parentsAt + 4 * l .counts .parents ≤ length p
 
+-- the rule of each proof is known
+abbrev pub RulesKnown : List Rule → List ℕ → List ℕ → Type 0
+RulesKnown rules p starts = (i : ℕ) → i < length starts → Known rules (nameAt p (getD starts i 0))
+
 -- a proof of these tables, after those whose depths are known
-pub record ProofDue (rules : List Rule) (p starts : List ℕ) (l : Layout) (depths : List ℕ) (q : Proof) : Type 0 where
-  pub tables : TablesThere rules p starts l
+pub record ProofDue (p starts : List ℕ) (l : Layout) (depths : List ℕ) (q : Proof) : Type 0 where
+  pub tables : TablesThere p starts l
   pub witnesses : q .firstWitness + q .witnessCount ≤ l .counts .witnesses
   pub parents : q .firstParent + q .parentCount ≤ l .counts .parents
   pub started : q .number ≤ length starts

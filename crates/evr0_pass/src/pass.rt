@@ -1,22 +1,25 @@
 // The last pass, over a payload whose tables have been read: each parent 25 and 26, the depth 27, the witnesses 28 and 29.
 ghost use mathlib.Core.Path.{_≡_};
 ghost use mathlib.Core.Bool.{_&&_};
-ghost use mathlib.Core.List.{List};
+ghost use mathlib.Core.List.{List, []};
 ghost use Prim.Native.Nat.{ℕ, _+_, _*_, _≤_, max};
 ghost use lib.Dec.{eqb, ltb, leb};
 ghost use lib.ListN.{length, take};
-ghost use Rattle.derivation.specs.Rule.{known, ruleNamed, fourRules};
+ghost use Rattle.local_format.specs.Field.{le};
+ghost use Rattle.derivation.specs.Rule as derivation;
 ghost use Rattle.derivation.specs.Pass as of;
 ghost use Rattle.evr0_fields.specs.Maps.{checkedOut};
-ghost use Rattle.evr0_records.specs.Maps.{ruleOut};
-ghost use Rattle.evr0_pass.specs.View.{proofView, afterName, nameAt, Known, TablesThere, ProofDue};
+ghost use Rattle.evr0_rules.specs.Maps.{ruleOut, rulesIn, RulesThere, Known};
+ghost use Rattle.evr0_pass.specs.View.{proofView, afterName, nameAt, TablesThere, RulesKnown, ProofDue};
 ghost use Rattle.evr0_pass.specs.Maps.{layoutOut, tablesIn, proofOut, depthOut, filled, Derives, suited};
 use evr0_fields::check::Checked;
 use evr0_fields::number::ProofNumber;
 use evr0_fields::number::PropositionIndex;
 use evr0_fields::number::WitnessNumber;
 use evr0_head::counts::Counts;
-use evr0_records::rule::Rule;
+use evr0_rules::rule::Rule;
+use evr0_rules::settle::Rules;
+use evr0_rules::settle::settle_known;
 use local_format::field::u16_at;
 use local_format::field::u32_at;
 use local_format::refusal::Refusal;
@@ -46,19 +49,6 @@ pub enum Depth {
     Refused(Refusal),
 }
 
-// The rule of a name that is one of the four, which differ in their first byte.
-fn rule_of(name: &[u8]) -> Rule
-    requires { ⌜ Known fourRules (now name) ⌝ }
-    ensures { λ r. ⌜ ruleNamed fourRules (now (name .entry)) ≡ known (ruleOut r) ⌝ }
-{
-    match name[0] {
-        b'P' => Rule::PosWitness,
-        b'N' => Rule::NegWitness,
-        b'J' => Rule::JoinSameP,
-        _ => Rule::OpTOnly,
-    }
-}
-
 // The place after the rule's name of the proof at `start`.
 fn after_name(payload: &[u8], start: usize) -> usize
     requires { ⌜ afterName (now payload) start ≤ length (now payload) ⌝ }
@@ -68,14 +58,21 @@ fn after_name(payload: &[u8], start: usize) -> usize
 }
 
 // The proof at `start`, its rule settled.
-fn proof_at(payload: &[u8], start: usize) -> SettledProof
+fn proof_at(
+    rules: Rules,
+    table: &[u8],
+    places: &[u64],
+    payload: &[u8],
+    start: usize,
+) -> SettledProof
     requires { ⌜ afterName (now payload) start + 24 ≤ length (now payload) ⌝ }
-    requires { ⌜ Known fourRules (nameAt (now payload) start) ⌝ }
-    ensures { λ r. ⌜ proofOut r ≡ proofView fourRules (now (payload .entry)) start ⌝ }
+    requires { ⌜ RulesThere (now table) (now places) × Known (rulesIn rules (now table) (now places)) (nameAt (now payload) start) ⌝ }
+    ensures { λ r. ⌜ proofOut (nameAt (now (payload .entry)) start) r
+        ≡ proofView (rulesIn rules (now (table .entry)) (now (places .entry))) (now (payload .entry)) start ⌝ }
 {
     let name = start + 10;
     let rest = after_name(payload, start);
-    let rule = rule_of(&payload[name..rest]);
+    let rule = settle_known(rules, table, places, &payload[name..rest]);
     SettledProof {
         proof_id: ProofNumber(u32_at(payload, start)),
         proposition_index: PropositionIndex(u32_at(payload, start + 4)),
@@ -102,8 +99,8 @@ fn rises(parent: usize, number: usize, least: usize) -> bool
 // Whether the proof at `start` has the proposition and the authority of `proof`.
 fn agrees(payload: &[u8], start: usize, proof: SettledProof) -> bool
     requires { ⌜ afterName (now payload) start + 24 ≤ length (now payload) ⌝ }
-    ensures { λ r. ⌜ r ≡ (eqb (proofView fourRules (now (payload .entry)) start .proposition) (proofOut proof .proposition) && eqb
-        (proofView fourRules (now (payload .entry)) start .authority) (proofOut proof .authority)) ⌝ }
+    ensures { λ r. ⌜ r ≡ (eqb (le 4 (now (payload .entry)) (start + 4)) (proof .«proposition_index» .0) && eqb
+        (le 4 (now (payload .entry)) (afterName (now (payload .entry)) start)) (proof .«authority_context»)) ⌝ }
 {
     let own = proof.proposition_index.0;
     let proposition = u32_at(payload, start + 4);
@@ -127,9 +124,10 @@ fn parents_from(
     depths: &[u64],
     proof: SettledProof,
 ) -> Depth
-    requires { ⌜ ProofDue fourRules (now payload) (now starts) (layoutOut tables) (now depths) (proofOut proof) ⌝ }
-    ensures { λ r. ⌜ depthOut r ≡ of.parentsFrom (tables .«parents_at») (tablesIn (now (payload .entry)) (now (starts .entry)) tables)
-        (proofOut proof) (take (proof .«proof_id» .0) (now (depths .entry))) (proof .«parent_count») (proof .«parent_first») 0 0 ⌝ }
+    requires { ⌜ ProofDue (now payload) (now starts) (layoutOut tables) (now depths) (proofOut [] proof) ⌝ }
+    ensures { λ r. ⌜ ((rules : List derivation.Rule) (name : List ℕ)
+        → depthOut r ≡ of.parentsFrom (tables .«parents_at») (tablesIn rules (now (payload .entry)) (now (starts .entry)) tables)
+        (proofOut name proof) (take (proof .«proof_id» .0) (now (depths .entry))) (proof .«parent_count») (proof .«parent_first») 0 0) ⌝ }
 {
     let number = proof.proof_id.place();
     let mut cell = evr0_fields::number::wide(proof.parent_first);
@@ -156,12 +154,12 @@ fn parents_from(
 
 // One witness of a proof: its proposition is the proof's, else 28; its polarity is the settled rule's, else 29.
 fn suits(rule: Rule, own: PropositionIndex, found: PropositionIndex, polarity: u8) -> Checked
-    ensures { λ r. ⌜ checkedOut r ≡ suited (ruleOut rule) (own .0) (found .0) polarity ⌝ }
+    ensures { λ r. ⌜ ((name : List ℕ) → checkedOut r ≡ suited (ruleOut name rule) (own .0) (found .0) polarity) ⌝ }
 {
     if found.0 != own.0 {
         return evr0_fields::check::refused(28, 0);
     }
-    let fits = evr0_records::rule::polarity_fits(rule, polarity);
+    let fits = evr0_rules::rule::polarity_fits(rule, polarity);
     if !fits {
         return evr0_fields::check::refused(29, 0);
     }
@@ -172,8 +170,8 @@ fn suits(rule: Rule, own: PropositionIndex, found: PropositionIndex, polarity: u
 fn witnesses_from(payload: &[u8], tables: Layout, proof: SettledProof) -> Checked
     requires { ⌜ tables .«witnesses_at» + 84 * tables .counts .witnesses ≤ length (now payload) ⌝ }
     requires { ⌜ proof .«witness_first» .0 + proof .«witness_count» ≤ tables .counts .witnesses ⌝ }
-    ensures { λ r. ⌜ ((starts : List ℕ) → checkedOut r
-        ≡ of.witnessesFrom (tables .«parents_at») (tablesIn (now (payload .entry)) starts tables) (proofOut proof) (proof .«witness_count»)
+    ensures { λ r. ⌜ ((rules : List derivation.Rule) (name starts : List ℕ) → checkedOut r
+        ≡ of.witnessesFrom (tables .«parents_at») (tablesIn rules (now (payload .entry)) starts tables) (proofOut name proof) (proof .«witness_count»)
         (proof .«witness_first» .0)) ⌝ }
 {
     let mut witness = proof.witness_first.place();
@@ -204,9 +202,10 @@ fn depth_of(
     depths: &[u64],
     proof: SettledProof,
 ) -> Depth
-    requires { ⌜ ProofDue fourRules (now payload) (now starts) (layoutOut tables) (now depths) (proofOut proof) ⌝ }
-    ensures { λ r. ⌜ depthOut r ≡ of.depthOf (tables .«parents_at») (tablesIn (now (payload .entry)) (now (starts .entry)) tables) (proofOut proof)
-        (take (proof .«proof_id» .0) (now (depths .entry))) ⌝ }
+    requires { ⌜ ProofDue (now payload) (now starts) (layoutOut tables) (now depths) (proofOut [] proof) ⌝ }
+    ensures { λ r. ⌜ ((rules : List derivation.Rule) (name : List ℕ)
+        → depthOut r ≡ of.depthOf (tables .«parents_at») (tablesIn rules (now (payload .entry)) (now (starts .entry)) tables) (proofOut name proof)
+        (take (proof .«proof_id» .0) (now (depths .entry)))) ⌝ }
 {
     let parents = parents_from(payload, starts, tables, depths, proof);
     match parents {
@@ -225,15 +224,24 @@ fn depth_of(
 }
 
 // The depth of each proof, whose starts are given, at the front of the lent table.
-fn derive_all(payload: &[u8], starts: &[u64], tables: Layout, depths: &mut [u64]) -> Checked
-    requires { ⌜ TablesThere fourRules (now payload) (now starts) (layoutOut tables) ⌝ }
-    requires { ⌜ length (now starts) ≤ length (now depths) ⌝ }
+fn derive_all(
+    rules: Rules,
+    table: &[u8],
+    places: &[u64],
+    payload: &[u8],
+    starts: &[u64],
+    tables: Layout,
+    depths: &mut [u64],
+) -> Checked
+    requires { ⌜ TablesThere (now payload) (now starts) (layoutOut tables) × (length (now starts) ≤ length (now depths)) ⌝ }
+    requires { ⌜ RulesThere (now table) (now places) × RulesKnown (rulesIn rules (now table) (now places)) (now payload) (now starts) ⌝ }
     ensures { λ r. ⌜ filled r (take (length (now (starts .entry))) (now (depths .exit)))
-        ≡ of.depths (tables .«parents_at») (tablesIn (now (payload .entry)) (now (starts .entry)) tables) ⌝ }
+        ≡ of.depths (tables .«parents_at») (tablesIn (rulesIn rules (now (table .entry)) (now (places .entry))) (now (payload .entry))
+        (now (starts .entry)) tables) ⌝ }
 {
     let mut i: usize = 0;
     while i < starts.len() {
-        let proof = proof_at(payload, starts[i] as usize);
+        let proof = proof_at(rules, table, places, payload, starts[i] as usize);
         let found = depth_of(payload, starts, tables, depths, proof);
         match found {
             Depth::Refused(refusal) => {
@@ -249,13 +257,22 @@ fn derive_all(payload: &[u8], starts: &[u64], tables: Layout, depths: &mut [u64]
 }
 
 // The same, with zeros past the depths; a refusal leaves zeros.
-pub fn derive(payload: &[u8], starts: &[u64], tables: Layout, depths: &mut [u64]) -> Checked
-    requires { ⌜ TablesThere fourRules (now payload) (now starts) (layoutOut tables) ⌝ }
-    requires { ⌜ length (now starts) ≤ length (now depths) ⌝ }
-    ensures { λ r. ⌜ Derives (of.depths (tables .«parents_at») (tablesIn (now (payload .entry)) (now (starts .entry)) tables))
+pub fn derive(
+    rules: Rules,
+    table: &[u8],
+    places: &[u64],
+    payload: &[u8],
+    starts: &[u64],
+    tables: Layout,
+    depths: &mut [u64],
+) -> Checked
+    requires { ⌜ TablesThere (now payload) (now starts) (layoutOut tables) × (length (now starts) ≤ length (now depths)) ⌝ }
+    requires { ⌜ RulesThere (now table) (now places) × RulesKnown (rulesIn rules (now table) (now places)) (now payload) (now starts) ⌝ }
+    ensures { λ r. ⌜ Derives (of.depths (tables .«parents_at») (tablesIn (rulesIn rules (now (table .entry)) (now (places .entry)))
+        (now (payload .entry)) (now (starts .entry)) tables))
         (now (depths .entry)) (now (depths .exit)) (checkedOut r) ⌝ }
 {
-    let derived = derive_all(payload, starts, tables, depths);
+    let derived = derive_all(rules, table, places, payload, starts, tables, depths);
     match derived {
         Checked::Refused(refusal) => {
             lent_table::clear(depths);

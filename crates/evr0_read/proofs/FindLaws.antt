@@ -14,13 +14,15 @@ use Rattle.local_format.specs.Number.{numbered, Chosen, choose}
 use Rattle.local_format.proofs.OutLaws.{never, ok-same, refused-same, bind-ok}
 use Rattle.local_format.proofs.NumberLaws.{not-there, is-there, there-map}
 use Rattle.lent_table.specs.Lent.{lent}
-use Rattle.evr0_section.specs.Head.{Counts}
+use Rattle.derivation.specs.Rule.{Rule}
+use Rattle.evr0_section.specs.Head.{Counts, Room}
 use Rattle.evr0_section.specs.Rows.{Entry}
-use Rattle.evr0_section.specs.Section.{Section}
+use Rattle.evr0_section.specs.Section.{Section, sectionAt}
+use Rattle.rule_table.specs.ByTable.{Given, rulesGiven, decodeBy}
 use Rattle.evr0.specs.Answer as answer
-use Rattle.evr0.specs.Answer.{Lent, Filled, decodeIn, answerOf}
+use Rattle.evr0.specs.Answer.{Lent, Filled, roomOf, decodeGiven, answerOf}
 use Rattle.evr0_section.specs.Rows.{startsOf}
-use Rattle.evr0_read.specs.Asked.{telling, Answers}
+use Rattle.evr0_read.specs.Asked.{telling, AnswersBy}
 use Rattle.evr0_read.specs.Ask.{Place, placeBy, placeTold}
 use Rattle.evr0_read.specs.Listing.{payloadTo, payloadOf}
 use Rattle.evr0_read.specs.Maps.{Finds, among, sought, settled}
@@ -53,14 +55,14 @@ pub record Long (before mid : Lent) : Type 0 where
   pub proofs : length (mid .proofs) ≡ length (before .proofs)
   pub depths : length (mid .depths) ≡ length (before .depths)
 
-module _ {E : Type 0} (table : Section → List (Entry E)) (k : ℕ) (bytes : List ℕ) (cursor : ℕ) (before : Lent) where
+module _ {E : Type 0} (table : Section → List (Entry E)) (k : ℕ) (which : Given) (bytes : List ℕ) (cursor : ℕ) (before : Lent) where
   abbrev x : Out Section
-  x = decodeIn before bytes cursor
+  x = decodeGiven which before bytes cursor
 
   abbrev ask : Out Section → Out (Chosen Section (Entry E))
   ask = choose (λ s. numbered k (table s))
 
-  gone : {after : Lent} {r : Refusal} → x ≡ refused r → Filled x before after → Answers ask placeTold bytes cursor before after (refused r)
+  gone : {after : Lent} {r : Refusal} → x ≡ refused r → Filled x before after → AnswersBy which ask placeTold bytes cursor before after (refused r)
   gone e f = record { answer = rw e; tables = rw e (rw e at f) }
 
   chosen : (y : Out Section) {c : Chosen Section (Entry E)} → ask y ≡ ok c → y ≡ ok (c .decoded)
@@ -88,41 +90,51 @@ module _ {E : Type 0} (table : Section → List (Entry E)) (k : ℕ) (bytes : Li
 
     there : {found : Out Place} {mid after : Lent} → Filled x before mid → Long before mid
         → found ≡ among k count (placeBy (d .cursor) (d .tables .head .counts) start) → after ≡ settled found mid
-        → Answers ask placeTold bytes cursor before after found
+        → AnswersBy which ask placeTold bytes cursor before after found
     there {mid = mid} f l h g =
         let same = h ∙ placed (ltb k count) refl ∙ ap (λ (y : Out Section). placeTold (ask y)) (sym is) in
         record { answer = same; tables = settle f l (ask x) refl (g ∙ ap (λ (y : Out Place). settled y mid) same) }
 
--- ---- For each table
-module _ (bytes : List ℕ) (cursor : ℕ) (before : Lent) {after : Lent} where
-  pub finds-none : (w : Wanted) {r : Refusal} → decodeIn before bytes cursor ≡ refused r → Filled (decodeIn before bytes cursor) before after
-      → Finds w bytes cursor before after (refused r)
-  finds-none (wanted.Proposition n) = gone _ (n .0) bytes cursor before
-  finds-none (wanted.Proof n) = gone _ (n .0) bytes cursor before
-  finds-none (wanted.Witness n) = gone _ (n .0) bytes cursor before
-  finds-none (wanted.Parent n) = gone _ n bytes cursor before
+-- ---- A section by some of the call's rules
+pub by-given : (which : Given) (room : Room) (bytes : List ℕ) (cursor : ℕ) {d : Section} → decodeBy which room bytes cursor ≡ ok d
+    → (rules : List Rule) × (rulesGiven which ≡ ok rules) × (sectionAt rules room bytes cursor ≡ ok d)
+unfolding decodeBy
+by-given which room bytes cursor is = bind-ok (rulesGiven which) _ is
 
-  module _ {d : Section} (is : decodeIn before bytes cursor ≡ ok d) {mid : Lent} (filled : Filled (decodeIn before bytes cursor) before mid)
+-- ---- For each table
+module _ (which : Given) (bytes : List ℕ) (cursor : ℕ) (before : Lent) {after : Lent} where
+  pub finds-none : (w : Wanted) {r : Refusal} → decodeGiven which before bytes cursor ≡ refused r → Filled (decodeGiven which before bytes cursor) before after
+      → Finds which w bytes cursor before after (refused r)
+  finds-none (wanted.Proposition n) = gone _ (n .0) which bytes cursor before
+  finds-none (wanted.Proof n) = gone _ (n .0) which bytes cursor before
+  finds-none (wanted.Witness n) = gone _ (n .0) which bytes cursor before
+  finds-none (wanted.Parent n) = gone _ n which bytes cursor before
+
+  module _ {d : Section} (is : decodeGiven which before bytes cursor ≡ ok d) {mid : Lent} (filled : Filled (decodeGiven which before bytes cursor) before mid)
       (long : Long before mid) {found : Out Place} (settles : after ≡ settled found mid) where
     finds : (w : Wanted) → found ≡ sought w (length (payloadOf bytes cursor d)) (placeBy (d .cursor) (d .tables .head .counts)) (d .tables .head .counts)
-        (mid .propositions) (mid .proofs) → Finds w bytes cursor before after found
+        (mid .propositions) (mid .proofs) → Finds which w bytes cursor before after found
     finds (wanted.Proposition n) h =
-        there _ (n .0) bytes cursor before is (facts _ bytes cursor d is .propositions)
+        let (rules, given, read) = by-given which (roomOf before) bytes cursor is in
+        there _ (n .0) which bytes cursor before is (facts rules _ bytes cursor d read .propositions)
         (λ l e h. lent-start _ (n .0) (d .tables .propositions .entries) (rw is at (filled .propositions))
-        (omega (arith, facts _ bytes cursor d is .propositions)) h)
+        (omega (arith, facts rules _ bytes cursor d read .propositions)) h)
         filled long h settles
     finds (wanted.Proof n) h =
-        there _ (n .0) bytes cursor before is (facts _ bytes cursor d is .proofs)
-        (λ l e h. lent-start _ (n .0) (d .tables .proofs .entries) (rw is at (filled .proofs)) (omega (arith, facts _ bytes cursor d is .proofs)) h)
+        let (rules, given, read) = by-given which (roomOf before) bytes cursor is in
+        there _ (n .0) which bytes cursor before is (facts rules _ bytes cursor d read .proofs)
+        (λ l e h. lent-start _ (n .0) (d .tables .proofs .entries) (rw is at (filled .proofs)) (omega (arith, facts rules _ bytes cursor d read .proofs)) h)
         filled long h settles
     finds (wanted.Witness n) h =
-        there _ (n .0) bytes cursor before is (witness-count _ bytes cursor d is)
-        (λ l e h. witness-start _ bytes cursor d is (n .0) l h) filled long h settles
+        let (rules, given, read) = by-given which (roomOf before) bytes cursor is in
+        there _ (n .0) which bytes cursor before is (witness-count rules _ bytes cursor d read)
+        (λ l e h. witness-start rules _ bytes cursor d read (n .0) l h) filled long h settles
     finds (wanted.Parent n) h =
-        there _ n bytes cursor before is (parent-count _ bytes cursor d is)
-        (λ l e h. parent-start _ bytes cursor d is n l h) filled long h settles
+        let (rules, given, read) = by-given which (roomOf before) bytes cursor is in
+        there _ n which bytes cursor before is (parent-count rules _ bytes cursor d read)
+        (λ l e h. parent-start rules _ bytes cursor d read n l h) filled long h settles
 
     pub finds-by : (w : Wanted) {q : List ℕ} {end : ℕ} {counts : Counts} → q ≡ payloadTo bytes cursor end → end ≡ d .cursor
         → counts ≡ d .tables .head .counts → found ≡ sought w (length q) (placeBy end counts) counts (mid .propositions) (mid .proofs)
-        → Finds w bytes cursor before after found
+        → Finds which w bytes cursor before after found
     finds-by w e f g h = finds w (h ∙ rw (e, f, g))

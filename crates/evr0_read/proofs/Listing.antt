@@ -45,21 +45,23 @@ module _ (room : Room) (bytes : List ℕ) (cursor : ℕ) (d : Section) (decodes 
   counts = d .tables .head .counts
 
   size : length p ≡ d .cursor - (cursor + 8)
-  size = let f = facts room bytes cursor d decodes in simp (length-take, length-drop) (omega (arith, f .start, f .end))
+  unfolding decodeSection
+  size = let f = facts _ room bytes cursor d decodes in simp (length-take, length-drop) (omega (arith, f .start, f .end))
 
   pub all-listed : Listed room bytes cursor d
+  unfolding decodeSection
   all-listed =
-      let f = facts room bytes cursor d decodes in
+      let f = facts _ room bytes cursor d decodes in
       record {
         size = size;
-        proposition = λ k l. listed d (λ s. s .tables .propositions .entries) _ _ _ p k (f .propositions) (proposition-read room bytes cursor d decodes k)
+        proposition = λ k l. listed d (λ s. s .tables .propositions .entries) _ _ _ p k (f .propositions) (proposition-read _ room bytes cursor d decodes k)
             (λ e h. lent-start (room .propositions) k (d .tables .propositions .entries) refl (omega (arith, f .propositions)) h) l;
-        proof = λ k l. listed d (λ s. s .tables .proofs .entries) _ _ _ p k (f .proofs) (proof-read room bytes cursor d decodes k)
+        proof = λ k l. listed d (λ s. s .tables .proofs .entries) _ _ _ p k (f .proofs) (proof-read _ room bytes cursor d decodes k)
             (λ e h. lent-start (room .proofs) k (d .tables .proofs .entries) refl (omega (arith, f .proofs)) h) l;
-        witness = λ k l. listed d (λ s. s .tables .witnesses .entries) _ _ _ p k (witness-count room bytes cursor d decodes)
-            (witness-read room bytes cursor d decodes k)
-            (λ e h. ap (λ (n : ℕ). witnessPlace n (counts .witnesses) (counts .parents) k) (sym size) ∙ witness-start room bytes cursor d decodes k l h) l;
-        parent = λ k l. listed d (λ s. s .tables .parents .entries) _ _ _ p k (parent-count room bytes cursor d decodes)
-            (parent-read room bytes cursor d decodes k)
-            (λ e h. ap (λ (n : ℕ). parentPlace n (counts .parents) k) (sym size) ∙ parent-start room bytes cursor d decodes k l h) l;
+        witness = λ k l. listed d (λ s. s .tables .witnesses .entries) _ _ _ p k (witness-count _ room bytes cursor d decodes)
+            (witness-read _ room bytes cursor d decodes k)
+            (λ e h. ap (λ (n : ℕ). witnessPlace n (counts .witnesses) (counts .parents) k) (sym size) ∙ witness-start _ room bytes cursor d decodes k l h) l;
+        parent = λ k l. listed d (λ s. s .tables .parents .entries) _ _ _ p k (parent-count _ room bytes cursor d decodes)
+            (parent-read _ room bytes cursor d decodes k)
+            (λ e h. ap (λ (n : ℕ). parentPlace n (counts .parents) k) (sym size) ∙ parent-start _ room bytes cursor d decodes k l h) l;
       }

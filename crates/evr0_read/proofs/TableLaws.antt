@@ -8,13 +8,13 @@ use lib.ListN.{length}
 use Rattle.local_format.specs.Out.{Out, ok}
 use Rattle.local_format.specs.Number.{numbered}
 use Rattle.local_format.proofs.OutLaws.{bind-ok, checked-ok, ok-same}
-use Rattle.derivation.specs.Rule.{fourRules}
+use Rattle.derivation.specs.Rule.{Rule}
 use Rattle.evr0_section.specs.Rows.{Sized, Row, Entry}
 use Rattle.evr0_section.specs.Head.{Counts, Room}
 use Rattle.evr0_section.specs.Proposition.{Proposition, Before, keyOf, rises, propositionOf, propositionRow}
 use Rattle.evr0_section.specs.Proof.{Settled, proofOf, proofRow}
 use Rattle.evr0_section.specs.Witness.{WitnessRecord, witnessOf, witnessRow, parentRow}
-use Rattle.evr0_section.specs.Section.{Section, decodeSection}
+use Rattle.evr0_section.specs.Section.{Section, sectionAt}
 use Rattle.evr0_section.proofs.RowChecks.{proof-behind, witness-behind}
 use Rattle.evr0_section.proofs.RecordLaws.{witness-lies, parent-lies}
 use Rattle.evr0_section.proofs.RowsLaws.{Trace, trace, trace-length}
@@ -61,10 +61,9 @@ witness-size counts w s r e =
 parent-size : (u : Unit {0}) (s : List ℕ) (r : Row ℕ (Unit {0})) → parentRow u s ≡ ok r → r .size ≡ 4
 parent-size u s r e = parent-lies s 0 u r e .1
 
-module _ (room : Room) (bytes : List ℕ) (cursor : ℕ) (d : Section) (decodes : decodeSection room bytes cursor ≡ ok d) where
-  pub facts : Accepted fourRules room bytes cursor d
-  unfolding decodeSection
-  facts = accepted fourRules room bytes cursor decodes
+module _ (rules : List Rule) (room : Room) (bytes : List ℕ) (cursor : ℕ) (d : Section) (decodes : sectionAt rules room bytes cursor ≡ ok d) where
+  pub facts : Accepted rules room bytes cursor d
+  facts = accepted rules room bytes cursor decodes
 
   abbrev p : List ℕ
   p = payloadOf bytes cursor d
@@ -82,8 +81,8 @@ module _ (room : Room) (bytes : List ℕ) (cursor : ℕ) (d : Section) (decodes 
       → recordAt proofOf placedProof p (e .start) ≡ ok (shown shownSettled e)
   proof-read =
       record-read _ _ _ _
-      (λ u s r e. let b = proof-behind fourRules counts u s r e in (b .proof, b .read, λ start. ap (shownProof start) (sym (b .item)))) p
-      (trace (proofRow fourRules counts) p _ _ _ (d .tables .proofs) (facts .tables .proofs))
+      (λ u s r e. let b = proof-behind rules counts u s r e in (b .proof, b .read, λ start. ap (shownProof start) (sym (b .item)))) p
+      (trace (proofRow rules counts) p _ _ _ (d .tables .proofs) (facts .tables .proofs))
 
   witnesses : Trace (witnessRow 4 counts) p (counts .witnesses) 0 (d .tables .proofs .next) (d .tables .witnesses .entries)
       (d .tables .witnesses .state) (d .tables .witnesses .next)

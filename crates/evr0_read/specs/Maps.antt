@@ -17,8 +17,9 @@ use Rattle.evr0_fields.specs.Maps.{Beside, beside}
 use Rattle.evr0_section.specs.Section.{Section}
 use Rattle.evr0_head.specs.Maps.{countsOut}
 use Rattle.evr0_records.specs.Maps.{propositionRecord, proofRecord, witnessRecord}
+use Rattle.rule_table.specs.ByTable.{Given}
 use Rattle.evr0.specs.Answer.{Lent, lentOf}
-use Rattle.evr0_read.specs.Asked.{Answers}
+use Rattle.evr0_read.specs.Asked.{AnswersBy}
 use Rattle.evr0_read.specs.Ask.{propositionNumber, proofNumber, witnessNumber, parentNumber, entryTold, Place, placeTold}
 use Rattle.evr0_read.specs.Place.{witnessPlace, parentPlace}
 use Rattle.evr0_read.specs.declared.find.Wanted.{Wanted}
@@ -69,11 +70,11 @@ foundOut (found.At end counts start) = ok (record { end = end; counts = countsOu
 foundOut (found.Refused r) = refused (refusalOut r)
 
 -- the place of the record that is wanted
-abbrev pub Finds : Wanted → List ℕ → ℕ → Lent → Lent → Out Place → Type 0
-Finds (wanted.Proposition n) = Answers (propositionNumber (n .0)) placeTold
-Finds (wanted.Proof n) = Answers (proofNumber (n .0)) placeTold
-Finds (wanted.Witness n) = Answers (witnessNumber (n .0)) placeTold
-Finds (wanted.Parent n) = Answers (parentNumber n) placeTold
+abbrev pub Finds : Given → Wanted → List ℕ → ℕ → Lent → Lent → Out Place → Type 0
+Finds given (wanted.Proposition n) = AnswersBy given (propositionNumber (n .0)) placeTold
+Finds given (wanted.Proof n) = AnswersBy given (proofNumber (n .0)) placeTold
+Finds given (wanted.Witness n) = AnswersBy given (witnessNumber (n .0)) placeTold
+Finds given (wanted.Parent n) = AnswersBy given (parentNumber n) placeTold
 
 -- a place, for one of so many numbers
 abbrev pub among : ℕ → ℕ → Place → Out Place

@@ -1,7 +1,8 @@
-// The place of a record by its number, in the payload of a section that is decoded anew first.
+// The place of a record by its number, in the payload of a section that is decoded anew first by the rules of a call.
 ghost use mathlib.Core.Path.{_≡_};
 ghost use Rattle.evr0_head.specs.Maps.{countsOut};
 ghost use Rattle.evr0.specs.Answer.{lentOf};
+ghost use Rattle.evr0.specs.AnswerMaps.{givenOut};
 ghost use Rattle.evr0_read.specs.Ask.{placeBy};
 ghost use Rattle.evr0_read.specs.Maps.{foundOut, Finds, among, sought, settled};
 use crate::cell::parent_place;
@@ -9,12 +10,13 @@ use crate::cell::witness_place;
 use crate::table::payload_of;
 use crate::table::start_at;
 use evr0::section::Outcome;
-use evr0::section::decode_evr0_unmarked;
+use evr0::section::decode_evr0_by;
 use evr0_fields::number::ProofNumber;
 use evr0_fields::number::PropositionIndex;
 use evr0_fields::number::WitnessNumber;
 use evr0_fields::number::wide;
 use evr0_head::counts::Counts;
+use evr0_rules::settle::Rules;
 use lent_table::clear;
 use local_format::refusal::Refusal;
 
@@ -109,6 +111,8 @@ fn settle(found: Found, propositions: &mut [u64], proofs: &mut [u64], depths: &m
 }
 
 pub fn find(
+    rules: Rules,
+    table: &[u8],
     bytes: &[u8],
     cursor: usize,
     wanted: Wanted,
@@ -116,10 +120,11 @@ pub fn find(
     proofs: &mut [u64],
     depths: &mut [u64],
 ) -> Found
-    ensures { λ r. ⌜ Finds wanted (now (bytes .entry)) cursor (lentOf (now (propositions .entry)) (now (proofs .entry)) (now (depths .entry)))
+    ensures { λ r. ⌜ Finds (givenOut rules (now (table .entry))) wanted (now (bytes .entry)) cursor
+        (lentOf (now (propositions .entry)) (now (proofs .entry)) (now (depths .entry)))
         (lentOf (now (propositions .exit)) (now (proofs .exit)) (now (depths .exit))) (foundOut r) ⌝ }
 {
-    let decoded = decode_evr0_unmarked(bytes, cursor, propositions, proofs, depths);
+    let decoded = decode_evr0_by(rules, table, bytes, cursor, propositions, proofs, depths);
     let end = decoded.cursor;
     let outcome = decoded.outcome;
     match outcome {

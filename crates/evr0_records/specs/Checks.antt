@@ -1,15 +1,13 @@
--- The tests of a proof, each by itself; the numbers of a rule; and byte strings that are the same up to a place.
+-- The tests of a proof, each by itself, and byte strings that are the same up to a place.
 use Prim.Native.Nat.{ℕ, _+_, _≤_}
 use mathlib.Core.Path.{_≡_}
 use mathlib.Core.List.{List}
 use mathlib.Core.Bool.{Bool, _&&_}
 use lib.Dec.{ltb, leb, eqb}
 use lib.ListN.{length, drop}
-use Rattle.derivation.specs.Rule as rules
 use Rattle.evr0_section.specs.Head.{Counts}
 use Rattle.evr0_section.specs.Proposition.{compareBytes}
 use Rattle.evr0_section.specs.Proof.{ProofRecord, Unowned}
-use Rattle.evr0_records.specs.declared.rule.Shape.{Shape}
 
 -- 17
 abbrev pub isNext : Counts → Unowned → ProofRecord → Bool
@@ -23,12 +21,6 @@ isContiguous u r = eqb (r .firstWitness) (u .witness) && eqb (r .firstParent) (u
 abbrev pub endsWithin : Counts → ProofRecord → Bool
 endsWithin counts r =
     leb (r .firstWitness + r .witnessCount) (counts .witnesses) && leb (r .firstParent + r .parentCount) (counts .parents)
-
--- the numbers of a rule
-pub record HasShape (rule : rules.Rule) (s : Shape) : Type 0 where
-  pub witnesses : s .witnesses ≡ rule .witnesses
-  pub parents : s .parents ≡ rule .parents
-  pub operation : s .operation ≡ rule .operation
 
 -- the order of two byte strings is that of what follows a place
 pub record SameUpTo (a b : List ℕ) (i : ℕ) : Type 0 where

@@ -9,6 +9,7 @@ use Rattle.evr0_section.specs.Proposition as props
 use Rattle.evr0_section.specs.Proof as proofs
 use Rattle.evr0_section.specs.Witness.{WitnessRecord}
 use Rattle.evr0_fields.specs.Maps.{spanOut, Beside, beside}
+use Rattle.evr0_rules.specs.Maps.{ruleOut}
 use Rattle.evr0_records.specs.declared.order.Order.{Order}
 use Rattle.evr0_records.specs.declared.order.Order.the-variants as order
 use Rattle.evr0_records.specs.declared.proof.Proof.{Proof}
@@ -20,10 +21,6 @@ use Rattle.evr0_records.specs.declared.proof.Unowned.{Unowned}
 use Rattle.evr0_records.specs.declared.proposition.Proposition.{Proposition}
 use Rattle.evr0_records.specs.declared.proposition.PropositionRead.{PropositionRead}
 use Rattle.evr0_records.specs.declared.proposition.PropositionRead.the-variants as proposition
-use Rattle.evr0_records.specs.declared.rule.Rule.{Rule}
-use Rattle.evr0_records.specs.declared.rule.Rule.the-variants as rule
-use Rattle.evr0_records.specs.declared.rule.Named.{Named}
-use Rattle.evr0_records.specs.declared.rule.Named.the-variants as named
 use Rattle.evr0_records.specs.declared.witness.Witness.{Witness}
 use Rattle.evr0_records.specs.declared.witness.WitnessAnswer.{WitnessAnswer}
 use Rattle.evr0_records.specs.declared.witness.WitnessAnswer.the-variants as witness
@@ -45,18 +42,6 @@ propositionRecord p =
 abbrev pub propositionOut : PropositionRead → Out (Sized props.Proposition)
 propositionOut (proposition.Read p n) = ok (record { item = propositionRecord p; size = n })
 propositionOut (proposition.Refused r) = refused (refusalOut r)
-
--- ---- Rules
-
-abbrev pub ruleOut : Rule → rules.Rule
-ruleOut rule.PosWitness = rules.posWitness1
-ruleOut rule.NegWitness = rules.negWitness1
-ruleOut rule.JoinSameP = rules.joinSameP1
-ruleOut rule.OpTOnly = rules.opTOnly1
-
-abbrev pub namedOut : Named → rules.Named
-namedOut (named.Known r) = rules.known (ruleOut r)
-namedOut named.Unknown = rules.unknown
 
 -- ---- Proofs
 
@@ -81,9 +66,10 @@ proofOut (proof.Refused r) = refused (refusalOut r)
 abbrev pub unownedOut : Unowned → proofs.Unowned
 unownedOut u = record { proof = u .proof; witness = u .witness; parent = u .parent }
 
-abbrev pub settledOut : Settled → Out rules.Rule
-settledOut (settled.By r) = ok (ruleOut r)
-settledOut (settled.Refused r) = refused (refusalOut r)
+-- the rule has the name that found it
+abbrev pub settledOut : List ℕ → Settled → Out rules.Rule
+settledOut name (settled.By r) = ok (ruleOut name r)
+settledOut name (settled.Refused r) = refused (refusalOut r)
 
 -- ---- Witnesses and parents
 

@@ -3,5 +3,4 @@ pub mod order;
 pub mod parent;
 pub mod proof;
 pub mod proposition;
-pub mod rule;
 pub mod witness;

@@ -1,18 +1,17 @@
 // Proof records and their checks.
 ghost use mathlib.Core.Path.{_≡_};
-ghost use Prim.Native.Nat.{_+_, _≤_};
+ghost use Prim.Native.Nat.{ℕ, _+_, _≤_};
+ghost use mathlib.Core.List.{List};
 ghost use lib.ListN.{length, getD};
 ghost use Rattle.local_format.specs.Out.{refuse};
 ghost use Rattle.local_format.specs.Text.{textAt};
 ghost use Rattle.local_format.specs.Maps.{textOut};
-ghost use Rattle.derivation.specs.Rule.{fourRules};
 ghost use Rattle.evr0_section.specs.Proof.{zerosAt, restOf, proofOf, hasNumbers, checkProof};
 ghost use Rattle.evr0_fields.specs.Maps.{placeOut, spanOut};
 ghost use Rattle.evr0_head.specs.Maps.{countsOut};
 ghost use Rattle.evr0_records.specs.Checks.{isNext, isContiguous, endsWithin};
-ghost use Rattle.evr0_records.specs.Maps.{unownedOut, ruleOut, proofRecord, proofOut, settledOut};
-use crate::rule::Named;
-use crate::rule::Rule;
+ghost use Rattle.evr0_records.specs.Maps.{unownedOut, proofRecord, proofOut, settledOut};
+ghost use Rattle.evr0_rules.specs.Maps.{ruleOut, rulesIn, RulesThere};
 use evr0_fields::check::both;
 use evr0_fields::number::ProofNumber;
 use evr0_fields::number::PropositionIndex;
@@ -21,6 +20,10 @@ use evr0_fields::number::wide;
 use evr0_fields::place::Place;
 use evr0_fields::span::Span;
 use evr0_head::counts::Counts;
+use evr0_rules::find::Named;
+use evr0_rules::rule::Rule;
+use evr0_rules::settle::Rules;
+use evr0_rules::settle::settle;
 use local_format::field::U8;
 use local_format::field::U16;
 use local_format::field::U32;
@@ -206,7 +209,7 @@ fn read_rule(tail: &[u8], at: usize) -> Text
         return local_format::text::read_text(tail, at);
     }
     let next = start + len;
-    let named = crate::rule::rule_named(&tail[start..next]);
+    let named = evr0_rules::four::rule_named(&tail[start..next]);
     match named {
         Named::Known(_) => Text::Whole {
             start,
@@ -263,21 +266,20 @@ pub fn read_proof(tail: &[u8]) -> ProofRead
 }
 
 fn unsettled(number: u8) -> Settled
-    ensures { λ r. ⌜ settledOut r ≡ refuse number 0 ⌝ }
+    ensures { λ r. ⌜ ((name : List ℕ) → settledOut name r ≡ refuse number 0) ⌝ }
 {
     Settled::Refused(local_format::refusal::refuse(number, 0))
 }
 
 // Whether a proof's witness count, parent count and operation are the rule's.
 fn has_numbers(rule: Rule, proof: Proof) -> bool
-    ensures { λ r. ⌜ r ≡ hasNumbers (ruleOut rule) (proofRecord proof) ⌝ }
+    ensures { λ r. ⌜ ((name : List ℕ) → r ≡ hasNumbers (ruleOut name rule) (proofRecord proof)) ⌝ }
 {
-    let shape = crate::rule::shape_of(rule);
     both(
-        proof.witness_count == shape.witnesses,
+        proof.witness_count == rule.witnesses as u32,
         both(
-            proof.parent_count == shape.parents,
-            proof.authorized_operation == shape.operation,
+            proof.parent_count == rule.parents as u32,
+            proof.authorized_operation == rule.operation,
         ),
     )
 }
@@ -311,9 +313,19 @@ fn ends_within(counts: Counts, proof: Proof) -> bool
     both(witnesses <= counts.witnesses, parents <= counts.parents)
 }
 
-// The rule of a proof that is the next one; `name` is what its rule text holds.
-pub fn check_proof(counts: Counts, unowned: Unowned, name: &[u8], proof: Proof) -> Settled
-    ensures { λ r. ⌜ settledOut r ≡ checkProof fourRules (countsOut counts) (unownedOut unowned) (now (name .entry)) (proofRecord proof) ⌝ }
+// The rule of a proof that is the next one, by the rules of a call; `name` is what its rule text holds.
+pub fn check_proof(
+    rules: Rules,
+    table: &[u8],
+    places: &[u64],
+    counts: Counts,
+    unowned: Unowned,
+    name: &[u8],
+    proof: Proof,
+) -> Settled
+    requires { ⌜ RulesThere (now table) (now places) ⌝ }
+    ensures { λ r. ⌜ settledOut (now (name .entry)) r ≡ checkProof (rulesIn rules (now (table .entry)) (now (places .entry))) (countsOut counts)
+        (unownedOut unowned) (now (name .entry)) (proofRecord proof) ⌝ }
 {
     if !is_next(counts, unowned, proof) {
         return unsettled(17);
@@ -324,7 +336,7 @@ pub fn check_proof(counts: Counts, unowned: Unowned, name: &[u8], proof: Proof) 
     if !ends_within(counts, proof) {
         return unsettled(19);
     }
-    let named = crate::rule::rule_named(name);
+    let named = settle(rules, table, places, name);
     let Named::Known(rule) = named else {
         return unsettled(20);
     };

@@ -12,14 +12,13 @@ use Rattle.local_format.specs.Text.{sectionField}
 use Rattle.local_format.proofs.OutLaws.{never, ok-same, bind-ok}
 use Rattle.local_format.proofs.FieldLaws.{field-ok, is-whole, le-drop}
 use Rattle.local_format.proofs.NumberLaws.{is-there, there-map}
-use Rattle.derivation.specs.Rule.{Rule, fourRules}
+use Rattle.derivation.specs.Rule.{Rule}
 use Rattle.derivation.specs.Section as derivation
 use Rattle.derivation.specs.Section.{Proof, Checked, noProof, proofAt, parentAt, proofTotal, parentTotal}
 use Rattle.derivation.specs.Walk.{stay}
 use Rattle.derivation.proofs.Along.{first-owned}
 use Rattle.derivation.proofs.Demand.{walks-lead}
 use Rattle.derivation.proofs.Owners.{sum-mono}
-use Rattle.derivation.proofs.Rules.{four-shaped}
 use Rattle.evr0_section.specs.Rows.{Sized, Row}
 use Rattle.evr0_section.specs.Proof.{ProofRecord, Settled, proofRow}
 use Rattle.evr0_section.specs.Witness.{parentRow}
@@ -46,11 +45,11 @@ module _ (p starts : List ℕ) (d : Section) (held : Held p starts d) where
   abbrev pub s : derivation.Section
   s = sectionOf (d .tables)
 
-  read : Steps fourRules (held .room) p (d .tables)
-  read = steps fourRules (held .room) p (d .tables) (held .tables)
+  read : Steps (held .rules) (held .room) p (d .tables)
+  read = steps (held .rules) (held .room) p (d .tables) (held .tables)
 
   checked : Checked s
-  checked = tables-checked fourRules (held .room) p (d .tables) (held .tables) four-shaped
+  checked = tables-checked (held .rules) (held .room) p (d .tables) (held .tables) (held .shaped)
 
   pub total : proofTotal s ≡ length starts
   unfolding sectionOf proofTotal
@@ -62,10 +61,10 @@ module _ (p starts : List ℕ) (d : Section) (held : Held p starts d) where
   unfolding proofIn proofAt sectionOf
   held-proof k h =
       let es = d .tables .proofs .entries in
-      let row = proofRow fourRules (d .tables .head .counts) in
+      let row = proofRow (held .rules) (d .tables .head .counts) in
       let (e, n) = is-there k es (omega (arith, ap length (held .at), length-map es (λ e. e .start))) in
       let f = trace-found row p (trace row p _ _ _ (d .tables .proofs) (read .proofs)) k n in
-      let b = proof-behind fourRules (d .tables .head .counts) (f .state) (drop (e .start) p) (f .read) (f .reads) in
+      let b = proof-behind (held .rules) (d .tables .head .counts) (f .state) (drop (e .start) p) (f .read) (f .reads) in
       let same : b .proof .item ≡ e .item .proof = sym (b .item) ∙ ap (λ (x : Settled). x .proof) (f .item) in
       let start : getD starts k 0 ≡ e .start = ap (λ (x : List ℕ). getD x k 0) (held .at) ∙ there-map (λ e. e .start) 0 es k n in (
         b .proof,

@@ -5,7 +5,8 @@ ghost use lib.ListN.{length};
 ghost use Rattle.derivation.specs.Down.{wayDown};
 ghost use Rattle.evr0_section.specs.Section.{Section, sectionOf};
 ghost use Rattle.evr0.specs.Answer.{lentOf};
-ghost use Rattle.evr0_read.specs.Asked.{Answers};
+ghost use Rattle.evr0.specs.AnswerMaps.{givenOut};
+ghost use Rattle.evr0_read.specs.Asked.{Answers, AnswersBy};
 ghost use Rattle.evr0_read.specs.Ask.{proofNumber};
 ghost use Rattle.evr0_rulings.specs.Held.{Held};
 ghost use Rattle.evr0_rulings.specs.Told.{wayDownTold};
@@ -20,6 +21,7 @@ use evr0_read::table::front;
 use evr0_read::table::payload_of;
 use evr0_records::proof::Proof;
 use evr0_records::proof::ProofRead;
+use evr0_rules::settle::Rules;
 use local_format::field::U32;
 use local_format::refusal::Refusal;
 
@@ -69,7 +71,48 @@ pub enum WayDown {
     Refused(Refusal),
 }
 
-// The way down from a proof of the section at a cursor, which is decoded anew.
+// The way down from a proof of the section at a cursor, which is decoded anew by the rules of a call.
+pub fn way_down_given(
+    rules: Rules,
+    table: &[u8],
+    bytes: &[u8],
+    cursor: usize,
+    from: ProofNumber,
+    limit: u64,
+    propositions: &mut [u64],
+    proofs: &mut [u64],
+    depths: &mut [u64],
+) -> WayDown
+    ensures { λ r. ⌜ AnswersBy (givenOut rules (now (table .entry))) (proofNumber (from .0)) (wayDownTold limit (from .0)) (now (bytes .entry)) cursor
+        (lentOf (now (propositions .entry)) (now (proofs .entry)) (now (depths .entry)))
+        (lentOf (now (propositions .exit)) (now (proofs .exit)) (now (depths .exit))) (wayDownOut r) ⌝ }
+{
+    let wanted = Wanted::Proof(from);
+    let found = find(
+        rules,
+        table,
+        bytes,
+        cursor,
+        wanted,
+        propositions,
+        proofs,
+        depths,
+    );
+    match found {
+        Found::At {
+            end,
+            counts,
+            start: _,
+        } => {
+            let payload = payload_of(bytes, cursor, end);
+            let cells = evr0_read::cell::before_parents(payload.len(), counts.parents);
+            WayDown::Answer(down_from(payload, front(proofs, counts.proofs), cells, from, limit))
+        }
+        Found::Refused(refusal) => WayDown::Refused(refusal),
+    }
+}
+
+// The way down from a proof of the section at a cursor, which is decoded anew by the four.
 pub fn way_down(
     bytes: &[u8],
     cursor: usize,
@@ -83,18 +126,15 @@ pub fn way_down(
         (lentOf (now (propositions .entry)) (now (proofs .entry)) (now (depths .entry)))
         (lentOf (now (propositions .exit)) (now (proofs .exit)) (now (depths .exit))) (wayDownOut r) ⌝ }
 {
-    let wanted = Wanted::Proof(from);
-    let found = find(bytes, cursor, wanted, propositions, proofs, depths);
-    match found {
-        Found::At {
-            end,
-            counts,
-            start: _,
-        } => {
-            let payload = payload_of(bytes, cursor, end);
-            let cells = evr0_read::cell::before_parents(payload.len(), counts.parents);
-            WayDown::Answer(down_from(payload, front(proofs, counts.proofs), cells, from, limit))
-        }
-        Found::Refused(refusal) => WayDown::Refused(refusal),
-    }
+    way_down_given(
+        Rules::Four,
+        &bytes[..0],
+        bytes,
+        cursor,
+        from,
+        limit,
+        propositions,
+        proofs,
+        depths,
+    )
 }

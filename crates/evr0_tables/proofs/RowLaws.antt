@@ -5,17 +5,18 @@ use mathlib.Core.List.{List}
 use native.Mathlib.Numerals.{add-one}
 use Rattle.local_format.specs.Refusal.{Refusal}
 use Rattle.local_format.specs.Out.{Out, ok, refused}
+use Rattle.local_format.specs.Text.{bytesAt}
 use Rattle.local_format.proofs.OutLaws.{bind-ok, ok-same, never}
 use Rattle.derivation.specs.Rule.{Rule}
 use Rattle.evr0_section.specs.Head.{Counts}
-use Rattle.evr0_section.specs.Rows.{Row}
+use Rattle.evr0_section.specs.Rows.{Sized, Row}
 use Rattle.evr0_section.specs.Witness.{witnessRow}
-use Rattle.evr0_section.specs.Proof.{ProofRecord, Unowned, checkProof}
+use Rattle.evr0_section.specs.Proof.{ProofRecord, Unowned, proofOf, checkProof, proofRow}
 use Rattle.evr0_section.proofs.RowChecks.{proof-checked, witness-known}
 use Rattle.evr0_fields.specs.Maps.{Beside, beside}
 use Rattle.evr0_tables.specs.Maps.{afterRecord, Kept, keptIn, sizeIn}
 
-pub after-checked : (rules : List Rule) (counts : Counts) (u : Unowned) (name : List ℕ) (r : ProofRecord) (rule : Rule) (size : ℕ)
+after-checked : (rules : List Rule) (counts : Counts) (u : Unowned) (name : List ℕ) (r : ProofRecord) (rule : Rule) (size : ℕ)
     → checkProof rules counts u name r ≡ ok rule
     → _≡_ {A = Out (Kept Unowned)}
     (ok (record { size = size; state = afterRecord r }))
@@ -23,6 +24,23 @@ pub after-checked : (rules : List Rule) (counts : Counts) (u : Unowned) (name : 
 after-checked rules counts u name r rule size e =
     let g = proof-checked rules counts u name r rule 0 e in
     rw (add-one, g .number, g .firstWitness, g .firstParent)
+
+-- ---- A proof's row, by what its record and its checks are
+module _ (rules : List Rule) (counts : Counts) (u : Unowned) (s : List ℕ) where
+  pub row-refused : {q : Refusal} → proofOf s ≡ refused q → refused q ≡ keptIn (proofRow rules counts u s)
+  unfolding proofRow
+  row-refused e = rw e
+
+  module _ {x : Sized ProofRecord} (e : proofOf s ≡ ok x) where
+    pub row-unsettled : {q : Refusal} → checkProof rules counts u (bytesAt s (x .item .rule .start) (x .item .rule .len)) (x .item) ≡ refused q
+        → refused q ≡ keptIn (proofRow rules counts u s)
+    unfolding proofRow
+    row-unsettled c = rw (e, c)
+
+    pub row-settled : {rule : Rule} → checkProof rules counts u (bytesAt s (x .item .rule .start) (x .item .rule .len)) (x .item) ≡ ok rule
+        → ok (record { size = x .size; state = afterRecord (x .item) }) ≡ keptIn (proofRow rules counts u s)
+    unfolding proofRow
+    row-settled {rule} c = rw (e, c) (after-checked rules counts u _ (x .item) rule (x .size) c)
 
 -- ---- A record by what is kept of it
 module _ {A S : Type 0} where

@@ -4,15 +4,16 @@ ghost use Prim.Native.Nat.{_≤_};
 ghost use lib.ListN.{length};
 ghost use mathlib.Core.Bool.{_&&_};
 ghost use lib.Dec.{eqb};
-ghost use Rattle.derivation.specs.Rule.{fourRules};
 ghost use Rattle.evr0_section.specs.Section.{restAfter, tablesAfter};
 ghost use Rattle.evr0_head.specs.Maps.{countsOut};
+ghost use Rattle.evr0_rules.specs.Maps.{rulesIn, RulesThere};
 ghost use Rattle.evr0_tables.specs.Maps.{tableOut};
 ghost use Rattle.evr0_tables.specs.PayloadMaps.{parentsIn, placesOut, Begins, Reads};
 use crate::tables::ProofTable;
 use crate::tables::Table;
 use evr0_head::counts::Counts;
 use evr0_records::proof::Unowned;
+use evr0_rules::settle::Rules;
 use local_format::refusal::Refusal;
 
 // The places of the witnesses and of the parents.
@@ -55,6 +56,9 @@ fn read_rest(payload: &[u8], counts: Counts, at: usize) -> Table
 
 // The four tables from `at` on, with the starts of the propositions and of the proofs at the front of the lent tables.
 fn read_four(
+    rules: Rules,
+    table: &[u8],
+    places: &[u64],
     payload: &[u8],
     counts: Counts,
     at: usize,
@@ -62,15 +66,23 @@ fn read_four(
     proofs: &mut [u64],
 ) -> Places
     requires { ⌜ (counts .propositions ≤ length (now propositions)) × (counts .proofs ≤ length (now proofs)) ⌝ }
-    requires { ⌜ (counts .parents ≤ 262144) × (at ≤ length (now payload)) ⌝ }
-    ensures { λ r. ⌜ Begins (tablesAfter fourRules (countsOut counts) (now (payload .entry)) at)
+    requires { ⌜ (counts .parents ≤ 262144) × (at ≤ length (now payload)) × RulesThere (now table) (now places) ⌝ }
+    ensures { λ r. ⌜ Begins (tablesAfter (rulesIn rules (now (table .entry)) (now (places .entry))) (countsOut counts) (now (payload .entry)) at)
         (now (propositions .exit)) (now (proofs .exit)) (placesOut r) ⌝ }
 {
     let first = crate::tables::read_propositions(payload, counts.propositions, at, propositions);
     match first {
         Table::Refused(refusal) => Places::Refused(refusal),
         Table::Read { next: proofs_at } => {
-            let second = crate::tables::read_proofs(payload, counts, proofs_at, proofs);
+            let second = crate::tables::read_proofs(
+                rules,
+                table,
+                places,
+                payload,
+                counts,
+                proofs_at,
+                proofs,
+            );
             match second {
                 ProofTable::Refused(refusal) => Places::Refused(refusal),
                 ProofTable::Read {
@@ -96,6 +108,9 @@ fn read_four(
 
 // The same, with zeros past the starts; a refusal leaves zeros in both lent tables.
 pub fn read_tables(
+    rules: Rules,
+    table: &[u8],
+    places: &[u64],
     payload: &[u8],
     counts: Counts,
     at: usize,
@@ -103,12 +118,21 @@ pub fn read_tables(
     proofs: &mut [u64],
 ) -> Places
     requires { ⌜ (counts .propositions ≤ length (now propositions)) × (counts .proofs ≤ length (now proofs)) ⌝ }
-    requires { ⌜ (counts .parents ≤ 262144) × (at ≤ length (now payload)) ⌝ }
-    ensures { λ r. ⌜ Reads (tablesAfter fourRules (countsOut counts) (now (payload .entry)) at)
+    requires { ⌜ (counts .parents ≤ 262144) × (at ≤ length (now payload)) × RulesThere (now table) (now places) ⌝ }
+    ensures { λ r. ⌜ Reads (tablesAfter (rulesIn rules (now (table .entry)) (now (places .entry))) (countsOut counts) (now (payload .entry)) at)
         (now (propositions .entry)) (now (proofs .entry)) (now (propositions .exit)) (now (proofs .exit)) (placesOut r) ⌝ }
 {
-    let places = read_four(payload, counts, at, propositions, proofs);
-    match places {
+    let read = read_four(
+        rules,
+        table,
+        places,
+        payload,
+        counts,
+        at,
+        propositions,
+        proofs,
+    );
+    match read {
         Places::Refused(refusal) => {
             lent_table::clear(propositions);
             lent_table::clear(proofs);

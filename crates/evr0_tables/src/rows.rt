@@ -1,11 +1,11 @@
 // The next record of a table, with its checks.
 ghost use mathlib.Core.Path.{_≡_};
 ghost use lib.ListN.{drop};
-ghost use Rattle.derivation.specs.Rule.{fourRules};
 ghost use Rattle.evr0_section.specs.Proposition.{propositionRow, rises, keyOf};
 ghost use Rattle.evr0_section.specs.Proof.{proofRow};
 ghost use Rattle.evr0_section.specs.Witness.{witnessRow};
 ghost use Rattle.evr0_head.specs.Maps.{countsOut};
+ghost use Rattle.evr0_rules.specs.Maps.{rulesIn, RulesThere};
 ghost use Rattle.evr0_records.specs.Maps.{unownedOut, propositionRecord, proofRecord};
 ghost use Rattle.evr0_tables.specs.Maps.{beforeOut, propositionRowOut, afterRecord, keptIn, proofRowOut, sizeIn, sizeOut};
 use evr0_fields::check::Checked;
@@ -17,6 +17,7 @@ use evr0_records::proof::Unowned;
 use evr0_records::proposition::Proposition;
 use evr0_records::proposition::PropositionRead;
 use evr0_records::witness::WitnessAnswer;
+use evr0_rules::settle::Rules;
 use local_format::refusal::Refusal;
 
 // The proposition before, if there is one, and where it starts.
@@ -80,8 +81,18 @@ fn after_proof(proof: Proof) -> Unowned
 }
 
 // The proof at `at`, which is to be the next one.
-pub fn next_proof(payload: &[u8], at: usize, counts: Counts, unowned: Unowned) -> ProofRow
-    ensures { λ r. ⌜ proofRowOut r ≡ keptIn (proofRow fourRules (countsOut counts) (unownedOut unowned) (drop at (now (payload .entry)))) ⌝ }
+pub fn next_proof(
+    rules: Rules,
+    table: &[u8],
+    places: &[u64],
+    payload: &[u8],
+    at: usize,
+    counts: Counts,
+    unowned: Unowned,
+) -> ProofRow
+    requires { ⌜ RulesThere (now table) (now places) ⌝ }
+    ensures { λ r. ⌜ proofRowOut r ≡ keptIn (proofRow (rulesIn rules (now (table .entry)) (now (places .entry))) (countsOut counts)
+        (unownedOut unowned) (drop at (now (payload .entry)))) ⌝ }
 {
     let tail = local_format::part::tail(payload, at);
     let read = evr0_records::proof::read_proof(tail);
@@ -89,7 +100,15 @@ pub fn next_proof(payload: &[u8], at: usize, counts: Counts, unowned: Unowned) -
         ProofRead::Refused(r) => ProofRow::Refused(r),
         ProofRead::Read { proof, size } => {
             let name = evr0_fields::span::bytes_of(tail, proof.rule_id);
-            let settled = evr0_records::proof::check_proof(counts, unowned, name, proof);
+            let settled = evr0_records::proof::check_proof(
+                rules,
+                table,
+                places,
+                counts,
+                unowned,
+                name,
+                proof,
+            );
             match settled {
                 Settled::Refused(r) => ProofRow::Refused(r),
                 Settled::By(_) => ProofRow::Read {

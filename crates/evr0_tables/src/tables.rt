@@ -3,12 +3,12 @@ ghost use mathlib.Core.Path.{_≡_};
 ghost use Prim.Native.Nat.{_≤_};
 ghost use lib.ListN.{length};
 ghost use Rattle.lent_table.specs.Lent.{Front};
-ghost use Rattle.derivation.specs.Rule.{fourRules};
 ghost use Rattle.evr0_section.specs.Rows.{rows};
 ghost use Rattle.evr0_section.specs.Proposition.{first, propositionRow};
 ghost use Rattle.evr0_section.specs.Proof.{noneOwned, proofRow};
 ghost use Rattle.evr0_section.specs.Witness.{witnessRow, parentRow};
 ghost use Rattle.evr0_head.specs.Maps.{countsOut};
+ghost use Rattle.evr0_rules.specs.Maps.{rulesIn, RulesThere};
 ghost use Rattle.evr0_tables.specs.Maps.{nextIn, startsIn, tableOut, ownedIn, proofTableOut};
 use crate::rows::Before;
 use crate::rows::ProofRow;
@@ -16,6 +16,7 @@ use crate::rows::Size;
 use evr0_head::counts::Counts;
 use evr0_records::proof::Unowned;
 use evr0_records::proposition::PropositionRead;
+use evr0_rules::settle::Rules;
 use local_format::refusal::Refusal;
 
 // The place after a table.
@@ -58,10 +59,20 @@ pub enum ProofTable {
     Refused(Refusal),
 }
 
-pub fn read_proofs(payload: &[u8], counts: Counts, at: usize, starts: &mut [u64]) -> ProofTable
-    requires { ⌜ (counts .proofs ≤ length (now starts)) × (at ≤ length (now payload)) ⌝ }
-    ensures { λ r. ⌜ proofTableOut r ≡ ownedIn (rows (proofRow fourRules (countsOut counts)) (counts .proofs) noneOwned (now (payload .entry)) at) ⌝ }
-    ensures { λ r. ⌜ Front (startsIn (rows (proofRow fourRules (countsOut counts)) (counts .proofs) noneOwned (now (payload .entry)) at))
+pub fn read_proofs(
+    rules: Rules,
+    table: &[u8],
+    places: &[u64],
+    payload: &[u8],
+    counts: Counts,
+    at: usize,
+    starts: &mut [u64],
+) -> ProofTable
+    requires { ⌜ (counts .proofs ≤ length (now starts)) × (at ≤ length (now payload)) × RulesThere (now table) (now places) ⌝ }
+    ensures { λ r. ⌜ proofTableOut r ≡ ownedIn (rows (proofRow (rulesIn rules (now (table .entry)) (now (places .entry))) (countsOut counts))
+        (counts .proofs) noneOwned (now (payload .entry)) at) ⌝ }
+    ensures { λ r. ⌜ Front (startsIn (rows (proofRow (rulesIn rules (now (table .entry)) (now (places .entry))) (countsOut counts)) (counts .proofs)
+        noneOwned (now (payload .entry)) at))
         (now (starts .exit)) ⌝ }
 {
     let count = counts.proofs;
@@ -73,7 +84,7 @@ pub fn read_proofs(payload: &[u8], counts: Counts, at: usize, starts: &mut [u64]
     let mut place = at;
     let mut i: usize = 0;
     while i < count {
-        let row = crate::rows::next_proof(payload, place, counts, unowned);
+        let row = crate::rows::next_proof(rules, table, places, payload, place, counts, unowned);
         match row {
             ProofRow::Read {
                 size,

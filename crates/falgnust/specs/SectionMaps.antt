@@ -7,9 +7,11 @@ use Rattle.local_format.specs.Out.{Out, ok, refused}
 use Rattle.derivation.specs.Rule.{fourRules}
 use Rattle.evr0_section.specs.Demand.{Demand3}
 use Rattle.evr0_section.specs.Marks.{MarksByRules}
-use Rattle.evr0.specs.Answer.{Accepted, Answer, answerOf, Lent, Filled, decodeIn, roomOf}
+use Rattle.rule_table.specs.ByTable.{table, HoldsBy}
+use Rattle.evr0.specs.Answer.{Accepted, Answer, answerOf, Lent, Filled, decodeIn, decodeGiven, roomOf}
 use Rattle.evr0_marks.specs.Answer as marked
 use Rattle.falgnust.specs.Maps.{flatRefusal, noRefusal}
+use Rattle.falgnust.specs.declared.rules.Rules.{Rules}
 use Rattle.falgnust.specs.declared.section.Section.{Section}
 
 -- with the digests and the cursor that stand beside the outcome
@@ -64,3 +66,19 @@ pub record DecodesUnmarked (bytes : List ℕ) (cursor : ℕ) (before after : Len
   pub answer : r ≡ flatSection (answerOf cursor (decodeIn before bytes cursor))
   pub tables : Filled (decodeIn before bytes cursor) before after
   pub demand3 : Demand3 (roomOf before) bytes cursor
+
+-- ---- By a table of rules
+
+abbrev pub flatRules : Out ℕ → Rules
+flatRules (ok n) = record { accepted = true; refusal = noRefusal; count = n }
+flatRules (refused r) = record { accepted = false; refusal = flatRefusal r; count = 0 }
+
+pub record DecodesBy (t bytes : List ℕ) (cursor : ℕ) (before after : marked.Lent) (r : Section) : Type 0 where
+  pub answer : r ≡ flatSection (answerOf cursor (marked.decodeGiven (table t) before bytes cursor))
+  pub tables : marked.Filled (marked.decodeGiven (table t) before bytes cursor) before after
+  pub holds : HoldsBy (table t) (marked.roomOf before) bytes cursor
+
+pub record DecodesUnmarkedBy (t bytes : List ℕ) (cursor : ℕ) (before after : Lent) (r : Section) : Type 0 where
+  pub answer : r ≡ flatSection (answerOf cursor (decodeGiven (table t) before bytes cursor))
+  pub tables : Filled (decodeGiven (table t) before bytes cursor) before after
+  pub holds : HoldsBy (table t) (roomOf before) bytes cursor

@@ -11,6 +11,7 @@ pub mod proposition;
 pub mod record;
 pub mod refusal;
 pub mod register;
+pub mod rules;
 pub mod scan;
 pub mod section;
 pub mod span;

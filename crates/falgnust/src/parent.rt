@@ -1,8 +1,9 @@
 // A parent cell of a section by number, for which the section is decoded anew, and at a place of its payload.
 ghost use mathlib.Core.Path.{_≡_};
 ghost use Rattle.evr0_section.specs.Witness.{parentRow};
+ghost use Rattle.rule_table.specs.ByTable.{table};
 ghost use Rattle.evr0.specs.Answer.{lentOf};
-ghost use Rattle.evr0_read.specs.Asked.{Answers};
+ghost use Rattle.evr0_read.specs.Asked.{Answers, AnswersBy};
 ghost use Rattle.evr0_read.specs.Ask.{parentNumber, entryTold};
 ghost use Rattle.evr0_read.specs.Entry.{placedParent, recordAt};
 ghost use Rattle.evr0_read.specs.Place.{parentPlace};
@@ -13,9 +14,11 @@ use crate::refusal::flat_refusal;
 use crate::refusal::no_refusal;
 use evr0_head::counts::Counts;
 use evr0_read::ask::parent_number;
+use evr0_read::ask::parent_number_given;
 use evr0_read::cell::ParentEntry;
 use evr0_read::cell::parent_at;
 use evr0_read::cell::parent_place;
+use evr0_rules::settle::Rules;
 
 // Where the cell starts in the payload, and the proof's number in it; or a refusal, with zeros beside it.
 #[repr(C)]
@@ -59,6 +62,34 @@ pub extern "C" fn falgnust_parent_number(
         (lentOf (now (propositions .exit)) (now (proofs .exit)) (now (depths .exit))) r ⌝ }
 {
     let entry = parent_number(bytes, cursor, number, propositions, proofs, depths);
+    flat_parent(entry)
+}
+
+// By a table of rules, which is loaded before the section is looked at.
+#[no_mangle]
+pub extern "C" fn falgnust_parent_number_by_rules(
+    rules: &[u8],
+    bytes: &[u8],
+    cursor: usize,
+    number: u32,
+    propositions: &mut [u64],
+    proofs: &mut [u64],
+    depths: &mut [u64],
+) -> Parent
+    ensures { λ r. ⌜ AnswersBy (table (now (rules .entry))) (parentNumber number) (λ x. flatParent (entryTold x)) (now (bytes .entry)) cursor
+        (lentOf (now (propositions .entry)) (now (proofs .entry)) (now (depths .entry)))
+        (lentOf (now (propositions .exit)) (now (proofs .exit)) (now (depths .exit))) r ⌝ }
+{
+    let entry = parent_number_given(
+        Rules::Table,
+        rules,
+        bytes,
+        cursor,
+        number,
+        propositions,
+        proofs,
+        depths,
+    );
     flat_parent(entry)
 }
 

@@ -1,8 +1,9 @@
 // A proof of a section by number, for which the section is decoded anew, and at a place of its payload.
 ghost use mathlib.Core.Path.{_≡_};
 ghost use Rattle.evr0_section.specs.Proof.{proofOf};
+ghost use Rattle.rule_table.specs.ByTable.{table};
 ghost use Rattle.evr0.specs.Answer.{lentOf};
-ghost use Rattle.evr0_read.specs.Asked.{Answers};
+ghost use Rattle.evr0_read.specs.Asked.{Answers, AnswersBy};
 ghost use Rattle.evr0_read.specs.Ask.{proofNumber, proofTold};
 ghost use Rattle.evr0_read.specs.Entry.{placedProof, recordAt};
 ghost use Rattle.evr0_read.specs.Maps.{proofEntryOut};
@@ -14,8 +15,10 @@ use crate::span::Span;
 use crate::span::flat_span;
 use evr0_fields::number::ProofNumber;
 use evr0_read::ask::proof_number;
+use evr0_read::ask::proof_number_given;
 use evr0_read::entry::ProofEntry;
 use evr0_read::entry::proof_at;
+use evr0_rules::settle::Rules;
 
 // Where the record starts in the payload, and its fields; or a refusal, with zeros beside it.
 #[repr(C)]
@@ -91,6 +94,34 @@ pub extern "C" fn falgnust_proof_number(
         (lentOf (now (propositions .exit)) (now (proofs .exit)) (now (depths .exit))) r ⌝ }
 {
     let entry = proof_number(
+        bytes,
+        cursor,
+        ProofNumber(number),
+        propositions,
+        proofs,
+        depths,
+    );
+    flat_proof(entry)
+}
+
+// By a table of rules, which is loaded before the section is looked at.
+#[no_mangle]
+pub extern "C" fn falgnust_proof_number_by_rules(
+    rules: &[u8],
+    bytes: &[u8],
+    cursor: usize,
+    number: u32,
+    propositions: &mut [u64],
+    proofs: &mut [u64],
+    depths: &mut [u64],
+) -> Proof
+    ensures { λ r. ⌜ AnswersBy (table (now (rules .entry))) (proofNumber number) (λ x. flatProof (proofTold x)) (now (bytes .entry)) cursor
+        (lentOf (now (propositions .entry)) (now (proofs .entry)) (now (depths .entry)))
+        (lentOf (now (propositions .exit)) (now (proofs .exit)) (now (depths .exit))) r ⌝ }
+{
+    let entry = proof_number_given(
+        Rules::Table,
+        rules,
         bytes,
         cursor,
         ProofNumber(number),

@@ -1,8 +1,9 @@
 // A proposition of a section by number, for which the section is decoded anew, and at a place of its payload.
 ghost use mathlib.Core.Path.{_≡_};
 ghost use Rattle.evr0_section.specs.Proposition.{propositionOf};
+ghost use Rattle.rule_table.specs.ByTable.{table};
 ghost use Rattle.evr0.specs.Answer.{lentOf};
-ghost use Rattle.evr0_read.specs.Asked.{Answers};
+ghost use Rattle.evr0_read.specs.Asked.{Answers, AnswersBy};
 ghost use Rattle.evr0_read.specs.Ask.{propositionNumber, propositionTold};
 ghost use Rattle.evr0_read.specs.Entry.{placedProposition, recordAt};
 ghost use Rattle.evr0_read.specs.Maps.{propositionEntryOut};
@@ -14,8 +15,10 @@ use crate::span::Span;
 use crate::span::flat_span;
 use evr0_fields::number::PropositionIndex;
 use evr0_read::ask::proposition_number;
+use evr0_read::ask::proposition_number_given;
 use evr0_read::entry::PropositionEntry;
 use evr0_read::entry::proposition_at;
+use evr0_rules::settle::Rules;
 
 // Where the record starts in the payload, and its fields; or a refusal, with zeros beside it.
 #[repr(C)]
@@ -76,6 +79,34 @@ pub extern "C" fn falgnust_proposition_number(
         (lentOf (now (propositions .exit)) (now (proofs .exit)) (now (depths .exit))) r ⌝ }
 {
     let entry = proposition_number(
+        bytes,
+        cursor,
+        PropositionIndex(number),
+        propositions,
+        proofs,
+        depths,
+    );
+    flat_proposition(entry)
+}
+
+// By a table of rules, which is loaded before the section is looked at.
+#[no_mangle]
+pub extern "C" fn falgnust_proposition_number_by_rules(
+    rules: &[u8],
+    bytes: &[u8],
+    cursor: usize,
+    number: u32,
+    propositions: &mut [u64],
+    proofs: &mut [u64],
+    depths: &mut [u64],
+) -> Proposition
+    ensures { λ r. ⌜ AnswersBy (table (now (rules .entry))) (propositionNumber number) (λ x. flatProposition (propositionTold x)) (now (bytes .entry)) cursor
+        (lentOf (now (propositions .entry)) (now (proofs .entry)) (now (depths .entry)))
+        (lentOf (now (propositions .exit)) (now (proofs .exit)) (now (depths .exit))) r ⌝ }
+{
+    let entry = proposition_number_given(
+        Rules::Table,
+        rules,
         bytes,
         cursor,
         PropositionIndex(number),

@@ -3,14 +3,17 @@ ghost use mathlib.Core.Path.{_≡_};
 ghost use Rattle.evr0.specs.Answer.{lentOf};
 ghost use Rattle.evr0.specs.AnswerMaps.{answerOut};
 ghost use Rattle.evr0_marks.specs.Answer.{withMarks};
-ghost use Rattle.falgnust.specs.SectionMaps.{flatSection, Decodes, DecodesUnmarked};
+ghost use Rattle.falgnust.specs.SectionMaps.{flatSection, Decodes, DecodesUnmarked, DecodesBy, DecodesUnmarkedBy};
 use crate::refusal::Refusal;
 use crate::refusal::flat_refusal;
 use crate::refusal::no_refusal;
 use evr0::section::DecodedEvr0;
 use evr0::section::Outcome;
+use evr0::section::decode_evr0_by;
 use evr0::section::decode_evr0_unmarked;
 use evr0_marks::section::decode_evr0_section;
+use evr0_marks::section::decode_evr0_section_by;
+use evr0_rules::settle::Rules;
 
 // The digests, the epoch, the places in the payload of both namespaces' lengths, how many characters each has, and the counts; or a
 // refusal, with zeros beside it. The cursor is the one that was brought where the section is refused.
@@ -106,5 +109,58 @@ pub extern "C" fn falgnust_decode_evr0_unmarked(
         (lentOf (now (propositions .exit)) (now (proofs .exit)) (now (depths .exit))) r ⌝ }
 {
     let decoded = decode_evr0_unmarked(bytes, cursor, propositions, proofs, depths);
+    flat_section(decoded)
+}
+
+// Both by a table of rules, which is loaded before the section is looked at.
+#[no_mangle]
+pub extern "C" fn falgnust_decode_evr0_section_by_rules(
+    rules: &[u8],
+    bytes: &[u8],
+    cursor: usize,
+    propositions: &mut [u64],
+    proofs: &mut [u64],
+    depths: &mut [u64],
+    marks: &mut [u8],
+) -> Section
+    ensures { λ r. ⌜ DecodesBy (now (rules .entry)) (now (bytes .entry)) cursor
+        (withMarks (lentOf (now (propositions .entry)) (now (proofs .entry)) (now (depths .entry))) (now (marks .entry)))
+        (withMarks (lentOf (now (propositions .exit)) (now (proofs .exit)) (now (depths .exit))) (now (marks .exit))) r ⌝ }
+{
+    let decoded = decode_evr0_section_by(
+        Rules::Table,
+        rules,
+        bytes,
+        cursor,
+        propositions,
+        proofs,
+        depths,
+        marks,
+    );
+    flat_section(decoded)
+}
+
+#[no_mangle]
+pub extern "C" fn falgnust_decode_evr0_unmarked_by_rules(
+    rules: &[u8],
+    bytes: &[u8],
+    cursor: usize,
+    propositions: &mut [u64],
+    proofs: &mut [u64],
+    depths: &mut [u64],
+) -> Section
+    ensures { λ r. ⌜ DecodesUnmarkedBy (now (rules .entry)) (now (bytes .entry)) cursor
+        (lentOf (now (propositions .entry)) (now (proofs .entry)) (now (depths .entry)))
+        (lentOf (now (propositions .exit)) (now (proofs .exit)) (now (depths .exit))) r ⌝ }
+{
+    let decoded = decode_evr0_by(
+        Rules::Table,
+        rules,
+        bytes,
+        cursor,
+        propositions,
+        proofs,
+        depths,
+    );
     flat_section(decoded)
 }

@@ -1,8 +1,9 @@
 // A witness of a section by number, for which the section is decoded anew, and at a place of its payload.
 ghost use mathlib.Core.Path.{_≡_};
 ghost use Rattle.evr0_section.specs.Witness.{witnessOf};
+ghost use Rattle.rule_table.specs.ByTable.{table};
 ghost use Rattle.evr0.specs.Answer.{lentOf};
-ghost use Rattle.evr0_read.specs.Asked.{Answers};
+ghost use Rattle.evr0_read.specs.Asked.{Answers, AnswersBy};
 ghost use Rattle.evr0_read.specs.Ask.{witnessNumber};
 ghost use Rattle.evr0_read.specs.Entry.{placedWitness, recordAt};
 ghost use Rattle.evr0_read.specs.Place.{witnessPlace};
@@ -14,10 +15,12 @@ use crate::refusal::no_refusal;
 use evr0_fields::number::WitnessNumber;
 use evr0_head::counts::Counts;
 use evr0_read::ask::witness_number;
+use evr0_read::ask::witness_number_given;
 use evr0_read::cell::WitnessEntry;
 use evr0_read::cell::WitnessFound;
 use evr0_read::cell::witness_at;
 use evr0_read::cell::witness_place;
+use evr0_rules::settle::Rules;
 
 // Where the record starts in the payload, and its fields; or a refusal, with zeros beside it.
 #[repr(C)]
@@ -82,6 +85,34 @@ pub extern "C" fn falgnust_witness_number(
         (lentOf (now (propositions .exit)) (now (proofs .exit)) (now (depths .exit))) r ⌝ }
 {
     let entry = witness_number(
+        bytes,
+        cursor,
+        WitnessNumber(number),
+        propositions,
+        proofs,
+        depths,
+    );
+    flat_witness(entry)
+}
+
+// By a table of rules, which is loaded before the section is looked at.
+#[no_mangle]
+pub extern "C" fn falgnust_witness_number_by_rules(
+    rules: &[u8],
+    bytes: &[u8],
+    cursor: usize,
+    number: u32,
+    propositions: &mut [u64],
+    proofs: &mut [u64],
+    depths: &mut [u64],
+) -> Witness
+    ensures { λ r. ⌜ AnswersBy (table (now (rules .entry))) (witnessNumber number) (λ x. flatWitness (witnessTold x)) (now (bytes .entry)) cursor
+        (lentOf (now (propositions .entry)) (now (proofs .entry)) (now (depths .entry)))
+        (lentOf (now (propositions .exit)) (now (proofs .exit)) (now (depths .exit))) r ⌝ }
+{
+    let entry = witness_number_given(
+        Rules::Table,
+        rules,
         bytes,
         cursor,
         WitnessNumber(number),

@@ -7,6 +7,7 @@ mod locks;
 mod marks;
 mod measure;
 mod rows;
+mod rules;
 mod rust_crate;
 mod sections;
 mod texts;

@@ -6,7 +6,7 @@ use answers::section::Head;
 use inputs::random::Random;
 use inputs::section::Section;
 use inputs::shapes;
-use oracle::evr0::decode_evr0_section;
+use oracle::evr0::{DecodedEvr0, Evr0Error, decode_evr0_section};
 use std::cell::RefCell;
 use std::hint::black_box;
 
@@ -139,10 +139,15 @@ fn port(file: &[u8], tables: &mut [Vec<u64>; 3]) -> (Answer<Head>, usize) {
     port::section::decode_evr0_unmarked(file, 0, propositions, proofs, depths)
 }
 
-/// Counts, epoch and cursor of a result; the offset of a refusal.
 pub fn rust_summary(file: &[u8]) -> u64 {
     let mut cursor = 0;
-    match decode_evr0_section(file, &mut cursor) {
+    let decoded = decode_evr0_section(file, &mut cursor);
+    summary(decoded, cursor)
+}
+
+/// Counts, epoch and cursor of a result; the offset of a refusal.
+pub fn summary(decoded: Result<DecodedEvr0, Evr0Error>, cursor: usize) -> u64 {
+    match decoded {
         Ok(d) => {
             let counts =
                 d.propositions.len() + d.proofs.len() + d.witnesses.len() + d.parents.len();

@@ -1,22 +1,22 @@
 //! A section through the crate that callers link: the records of the Rust's vectors, its cursor, or its error with message and number.
 
+use crate::by::By;
 use crate::tally::{Tally, hex};
 use falgnust::evr0;
 use inputs::cases::SectionCase;
-use oracle::evr0::{
-    DecodedEvr0, Evr0Error, Evr0ErrorKind, Proof, Proposition, Witness, decode_evr0_section,
-};
+use oracle::evr0::{DecodedEvr0, Evr0Error, Evr0ErrorKind, Proof, Proposition, Witness};
 
 /// An answer in the Rust's own types, with document 01's number of an error.
 pub type Told<T> = Result<T, (Evr0Error, Option<u8>)>;
 
-pub fn compare(tally: &mut Tally, case: &SectionCase) {
+pub fn compare(tally: &mut Tally, case: &SectionCase, by: By) {
     let (mut rust_cursor, mut port_cursor) = (case.cursor, case.cursor);
-    let rust = rust_told(decode_evr0_section(&case.file, &mut rust_cursor));
-    let port = evr0::decode_evr0_section(&case.file, &mut port_cursor);
+    let rust = rust_told(by.rust(&case.file, &mut rust_cursor));
+    let port = by.crate_section(&case.file, &mut port_cursor);
     let port = told(port.map(section));
     tally.same(&(rust, rust_cursor), &(port, port_cursor), || {
-        format!("the binding, cursor {}, {}", case.cursor, hex(&case.file))
+        let (rules, cursor) = (by.told(), case.cursor);
+        format!("the binding, {rules}cursor {cursor}, {}", hex(&case.file))
     });
 }
 

@@ -3,6 +3,7 @@
 //! crate that callers link.
 
 use crate::block_compare::{OLD, lent};
+use crate::by::By;
 use crate::section_binding::{self as binding, Told, rust_told, told};
 use crate::section_compare::OLD_MARK;
 use crate::section_expected::{self as expected, Down, Record};
@@ -13,7 +14,7 @@ use answers::section::Section;
 use falgnust::calls::{self, SectionTables};
 use falgnust::evr0;
 use inputs::cases::SectionCase;
-use oracle::evr0::{DecodedEvr0, decode_evr0_section};
+use oracle::evr0::DecodedEvr0;
 use std::fmt::Debug;
 
 const NOT_THERE: Refusal = Refusal {
@@ -22,16 +23,32 @@ const NOT_THERE: Refusal = Refusal {
     offset: 0,
 };
 
-/// A section and the Rust's answer.
+/// A section, the Rust's answer, and by which rules.
 struct Asked<'a> {
     file: &'a [u8],
     cursor: usize,
     rust: &'a Answer<(Section, DecodedEvr0)>,
+    by: By<'a>,
 }
 
 pub fn compare(tally: &mut Tally, case: &SectionCase, rust: &Answer<(Section, DecodedEvr0)>) {
+    compare_by(tally, case, rust, By::FOUR);
+}
+
+/// By these rules on both sides.
+pub fn compare_by(
+    tally: &mut Tally,
+    case: &SectionCase,
+    rust: &Answer<(Section, DecodedEvr0)>,
+    by: By,
+) {
     let SectionCase { ref file, cursor } = *case;
-    let asked = Asked { file, cursor, rust };
+    let asked = Asked {
+        file,
+        cursor,
+        rust,
+        by,
+    };
     let numbers = match rust {
         Ok((section, _)) => section.head.counts.map(numbers),
         Err(_) => std::array::from_fn(|_| vec![0]),
@@ -91,9 +108,9 @@ impl Asked<'_> {
             calls::read_proposition,
         );
         self.same(tally, name, &value, raw, |lent| {
-            calls::proposition_number(self.file, self.cursor, number, lent)
+            self.by.proposition(self.file, self.cursor, number, lent)
         });
-        let port = evr0::proposition_number(self.file, self.cursor, number);
+        let port = self.by.crate_proposition(self.file, self.cursor, number);
         let port = port.map(|found| found.map(binding::proposition));
         self.same_told(tally, name, value.map(record), port);
     }
@@ -107,9 +124,9 @@ impl Asked<'_> {
         let raw = expected::raw_proof(value.clone());
         self.at_its_start(tally, "proof at its start", &value, raw, calls::read_proof);
         self.same(tally, name, &value, raw, |lent| {
-            calls::proof_number(self.file, self.cursor, number, lent)
+            self.by.proof(self.file, self.cursor, number, lent)
         });
-        let port = evr0::proof_number(self.file, self.cursor, number);
+        let port = self.by.crate_proof(self.file, self.cursor, number);
         let port = port.map(|found| found.map(binding::proof));
         self.same_told(tally, name, value.map(record), port);
     }
@@ -126,9 +143,9 @@ impl Asked<'_> {
         let name = "witness by number";
         let raw = expected::raw_witness(value.clone());
         self.same(tally, name, &value, raw, |lent| {
-            calls::witness_number(self.file, self.cursor, number, lent)
+            self.by.witness(self.file, self.cursor, number, lent)
         });
-        let port = evr0::witness_number(self.file, self.cursor, number);
+        let port = self.by.crate_witness(self.file, self.cursor, number);
         let port = port.map(|found| found.map(binding::witness));
         self.same_told(tally, name, value.map(record), port);
     }
@@ -143,9 +160,9 @@ impl Asked<'_> {
         let name = "parent by number";
         let raw = expected::raw_parent(value);
         self.same(tally, name, &value, raw, |lent| {
-            calls::parent_number(self.file, self.cursor, number, lent)
+            self.by.parent(self.file, self.cursor, number, lent)
         });
-        let port = evr0::parent_number(self.file, self.cursor, number);
+        let port = self.by.crate_parent(self.file, self.cursor, number);
         self.same_told(tally, name, value.map(record), port);
     }
 
@@ -159,12 +176,13 @@ impl Asked<'_> {
         let raw = expected::raw_authorised(value);
         let mut table = vec![OLD_MARK; self.rooms()[2]];
         self.same(tally, name, &value, raw, |lent| {
-            calls::authorised(self.file, self.cursor, number, lent, &mut table)
+            self.by
+                .authorised(self.file, self.cursor, number, lent, &mut table)
         });
         let marks = if value.is_ok() { marks } else { &[] };
         let left = oracle::marks::lent(marks, table.len());
         tally.same(&left, &table, || self.what("marks of authorised"));
-        let port = evr0::authorised(self.file, self.cursor, number);
+        let port = self.by.crate_authorised(self.file, self.cursor, number);
         self.same_told(tally, name, value, port);
     }
 
@@ -179,9 +197,12 @@ impl Asked<'_> {
         };
         let raw = expected::raw_way_down(value);
         self.same(tally, name, &value, raw, |lent| {
-            calls::way_down(self.file, self.cursor, number, limit, lent)
+            self.by
+                .way_down(self.file, self.cursor, number, limit, lent)
         });
-        let port = evr0::way_down(self.file, self.cursor, number, limit);
+        let port = self
+            .by
+            .crate_way_down(self.file, self.cursor, number, limit);
         let port = port.map(|found| {
             found.map(|way| match way {
                 evr0::WayDown::Witness { witness, moves } => Down::Witness(witness, moves),
@@ -271,9 +292,11 @@ impl Asked<'_> {
         let rust: Told<Option<T>> = match value {
             Ok(value) => Ok(Some(value)),
             Err(NOT_THERE) => Ok(None),
-            Err(_) => {
-                rust_told(decode_evr0_section(self.file, &mut self.cursor.clone()).map(|_| None))
-            }
+            Err(_) => rust_told(
+                self.by
+                    .rust(self.file, &mut self.cursor.clone())
+                    .map(|_| None),
+            ),
         };
         tally.same(&rust, &told(port), || {
             format!("the binding, {}", self.what(name))
@@ -295,7 +318,8 @@ impl Asked<'_> {
     }
 
     fn what(&self, name: &str) -> String {
-        format!("{name}, cursor {}, {}", self.cursor, hex(self.file))
+        let (rules, cursor) = (self.by.told(), self.cursor);
+        format!("{name}, {rules}cursor {cursor}, {}", hex(self.file))
     }
 }
 

@@ -13,34 +13,42 @@ const TRIES: usize = 20;
 
 pub fn run(r: &mut Random, count: usize) -> Tally {
     let mut tally = Tally::of("sections", &REACHABLE);
-    exhaustive(&mut tally, r);
-    for shape in [shapes::one_proof, shapes::two_proofs, shapes::joined] {
-        let bytes = shape(r).bytes();
-        cuts(&mut tally, &bytes);
-        byte_changes(&mut tally, &bytes);
-    }
-    large(&mut tally, r);
-    for _ in 0..count {
-        let case = cases::section(r);
-        section_compare::compare(&mut tally, &case);
-    }
-    for _ in 0..count / 2000 {
-        let case = cases::large_section(r);
-        section_compare::compare(&mut tally, &case);
-    }
-    seldom(&mut tally, r, count);
+    each(&mut tally, r, count, section_compare::compare);
     tally
 }
 
+/// What compares one section.
+pub type Compare = fn(&mut Tally, &SectionCase);
+
+/// Every input of this part, with so many at random.
+pub fn each(tally: &mut Tally, r: &mut Random, count: usize, compare: Compare) {
+    exhaustive(tally, r, compare);
+    for shape in [shapes::one_proof, shapes::two_proofs, shapes::joined] {
+        let bytes = shape(r).bytes();
+        cuts(tally, &bytes, compare);
+        byte_changes(tally, &bytes, compare);
+    }
+    large(tally, r, compare);
+    for _ in 0..count {
+        let case = cases::section(r);
+        compare(tally, &case);
+    }
+    for _ in 0..count / 2000 {
+        let case = cases::large_section(r);
+        compare(tally, &case);
+    }
+    seldom(tally, r, count, compare);
+}
+
 /// More of the conditions that were met too seldom.
-fn seldom(tally: &mut Tally, r: &mut Random, count: usize) {
+fn seldom(tally: &mut Tally, r: &mut Random, count: usize, compare: Compare) {
     for _ in 0..TRIES * count {
         if tally.too_few().is_empty() {
             return;
         }
         let case = cases::section(r);
         if tally.lacks(outcome(&case)) {
-            section_compare::compare(tally, &case);
+            compare(tally, &case);
         }
         tally.progress();
     }
@@ -53,49 +61,49 @@ fn outcome(case: &SectionCase) -> Outcome {
     }
 }
 
+/// A file that starts with its section.
+fn at_start(file: Vec<u8>) -> SectionCase {
+    SectionCase { file, cursor: 0 }
+}
+
 /// Every payload length below 65,536, every schema and all flags, each on specimen 1.
-fn exhaustive(tally: &mut Tally, r: &mut Random) {
+fn exhaustive(tally: &mut Tally, r: &mut Random, compare: Compare) {
     let bytes = Section::empty(r).bytes();
     for at in [4, 8, 10] {
-        let mut changed = bytes.clone();
+        let mut changed = at_start(bytes.clone());
         for value in 0..=u16::MAX {
-            changed[at..at + 2].copy_from_slice(&value.to_le_bytes());
-            compare(tally, &changed, 0);
+            changed.file[at..at + 2].copy_from_slice(&value.to_le_bytes());
+            compare(tally, &changed);
         }
     }
 }
 
-fn compare(tally: &mut Tally, file: &[u8], cursor: usize) {
-    let file = file.to_vec();
-    section_compare::compare(tally, &SectionCase { file, cursor });
-}
-
 /// Every cut, once with the payload length as it was and once with it repaired.
-fn cuts(tally: &mut Tally, bytes: &[u8]) {
+fn cuts(tally: &mut Tally, bytes: &[u8], compare: Compare) {
     for end in 0..=bytes.len() {
-        let mut cut = bytes[..end].to_vec();
-        compare(tally, &cut, 0);
+        let mut cut = at_start(bytes[..end].to_vec());
+        compare(tally, &cut);
         if end >= 8 {
-            cut[4..8].copy_from_slice(&(end as u32 - 8).to_le_bytes());
-            compare(tally, &cut, 0);
+            cut.file[4..8].copy_from_slice(&(end as u32 - 8).to_le_bytes());
+            compare(tally, &cut);
         }
     }
 }
 
 /// Every byte with every other value.
-fn byte_changes(tally: &mut Tally, bytes: &[u8]) {
-    let mut changed = bytes.to_vec();
-    for at in 0..bytes.len() {
+fn byte_changes(tally: &mut Tally, bytes: &[u8], compare: Compare) {
+    let mut changed = at_start(bytes.to_vec());
+    for (at, byte) in bytes.iter().enumerate() {
         for change in 1..=255 {
-            changed[at] = bytes[at] ^ change;
-            compare(tally, &changed, 0);
+            changed.file[at] = byte ^ change;
+            compare(tally, &changed);
         }
-        changed[at] = bytes[at];
+        changed.file[at] = *byte;
     }
 }
 
 /// Limits at one below, at and one above, and the largest tables.
-fn large(tally: &mut Tally, r: &mut Random) {
+fn large(tally: &mut Tally, r: &mut Random, compare: Compare) {
     let mut all: Vec<Section> = Vec::new();
     for proofs in 255..=257 {
         all.push(shapes::chain(r, proofs));
@@ -111,30 +119,30 @@ fn large(tally: &mut Tally, r: &mut Random) {
         all.push(shapes::many_propositions(r, count, 40));
     }
     for section in all {
-        compare(tally, &section.bytes(), 0);
+        compare(tally, &at_start(section.bytes()));
     }
-    payload_limits(tally, r);
-    count_limits(tally, r);
+    payload_limits(tally, r, compare);
+    count_limits(tally, r, compare);
 }
 
 /// Payloads of 4,194,303 to 4,194,305 bytes.
-fn payload_limits(tally: &mut Tally, r: &mut Random) {
+fn payload_limits(tally: &mut Tally, r: &mut Random, compare: Compare) {
     let mut section = shapes::many_propositions(r, 65_536, 49);
     let short = 4_194_304 - (section.bytes().len() - 8);
     for more in [short - 1, short, short + 1] {
         section.policy.bytes = vec![b'p'; 1 + more];
-        compare(tally, &section.bytes(), 0);
+        compare(tally, &at_start(section.bytes()));
     }
 }
 
 /// Each count at one below, at and one above its limit, over enough bytes for its records.
-fn count_limits(tally: &mut Tally, r: &mut Random) {
+fn count_limits(tally: &mut Tally, r: &mut Random, compare: Compare) {
     for (table, limit) in [65_536, 65_536, 262_144, 262_144].into_iter().enumerate() {
         for count in [limit - 1, limit, limit + 1] {
             let mut section = Section::empty(r);
             section.counts[table] = Some(count);
             section.more = vec![0; 4_000_000];
-            compare(tally, &section.bytes(), 0);
+            compare(tally, &at_start(section.bytes()));
         }
     }
 }

@@ -1,15 +1,20 @@
 //! What a fuzzed input means: two bytes that choose, then the file or the block.
 //!
-//! The first byte: 0 a section in a file, 1 a payload, whose tag and length are put before it, 2 a block, 3 a file of functions. The second:
-//! in its low two bits a cursor or a base (0; 1; 1,000; 20 below 2^64), and above them a revision.
+//! The first byte: 0 a section in a file, 1 a payload, whose tag and length are put before it, 2 a block, 3 a file of functions, 4 a table of
+//! rules, the length of which stands before it in 2 bytes, and a payload. The second: in its low two bits a cursor or a base (0; 1; 1,000; 20
+//! below 2^64), and above them a revision.
 
 use inputs::block::REVISIONS;
 use inputs::cases::{BlockCase, FileCase, SectionCase};
+use inputs::random::Random;
+use inputs::ruled;
 
 pub enum Case {
     Section(SectionCase),
     Block(BlockCase),
     Functions(FileCase),
+    /// A table and a section.
+    Ruled(Vec<u8>, SectionCase),
 }
 
 const PLACES: [usize; 4] = [0, 1, 1000, usize::MAX - 20];
@@ -21,33 +26,38 @@ pub fn case(data: &[u8]) -> Option<Case> {
     };
     let place = PLACES[(choice & 3) as usize];
     let revision = REVISIONS[(choice >> 2) as usize % REVISIONS.len()];
-    match kind % 4 {
+    match kind % 5 {
         0 => Some(Case::Section(SectionCase {
             file: rest.to_vec(),
             cursor: place,
         })),
-        1 => {
-            let length = u32::try_from(rest.len()).ok()?;
-            let mut file = vec![b'.'; place.min(1)];
-            file.extend(b"EVR0");
-            file.extend(length.to_le_bytes());
-            file.extend(rest);
-            Some(Case::Section(SectionCase {
-                file,
-                cursor: place.min(1),
-            }))
-        }
+        1 => Some(Case::Section(framed(rest, place.min(1))?)),
         2 => Some(Case::Block(BlockCase {
             code: rest.to_vec(),
             base: place,
             revision,
         })),
-        _ => Some(Case::Functions(FileCase {
+        3 => Some(Case::Functions(FileCase {
             file: rest.to_vec(),
             cursor: place,
             revision,
         })),
+        _ => {
+            let (length, rest) = rest.split_first_chunk()?;
+            let (table, payload) = rest.split_at_checked(u16::from_le_bytes(*length).into())?;
+            Some(Case::Ruled(table.to_vec(), framed(payload, place.min(1))?))
+        }
     }
+}
+
+/// A payload with tag and length before it, at a cursor.
+fn framed(payload: &[u8], cursor: usize) -> Option<SectionCase> {
+    let length = u32::try_from(payload.len()).ok()?;
+    let mut file = vec![b'.'; cursor];
+    file.extend(b"EVR0");
+    file.extend(length.to_le_bytes());
+    file.extend(payload);
+    Some(SectionCase { file, cursor })
 }
 
 /// The bytes that stand for a case, at cursor or base 0.
@@ -66,6 +76,12 @@ pub fn bytes(case: &Case) -> Vec<u8> {
             [3, choice(*revision)],
             file.get(*cursor..).unwrap_or_default(),
         ),
+        Case::Ruled(table, SectionCase { file, cursor }) => {
+            let length = (table.len() as u16).to_le_bytes();
+            let section = file.get(*cursor..).unwrap_or_default();
+            let payload = section.get(8..).unwrap_or_default();
+            joined([4, 0], &[&length[..], table, payload].concat())
+        }
     }
 }
 
@@ -77,4 +93,13 @@ fn choice(revision: u16) -> u8 {
 
 fn joined(choice: [u8; 2], rest: &[u8]) -> Vec<u8> {
     [&choice[..], rest].concat()
+}
+
+/// A table, sometimes damaged, and a section by its rules.
+pub fn by_rules(r: &mut Random) -> Case {
+    let (mut table, case) = ruled::section(r);
+    if r.one_in(3) {
+        table = ruled::damaged(r, table);
+    }
+    Case::Ruled(table.bytes(), case)
 }

@@ -3,10 +3,10 @@
 mod input;
 mod mutate;
 
-pub use input::{Case, bytes, case};
+pub use input::{Case, by_rules, bytes, case};
 
 use differential::tally::Tally;
-use differential::{block_compare, block_numbers, marks, section_compare, section_numbers};
+use differential::{block_compare, block_numbers, marks, rules, section_compare, section_numbers};
 use differential::{function_compare, function_numbers};
 
 /// Tries one input.
@@ -45,6 +45,7 @@ fn compare(case: &Case) {
             function_compare::compare(&mut tally, case);
             function_numbers::compare(&mut tally, case, &rust, function_compare::rooms(case));
         }
+        Case::Ruled(table, case) => rules::compare(&mut tally, table, case),
     }
     assert_eq!(tally.differences(), 0, "differences from the Rust");
 }

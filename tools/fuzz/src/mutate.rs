@@ -1,6 +1,7 @@
-//! Mutation: libFuzzer's own, and now and then a new section, block or file of functions with a fault or two, which changes of bytes would not find.
+//! Mutation: libFuzzer's own, and now and then a new section, block, file of functions or table of rules with a fault or two, which changes of
+//! bytes would not find.
 
-use crate::input::{Case, bytes};
+use crate::input::{Case, by_rules, bytes};
 use inputs::cases;
 use inputs::random::Random;
 
@@ -25,10 +26,11 @@ pub unsafe extern "C" fn LLVMFuzzerCustomMutator(
 ) -> usize {
     let mut r = Random::new(seed.into());
     if r.one_in(NEW) {
-        let case = match r.below(3) {
+        let case = match r.below(4) {
             0 => Case::Section(cases::section(&mut r)),
             1 => Case::Block(cases::block(&mut r)),
-            _ => Case::Functions(cases::functions(&mut r)),
+            2 => Case::Functions(cases::functions(&mut r)),
+            _ => by_rules(&mut r),
         };
         let new = bytes(&case);
         if new.len() <= max_size {

@@ -37,7 +37,8 @@ pub fn large_section(r: &mut Random) -> SectionCase {
     in_file(r, section)
 }
 
-fn in_file(r: &mut Random, section: Section) -> SectionCase {
+/// A section somewhere in a file, valid or damaged.
+pub fn in_file(r: &mut Random, section: Section) -> SectionCase {
     let bytes = match r.below(8) {
         0 => section.bytes(),
         1 => section_faults::scrambled(r, section.bytes()),

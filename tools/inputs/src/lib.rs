@@ -11,6 +11,7 @@ pub mod functions;
 pub mod locks;
 pub mod marked;
 pub mod random;
+pub mod ruled;
 pub mod section;
 pub mod section_conditions;
 pub mod section_faults;

@@ -1,11 +1,15 @@
 //! Answers as lines of text.
 
 use crate::block::block;
+use crate::evr0::DecodedEvr0;
 use crate::functions::functions;
 use crate::marks::marks;
-use crate::section::section;
+use crate::rules::load;
+use crate::section::{section, section_by};
 use answers::Answer;
 use answers::block::{Activation, Block, Component, Event, Execution, Path};
+use answers::refusal::{Kind, Refusal};
+use answers::section::Section;
 use answers::text::Span;
 use std::fmt::Display;
 
@@ -27,14 +31,29 @@ pub fn span_line(s: Span) -> String {
 
 pub fn section_line(bytes: &[u8], cursor: usize) -> Answer<String> {
     let (s, decoded) = section(bytes, cursor)?;
-    Ok(format!(
+    Ok(section_fields(&s, &decoded))
+}
+
+/// Of a section by the rules of a table, or the table's refusal: from the model and the plain lines.
+pub fn ruled_line(table: &[u8], bytes: &[u8], cursor: usize) -> Answer<String> {
+    let rules = load(table).map_err(|(number, _)| Refusal {
+        kind: Kind::Added,
+        number,
+        offset: 0,
+    })?;
+    let (s, decoded) = section_by(&rules, bytes, cursor)?;
+    Ok(section_fields(&s, &decoded))
+}
+
+fn section_fields(s: &Section, decoded: &DecodedEvr0) -> String {
+    format!(
         "cursor={} counts={} depths={} marks={} propositions={} proofs={} policy={} issuer={} policy_chars={} \
          issuer_chars={} epoch={} \
          source_set={} compiler_contract={}",
         s.cursor,
         list(s.head.counts),
         list(&s.tables.depths),
-        list(marks(&decoded)),
+        list(marks(decoded)),
         list(&s.tables.propositions),
         list(&s.tables.proofs),
         s.head.policy,
@@ -44,7 +63,7 @@ pub fn section_line(bytes: &[u8], cursor: usize) -> Answer<String> {
         s.head.epoch,
         hex(&s.head.source_set),
         hex(&s.head.compiler_contract),
-    ))
+    )
 }
 
 pub fn block_line(bytes: &[u8], base: usize, revision: u16) -> Answer<String> {

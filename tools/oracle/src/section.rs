@@ -1,14 +1,30 @@
 //! A section as the Rust decodes it, with the starts and depths that follow from its records.
 
-use crate::evr0::{DecodedEvr0, Proof, characters, decode_evr0_section};
+use crate::evr0::{DecodedEvr0, Evr0Error, Proof, characters, decode_evr0_section};
+use crate::evr0_ruled;
 use crate::messages::of_section;
+use crate::rules::Rule;
 use answers::Answer;
 use answers::section::{Head, Section, Tables};
 
 /// The section at a cursor, with the Rust's own records.
 pub fn section(bytes: &[u8], cursor: usize) -> Answer<(Section, DecodedEvr0)> {
+    of(cursor, |after| decode_evr0_section(bytes, after))
+}
+
+/// The same by other rules, from the model.
+pub fn section_by(rules: &[Rule], bytes: &[u8], cursor: usize) -> Answer<(Section, DecodedEvr0)> {
+    of(cursor, |after| {
+        evr0_ruled::decode_evr0_section(rules, bytes, after)
+    })
+}
+
+fn of(
+    cursor: usize,
+    decode: impl FnOnce(&mut usize) -> Result<DecodedEvr0, Evr0Error>,
+) -> Answer<(Section, DecodedEvr0)> {
     let mut after = cursor;
-    match decode_evr0_section(bytes, &mut after) {
+    match decode(&mut after) {
         Ok(decoded) => Ok((answer(&decoded, after), decoded)),
         Err(error) => {
             assert_eq!(after, cursor, "a refusal moved the cursor");

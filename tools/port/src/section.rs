@@ -41,6 +41,26 @@ pub fn decode_evr0_unmarked(
     answer(calls::decode_evr0_unmarked(bytes, cursor, lent))
 }
 
+/// The same by the rules of a table.
+#[inline]
+pub fn decode_evr0_unmarked_by_rules(
+    rules: &[u8],
+    bytes: &[u8],
+    cursor: usize,
+    propositions: &mut [u64],
+    proofs: &mut [u64],
+    depths: &mut [u64],
+) -> (Answer<Head>, usize) {
+    let lent = SectionTables {
+        propositions,
+        proofs,
+        depths,
+    };
+    answer(calls::decode_evr0_unmarked_by_rules(
+        rules, bytes, cursor, lent,
+    ))
+}
+
 /// Whether a proposition is authorised; the tables are those of propositions, proofs and depths.
 #[inline]
 pub fn authorised(
@@ -62,8 +82,9 @@ pub fn authorised(
     }
 }
 
+/// A section's answer, and the cursor after the call.
 #[inline]
-fn answer(s: raw::Section) -> (Answer<Head>, usize) {
+pub fn answer(s: raw::Section) -> (Answer<Head>, usize) {
     if !s.accepted {
         return (Err(refusal::answer(s.refusal)), s.cursor);
     }

@@ -3,19 +3,21 @@
 //!     section HEX CURSOR TAB ANSWER
 //!     block HEX BASE REVISION TAB ANSWER
 //!     functions HEX CURSOR REVISION TAB ANSWER
+//!     ruled TABLE HEX CURSOR TAB ANSWER
 //!
-//! Either so many for each refusal number and condition that random inputs reach, or the inputs of fixed.rs, or those that standard input
+//! The last are sections by the rules of a table, from the model and the plain lines. Either so many for each refusal number and condition that random inputs reach, or the inputs of fixed.rs, or those that standard input
 //! has, a line each, as they are printed.
 
 mod fixed;
 
 use inputs::cases::{self, BlockCase, FileCase, SectionCase};
 use inputs::random::Random;
-use inputs::{block_conditions, function_conditions, section_conditions};
-use oracle::lines::{block_line, functions_line, hex, section_line};
+use inputs::{block_conditions, function_conditions, ruled, section_conditions};
+use oracle::lines::{block_line, functions_line, hex, ruled_line, section_line};
+use oracle::section::section_by;
 use std::collections::BTreeMap;
 
-const USAGE: &str = "usage: sample section|block|functions SEED EACH LONGEST [ACCEPTED]
+const USAGE: &str = "usage: sample section|block|functions|ruled SEED EACH LONGEST [ACCEPTED]
        sample fixed
        sample given";
 
@@ -45,6 +47,7 @@ fn random(form: &str, seed: usize, picked: Picked, longest: usize) {
         "section" => sections(seed, picked, longest),
         "block" => blocks(seed, picked, longest),
         "functions" => files(seed, picked, longest),
+        "ruled" => ruled(seed, picked, longest),
         _ => usage(),
     }
 }
@@ -144,6 +147,41 @@ fn files(seed: usize, mut picked: Picked, longest: usize) {
         if picked.wants(number, condition) {
             functions(&case);
         }
+    }
+}
+
+/// Tables, some of which are refused, with sections by their rules.
+fn ruled(seed: usize, mut picked: Picked, longest: usize) {
+    let mut r = Random::new(seed as u64);
+    for _ in 0..TRIES {
+        let (mut table, case) = ruled::section(&mut r);
+        if r.one_in(3) {
+            table = ruled::damaged(&mut r, table);
+        }
+        let table = table.bytes();
+        if table.len() + case.file.len() > longest {
+            continue;
+        }
+        let (number, condition) = match oracle::rules::load(&table) {
+            Err(wrong) => wrong,
+            Ok(rules) => match section_by(&rules, &case.file, case.cursor) {
+                Ok(_) => (0, ""),
+                Err(refusal) => (refusal.number, ""),
+            },
+        };
+        if picked.wants(number, condition) {
+            let answer = ruled_line(&table, &case.file, case.cursor);
+            let (table, file) = (hex_or_none(&table), hex_or_none(&case.file));
+            println!("ruled {table} {file} {}\t{}", case.cursor, told(answer));
+        }
+    }
+}
+
+/// In hexadecimal, or a dash where there is no byte.
+fn hex_or_none(bytes: &[u8]) -> String {
+    match bytes {
+        [] => "-".to_string(),
+        _ => hex(bytes),
     }
 }
 

@@ -97,7 +97,7 @@ pub fn authorised(
     }))
 }
 
-fn answer<T>(read: Read<T>) -> Result<Option<T>, Evr0Error> {
+pub(super) fn answer<T>(read: Read<T>) -> Result<Option<T>, Evr0Error> {
     match read {
         Ok(value) => Ok(Some(value)),
         Err(refusal) if refusal.number == 62 => Ok(None),
@@ -106,7 +106,7 @@ fn answer<T>(read: Read<T>) -> Result<Option<T>, Evr0Error> {
 }
 
 /// The bytes behind the section's length, in which the payload's places are; none in a file that ends before.
-fn payload(bytes: &[u8], cursor: usize) -> &[u8] {
+pub(super) fn payload(bytes: &[u8], cursor: usize) -> &[u8] {
     let start = cursor.saturating_add(HEADER);
     bytes.get(start..).unwrap_or_default()
 }

@@ -1,4 +1,5 @@
-//! The specimens of document 01, files of functions and locks through the binding, the lengths of lent tables, and the words of records.
+//! The specimens of document 01, tables of rules, files of functions and locks through the binding, the lengths of lent tables, and the words
+//! of records.
 
 mod blocks;
 mod characters;
@@ -7,6 +8,7 @@ mod least_tables;
 mod locks;
 mod marks;
 mod readme;
+mod rules;
 mod sections;
 mod words;
 mod written;

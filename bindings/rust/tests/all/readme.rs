@@ -11,4 +11,5 @@ fn readme_shows_the_examples() {
     assert!(shown(include_str!("../../examples/proofs.rs")));
     assert!(shown(include_str!("../../examples/functions.rs")));
     assert!(shown(include_str!("../../examples/locks.rs")));
+    assert!(shown(include_str!("../../examples/rules.rs")));
 }

@@ -1,13 +1,14 @@
-//! Writes a corpus to start from: the specimens' shapes, and small sections, blocks and files of functions of which most have a fault.
+//! Writes a corpus to start from: the specimens' shapes, and small sections, blocks, files of functions and tables of rules, of which
+//! most have a fault.
 
-use fuzz::{Case, bytes};
+use fuzz::{Case, by_rules, bytes};
 use inputs::block::{self, REVISIONS};
 use inputs::cases::{self, BlockCase, SectionCase};
 use inputs::random::Random;
 use inputs::shapes;
 use std::path::Path;
 
-/// So many random sections, and as many blocks and files of functions.
+/// So many random sections, and as many blocks, files of functions and tables of rules.
 const EACH: usize = 300;
 
 fn main() -> std::io::Result<()> {
@@ -34,6 +35,7 @@ fn main() -> std::io::Result<()> {
         all.push(Case::Section(cases::section(r)));
         all.push(Case::Block(cases::block(r)));
         all.push(Case::Functions(cases::functions(r)));
+        all.push(by_rules(r));
     }
     for (number, case) in all.iter().enumerate() {
         std::fs::write(Path::new(&folder).join(number.to_string()), bytes(case))?;

@@ -2,23 +2,27 @@
 use borrow.Author.Needs.{needs}
 use Prim.Native.Nat.{ℕ, _≤_}
 use mathlib.Core.Path.{_≡_, refl, sym, ap, _∙_}
-use mathlib.Core.List.{[]}
+use mathlib.Core.List.{List, []}
 use native.Mathlib.Omega.{arith}
 use lib.ListN.{length, take, length-take}
 use Rattle.local_format.specs.Out.{ok}
 use Rattle.lent_table.specs.Lent.{lent}
-use Rattle.derivation.specs.Rule.{fourRules}
+use Rattle.derivation.specs.Rule.{Rule}
 use Rattle.evr0_section.specs.Section.{tablesAfter}
+use Rattle.evr0_rules.specs.Maps.{rulesIn}
 use Rattle.evr0_head.specs.Maps.{countsOut}
 use Rattle.evr0_tables.specs.PayloadMaps.{placesOut, Reads}
 use Rattle.evr0.specs.Answer.{Lent, lentOf}
-use Rattle.evr0.proofs.CheckLaws.{ready, reads-as, tables-refused, may-derive, derived, not-derived}
+use Rattle.evr0.proofs.CheckLaws.{ready, reads-as, tables-refused, may-derive, named, derived, not-derived}
 use Rattle.evr0.proofs.section.check_tables as f
 use f.Tie as tie
 
 -- ---- The stages
 abbrev start : tie.After-read-tables → tie.Start
-start c = let on = c .before .before .before .before .before .before in on .before
+start c = let on = c .before .before .before .before .before .before in on .before .before .before
+
+abbrev among : tie.After-read-tables → List Rule
+among c = let a = start c .args in rulesIn (a .rules) (a .table .now) (a .places .now)
 
 abbrev brought : tie.After-read-tables → Lent
 brought c = let a = start c .args in lentOf (a .propositions .now) (a .proofs .now) (a .depths .now)
@@ -29,17 +33,17 @@ module _ (c : tie.After-tables2) where
   at = c .before .before .before .before .before .before
 
   reads : let a = start at .args in
-      Reads (tablesAfter fourRules (countsOut (a .counts)) (a .payload .now) (a .at)) (a .propositions .now) (a .proofs .now)
-      (at .read-tables .last .1 .1 .1 .0) (at .read-tables .last .1 .1 .1 .1 .0)
+      Reads (tablesAfter (among at) (countsOut (a .counts)) (a .payload .now) (a .at)) (a .propositions .now) (a .proofs .now)
+      (at .read-tables .last .1 .1 .1 .1 .1 .1 .0) (at .read-tables .last .1 .1 .1 .1 .1 .1 .1 .0)
       (ok (record { witnessesAt = c .tables2 .given .0 .0; parentsAt = c .tables2 .given .0 .1 .0 }))
   reads = reads-as (at .read-tables .ensures) (ap placesOut (c .tables2 .given .1))
 
-  proofs-fit : start at .args .counts .proofs ≤ length (at .read-tables .last .1 .1 .1 .1 .0)
+  proofs-fit : start at .args .counts .proofs ≤ length (at .read-tables .last .1 .1 .1 .1 .1 .1 .1 .0)
   proofs-fit =
-      let r = ready _ _ _ _ (start at .pre) in
-      omega (arith, r .proofs, at .read-tables .kept .1 .1 .1 .1 .0)
+      let r = ready _ _ _ _ (start at .pre .0) in
+      omega (arith, r .proofs, at .read-tables .kept .1 .1 .1 .1 .1 .1 .1 .0)
 
-  proofs-total : length (take (start at .args .counts .proofs) (at .read-tables .last .1 .1 .1 .1 .0)) ≡ start at .args .counts .proofs
+  proofs-total : length (take (start at .args .counts .proofs) (at .read-tables .last .1 .1 .1 .1 .1 .1 .1 .0)) ≡ start at .args .counts .proofs
   proofs-total = simp length-take (omega (arith, proofs-fit))
 
 -- ---- The answers
@@ -48,20 +52,23 @@ returns c =
     let k = c .before .before in
     let t = k .before .before .before in
     let r = t .before .before .before .before .before .before in
-    λ end. tables-refused (brought r) _ _ _ _ (start r .pre) (rw (t .tables .given .1) at (r .read-tables .ensures)) refl refl (k .clear .ensures) end
+    λ end. tables-refused (among r) (brought r) _ _ _ _ (start r .pre .0) (rw (t .tables .given .1) at (r .read-tables .ensures)) refl refl
+    (k .clear .ensures) end
 
 pub check-tables-spec : {M : Type 1} → f.Statement.statement M
 check-tables-spec =
     tie.close (tie.spec
-    (λ c κs. let s = c .before .before .before .before .before .before in
-    let r = ready _ _ _ _ (s .pre) in
-    ((r .propositions, r .proofs), (r .parents, r .within))) (search needs) (search needs) (search needs)
+    (λ c κs. let s = c .before .before .before .before .before .before .before .before in
+    let r = ready _ _ _ _ (s .pre .0) in
+    ((r .propositions, r .proofs), (r .parents, r .within, s .pre .1))) (search needs) (search needs) (search needs)
     (λ c. proofs-fit (c .before))
     (λ c. sym (proofs-total (c .before .before)))
     (λ c κs. let t = c .before .before .before in
     let s = start (at t) in
-    let r = ready _ _ _ _ (s .pre) in
-    (may-derive (brought (at t)) (brought (at t)) _ _ _ (s .pre) (reads t), omega (arith, r .depths, proofs-total t))) (search needs) (search needs)
+    let r = ready _ _ _ _ (s .pre .0) in (
+      (may-derive (among (at t)) (brought (at t)) (brought (at t)) _ _ _ (s .pre .0) (reads t), omega (arith, r .depths, proofs-total t)),
+      (s .pre .1, named (among (at t)) (brought (at t)) (brought (at t)) _ _ _ (s .pre .0) (reads t)),
+    )) (search needs) (search needs)
     (search needs) (search needs) (search needs) (search needs) (search needs) returns (search needs) (search needs) (search needs)
     (λ c. let third = c .before .before in
     let second = third .before .before .before .before in
@@ -69,9 +76,11 @@ check-tables-spec =
     let d = r .before .before .before .before in
     let t = d .before .before .before .before in
     let k = at t .read-tables .kept in
-    λ end. not-derived (brought (at t)) _ _ _ _ (start (at t) .pre) (reads t) (rw (r .derived .given .1) at (d .derive .ensures))
-    (second .clear2 .ensures ∙ ap (λ (n : ℕ). lent n []) (k .1 .1 .1 .0)) (third .clear3 .ensures ∙ ap (λ (n : ℕ). lent n []) (k .1 .1 .1 .1 .0)) refl end)
+    λ end. not-derived (among (at t)) (brought (at t)) _ _ _ _ (start (at t) .pre .0) (reads t) (rw (r .derived .given .1) at (d .derive .ensures))
+    (second .clear2 .ensures ∙ ap (λ (n : ℕ). lent n []) (k .1 .1 .1 .1 .1 .1 .0))
+    (third .clear3 .ensures ∙ ap (λ (n : ℕ). lent n []) (k .1 .1 .1 .1 .1 .1 .1 .0)) refl end)
     (search needs) (search needs) (search needs)
     (λ c. let d = c .before .before .before .before in
     let t = d .before .before .before .before in
-    λ end. derived (brought (at t)) _ _ _ _ (start (at t) .pre) (reads t) (rw (c .enum-told .given .1) at (d .derive .ensures)) refl refl refl end))
+    λ end. derived (among (at t)) (brought (at t)) _ _ _ _ (start (at t) .pre .0) (reads t) (rw (c .enum-told .given .1) at (d .derive .ensures))
+    refl refl refl end))

@@ -3,7 +3,9 @@ use borrow.Author.Needs.{needs}
 use mathlib.Core.Path.{_≡_, refl, sym, ap, _∙_}
 use Rattle.local_format.specs.Out.{ok}
 use Rattle.local_format.proofs.OutLaws.{told}
-use Rattle.derivation.specs.Rule.{fourRules}
+use Rattle.derivation.specs.Rule.{Rule}
+use Rattle.evr0_rules.specs.Maps.{rulesIn}
+use mathlib.Core.List.{List}
 use Rattle.evr0_fields.specs.Maps.{checkedOut}
 use Rattle.evr0_head.specs.Maps.{headRecord, headIn}
 use Rattle.evr0_section.specs.Head.{checkedHead}
@@ -18,7 +20,10 @@ use f.Tie as tie
 -- ---- The stages
 module _ (c : tie.After-read-checked-head) where
   abbrev start : tie.Start
-  start = c .before .before .before .before .before
+  start = c .before .before .before .before .before .before .before
+
+  abbrev among : List Rule
+  among = rulesIn (start .args .rules) (start .args .table .now) (start .args .places .now)
 
   abbrev brought : Lent
   brought = lentOf (start .args .propositions .now) (start .args .proofs .now) (start .args .depths .now)
@@ -43,15 +48,17 @@ module _ (c : tie.After-check-tables) where
   abbrev given-at : tie.Start
   given-at = start (head-at read-at)
 
-  passes : Passes (payloadIn (brought (head-at read-at)) (given-at .args .payload .now) (given-at .args .end)) (brought (head-at read-at))
-      (lentOf (c .check-tables .last .1 .1 .1 .0) (c .check-tables .last .1 .1 .1 .1 .0) (c .check-tables .last .1 .1 .1 .1 .1 .0))
+  passes : Passes (payloadIn (among (head-at read-at)) (brought (head-at read-at)) (given-at .args .payload .now) (given-at .args .end))
+      (brought (head-at read-at))
+      (lentOf (c .check-tables .last .1 .1 .1 .1 .1 .1 .0) (c .check-tables .last .1 .1 .1 .1 .1 .1 .1 .0) (c .check-tables .last .1 .1 .1 .1 .1 .1 .1 .1 .0))
       (checkedOut (c .check-tables .result))
   passes = c .check-tables .ensures (given-at .args .end)
 
 -- ---- The answers
 check-tables-requires : tie.Need-check-tables-requires
 check-tables-requires c κs =
-    record { head = _; read = head-read (c .before .before .before .before .before); same = refl; next = refl }
+    let r = c .before .before .before .before .before in
+    (record { head = _; read = head-read r; same = refl; next = refl }, start (head-at r) .pre)
 
 pub decode-payload-spec : {M : Type 1} → f.Statement.statement M
 decode-payload-spec =
@@ -61,12 +68,12 @@ decode-payload-spec =
     let second = third .before .before .before .before in
     let one = second .before .before .before .before in
     let r = one .before .before .before in
-    refusal-ends (no-head fourRules _ _ _ _ (sym (head-is (r .before .before)) ∙ ap (headIn _ _) (r .answer .given .1)))
+    refusal-ends (no-head _ _ _ _ _ (sym (head-is (r .before .before)) ∙ ap (headIn _ _) (r .answer .given .1)))
     (record { propositions = one .clear .ensures; proofs = second .clear2 .ensures; depths = third .clear3 .ensures }) _ (c .refused-section .ensures))
     (search needs) (search needs) (search needs)
     (λ c. let on = c .before .before .before .before .before .before in
     let at = on .before .before .before .before in
-    let x = payloadIn (brought (head-at (read-at at))) (given-at at .args .payload .now) (given-at at .args .end) in
+    let x = payloadIn (among (head-at (read-at at))) (brought (head-at (read-at at))) (given-at at .args .payload .now) (given-at at .args .end) in
     let e = not-passed x _ (told checkedOut (passes at .answer) (c .before .before .checked .given .1)) in
     record { answer = c .refused-section2 .ensures ∙ sym (ap (answerOf (given-at at .args .cursor)) e); tables = passes at .tables }) (search needs)
     (search needs) (search needs)
@@ -74,9 +81,9 @@ decode-payload-spec =
     let at = on .before .before .before .before .before in
     let a = given-at at .args in
     let k = passes at in
-    let x = payloadIn (brought (head-at (read-at at))) (a .payload .now) (a .end) in
+    let x = payloadIn (among (head-at (read-at at))) (brought (head-at (read-at at))) (a .payload .now) (a .end) in
     let s = passed x (told checkedOut (k .answer) (c .before .before .before .enum-told .given .1)) in
-    let h = accepted-head fourRules _ _ (a .end) _ (head-read (read-at at)) (s .0) (s .1) in
+    let h = accepted-head _ _ _ (a .end) _ (head-read (read-at at)) (s .0) (s .1) in
     let head = head-at (read-at at) .read-checked-head .result in
     record {
       answer = ap (λ (y : Accepted). record {

@@ -13,7 +13,7 @@ authorised-by-requires c κs =
 returns : tie.Need-returns
 returns c due front =
     let u = c .before in
-    told due (u .before .payload-of .ensures) (u .front .ensures) _ (c .authorised-by .ensures) front
+    told due (u .before .payload-of .ensures) (u .front .ensures) _ (c .authorised-by .ensures _) front
 
 pub authorised-in-spec : {M : Type 1} → f.Statement.statement M
 authorised-in-spec = tie.close (tie.spec (search needs) (search needs) authorised-by-requires returns)

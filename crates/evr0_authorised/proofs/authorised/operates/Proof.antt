@@ -17,14 +17,14 @@ pub operates-spec : {M : Type 1} → f.Statement.statement M
 unfolding proofView
 operates-spec =
     tie.close (tie.spec
-    (λ c. let a = c .before .before .args in
+    (λ c rules. let a = c .before .before .args in
     sym (not-marked (eqb (le 4 (a .payload .now) (a .start + 4)) (a .proposition))
     (eqb (le 1 (a .payload .now) (afterName (a .payload .now) (a .start) + 20)) 1) (eqb (a .mark) 1) (ne-eqb (a .mark) 1 (c .if1 .taken))))
     (search needs) (search needs)
-    (λ c. let a = c .before .before .before .before .args in
+    (λ c rules. let a = c .before .before .before .before .args in
     rw (ne-eqb (le 4 (a .payload .now) (a .start + 4)) (a .proposition) (λ e. c .if2 .taken (c .before .u32-at .ensures ∙ e)))) (search needs)
     (search needs) (search needs)
-    (λ c. let n = c .before in
+    (λ c rules. let n = c .before in
     let other = n .before in
     let u = other .before in
     let mark = u .before in

@@ -4,6 +4,7 @@ use Prim.Native.Nat.{ℕ, _+_, _-_}
 use mathlib.Core.Path.{_≡_, refl, sym, ap, _∙_}
 use mathlib.Core.List.{List}
 use native.Mathlib.Omega.{arith}
+use Rattle.derivation.specs.Rule.{Rule}
 use Rattle.derivation.specs.InOrder.{gathered}
 use Rattle.derivation.specs.Mark.{joined}
 use Rattle.derivation.proofs.Laws.{gathered-none}
@@ -15,8 +16,8 @@ use f.Tie as tie
 abbrev Inv-loop : tie.InvT-loop
 Inv-loop payload tables known first count cell₀ end mark₀ cell mark =
     (end ≡ first + count)
-    × ((starts : List ℕ) → gathered joined (tablesIn payload starts tables) known (end - cell) cell mark
-    ≡ gathered joined (tablesIn payload starts tables) known count first 0)
+    × ((rules : List Rule) (starts : List ℕ) → gathered joined (tablesIn rules payload starts tables) known (end - cell) cell mark
+    ≡ gathered joined (tablesIn rules payload starts tables) known count first 0)
 
 abbrev μ-loop : tie.MeasureT-loop
 μ-loop payload tables known first count cell₀ end mark₀ cell mark = end - cell
@@ -25,7 +26,7 @@ loop-holds : tie.Need-loop-holds Inv-loop μ-loop
 loop-holds c =
     let a = c .before .before .args in
     let e : a .first + a .count - a .first ≡ a .count = omega arith in
-    (refl, λ starts. rw e)
+    (refl, λ rules starts. rw e)
 
 loop-again : tie.Need-loop-again Inv-loop μ-loop
 loop-again c =
@@ -33,17 +34,17 @@ loop-again c =
     let l = w .before .before .before .before in
     let a = l .before .before .before .args in (
       refl,
-      λ starts. parent-turn (a .payload .now) starts (layoutOut (a .tables)) (a .known .now) (a .first + a .count) (l .loop .cell) (l .loop .mark)
+      λ rules starts. parent-turn rules (a .payload .now) starts (layoutOut (a .tables)) (a .known .now) (a .first + a .count) (l .loop .cell) (l .loop .mark)
           (w .wide .result) (omega arith) (omega arith) (w .wide .ensures ∙ w .before .u32-at .ensures)
-          (c .joined .ensures ∙ ap (joined (l .loop .mark)) (c .before .byte-at .ensures)) (l .loop .inv .1 starts),
+          (c .joined .ensures ∙ ap (joined (l .loop .mark)) (c .before .byte-at .ensures)) (l .loop .inv .1 rules starts),
     )
 
 returns : tie.Need-returns Inv-loop μ-loop
-returns c starts =
+returns c rules starts =
     let l = c .before in
     let a = l .before .before .before .args in
-    sym (gathered-none joined (tablesIn (a .payload .now) starts (a .tables)) (a .known .now) _ (l .loop .cell) (l .loop .mark) (omega arith))
-    ∙ l .loop .inv .1 starts
+    sym (gathered-none joined (tablesIn rules (a .payload .now) starts (a .tables)) (a .known .now) _ (l .loop .cell) (l .loop .mark) (omega arith))
+    ∙ l .loop .inv .1 rules starts
 
 pub by-parents-spec : {M : Type 1} → f.Statement.statement M
 by-parents-spec =

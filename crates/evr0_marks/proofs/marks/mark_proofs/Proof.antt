@@ -5,6 +5,8 @@ use mathlib.Core.Path.{_≡_, refl, sym}
 use native.Mathlib.Omega.{arith}
 use lib.ListN.{length, take, length-set}
 use lib.Seq.{length-take-le}
+use mathlib.Core.List.{List}
+use Rattle.derivation.specs.Rule.{Rule}
 use Rattle.derivation.specs.InOrder.{inOrder}
 use Rattle.derivation.specs.Mark as of
 use Rattle.evr0_pass.specs.Maps.{layoutOut, tablesIn}
@@ -16,7 +18,8 @@ abbrev Inv-loop : tie.InvT-loop
 Inv-loop payload starts tables marks₀ i₀ marks i =
     (i ≤ length starts)
     × (length marks ≡ length marks₀)
-    × (inOrder (of.markOf (tablesIn payload starts tables)) (length starts - i) i (take i marks) ≡ of.marks (tablesIn payload starts tables))
+    × ((rules : List Rule) → inOrder (of.markOf (tablesIn rules payload starts tables)) (length starts - i) i (take i marks)
+    ≡ of.marks (tablesIn rules payload starts tables))
 
 abbrev μ-loop : tie.MeasureT-loop
 μ-loop payload starts tables marks₀ i₀ marks i = length starts - i
@@ -24,7 +27,7 @@ abbrev μ-loop : tie.MeasureT-loop
 loop-holds : tie.Need-loop-holds Inv-loop μ-loop
 loop-holds c =
     let a = c .before .before .before .args in
-    (omega arith, refl, none-marked (a .payload .now) (a .starts .now) (layoutOut (a .tables)))
+    (omega arith, refl, λ rules. none-marked rules (a .payload .now) (a .starts .now) (layoutOut (a .tables)))
 
 loop-again : tie.Need-loop-again Inv-loop μ-loop
 loop-again c =
@@ -32,15 +35,16 @@ loop-again c =
     let a = l .before .before .before .before .args in (
       omega arith,
       simp length-set (l .loop .inv .1),
-      next-marked (a .payload .now) (a .starts .now) (layoutOut (a .tables)) (l .loop .i) (c .mark-after .result) (l .loop .marks) (omega arith)
-          (omega arith) (c .mark-after .ensures) (l .loop .inv .2),
+      λ rules. next-marked rules (a .payload .now) (a .starts .now) (layoutOut (a .tables)) (l .loop .i) (c .mark-after .result) (l .loop .marks) (omega arith)
+          (omega arith) (c .mark-after .ensures rules) (l .loop .inv .2 rules),
     )
 
 returns : tie.Need-returns Inv-loop μ-loop
-returns c =
+returns c rules =
     let l = c .before in
     let a = l .before .before .before .before .args in
-    all-marked (a .payload .now) (a .starts .now) (layoutOut (a .tables)) (l .loop .i) (l .loop .marks) (l .loop .inv .0) (omega arith) (l .loop .inv .2)
+    all-marked rules (a .payload .now) (a .starts .now) (layoutOut (a .tables)) (l .loop .i) (l .loop .marks) (l .loop .inv .0) (omega arith)
+    (l .loop .inv .2 rules)
 
 pub mark-proofs-spec : {M : Type 1} → f.Statement.statement M
 mark-proofs-spec =

@@ -8,7 +8,7 @@ use f.Tie as tie
 pub polarity-at-spec : {M : Type 1} → f.Statement.statement M
 polarity-at-spec =
     tie.close (tie.spec (search needs) (search needs) (search needs) (search needs)
-    (λ c starts. let a = c .before .before .before .before .args in
-    polarity-there (a .payload .now) starts (layoutOut (a .tables)) (a .witness) (c .before .before .if1 .taken))
-    (λ c starts. let a = c .before .before .args in
-    polarity-none (a .payload .now) starts (layoutOut (a .tables)) (a .witness) (c .if1 .left)))
+    (λ c rules starts. let a = c .before .before .before .before .args in
+    polarity-there rules (a .payload .now) starts (layoutOut (a .tables)) (a .witness) (c .before .before .if1 .taken))
+    (λ c rules starts. let a = c .before .before .args in
+    polarity-none rules (a .payload .now) starts (layoutOut (a .tables)) (a .witness) (c .if1 .left)))

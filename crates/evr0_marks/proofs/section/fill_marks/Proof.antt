@@ -34,7 +34,7 @@ returns c due =
     let m = k .before .before .before .before in
     let u = m .before .before in
     filled due _ _ (payload-at u .payload-of .ensures) (u .front .ensures) (parents-at u .before-parents .ensures)
-    (witnesses-at u .before-witnesses .ensures) _ (m .mark-proofs .kept .1 .1 .1 .0) (m .mark-proofs .ensures) (k .clear-bytes-from .ensures)
+    (witnesses-at u .before-witnesses .ensures) _ (m .mark-proofs .kept .1 .1 .1 .0) (m .mark-proofs .ensures _) (k .clear-bytes-from .ensures)
 
 pub fill-marks-spec : {M : Type 1} → f.Statement.statement M
 fill-marks-spec =

@@ -2,13 +2,11 @@ use mathlib.Core.Path.{sym, _∙_}
 use Prim.Native.Nat.{_+_}
 use borrow.Author.Tests.{eq-eqb, ne-eqb}
 use Rattle.local_format.specs.Field.{le}
-use Rattle.evr0_pass.specs.View.{proofView}
 use borrow.Author.Needs.{needs}
 use Rattle.evr0_pass.proofs.pass.agrees as f
 use f.Tie as tie
 
 pub agrees-spec : {M : Type 1} → f.Statement.statement M
-unfolding proofView
 agrees-spec =
     tie.close (tie.spec (search needs) (search needs)
     (λ c. let a = c .before .before .before .args in

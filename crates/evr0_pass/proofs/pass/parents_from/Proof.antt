@@ -10,7 +10,7 @@ use lib.Seq.{getD-take}
 use borrow.Author.Needs.{needs}
 use borrow.Author.Tests.{not-true, not-false, ltb-true}
 use Rattle.local_format.specs.Out.{Out, refused}
-use Rattle.derivation.specs.Rule.{fourRules}
+use Rattle.derivation.specs.Rule.{Rule}
 use Rattle.derivation.specs.Section.{Section, parentAt}
 use Rattle.derivation.specs.Pass as pass
 use Rattle.derivation.proofs.Tests.{both}
@@ -22,16 +22,16 @@ use Rattle.evr0_pass.proofs.ViewLaws.{parent-at, agrees-at}
 use Rattle.evr0_pass.proofs.pass.parents_from.Statement.{statement}
 use Rattle.evr0_pass.proofs.pass.parents_from.Tie as tie
 
-abbrev from : List ℕ → List ℕ → Layout → List ℕ → SettledProof → ℕ → ℕ → ℕ → ℕ → Out ℕ
-from payload starts tables depths proof =
-    pass.parentsFrom (tables .«parents_at») (tablesIn payload starts tables) (proofOut proof) (take (proof .«proof_id» .0) depths)
+abbrev from : List Rule → List ℕ → List ℕ → List ℕ → Layout → List ℕ → SettledProof → ℕ → ℕ → ℕ → ℕ → Out ℕ
+from rules name payload starts tables depths proof =
+    pass.parentsFrom (tables .«parents_at») (tablesIn rules payload starts tables) (proofOut name proof) (take (proof .«proof_id» .0) depths)
 
 abbrev Inv-loop : tie.InvT-loop
 Inv-loop payload starts tables depths proof number cell₀ end least₀ deepest₀ cell least deepest =
     (number ≡ proof .«proof_id» .0)
     × (end ≤ tables .counts .parents)
-    × (from payload starts tables depths proof (end - cell) cell least deepest
-    ≡ from payload starts tables depths proof (proof .«parent_count») (proof .«parent_first») 0 0)
+    × ((rules : List Rule) (name : List ℕ) → from rules name payload starts tables depths proof (end - cell) cell least deepest
+    ≡ from rules name payload starts tables depths proof (proof .«parent_count») (proof .«parent_first») 0 0)
 
 abbrev μ-loop : tie.MeasureT-loop
 μ-loop payload starts tables depths proof number cell₀ end least₀ deepest₀ cell least deepest = end - cell
@@ -41,7 +41,7 @@ loop-holds c =
     let start = c .before .before .before .before .before .before in
     let a = start .args in
     let e : c .before .wide .result + c .wide2 .result - c .before .wide .result ≡ a .proof .«parent_count» = omega arith in
-    (c .before .before .place .ensures, omega arith, rw (e, c .before .wide .ensures))
+    (c .before .before .place .ensures, omega arith, λ rules name. rw (e, c .before .wide .ensures))
 
 tests-same : {a b m n : ℕ} (k : ℕ) → a ≡ b → m ≡ n → (ltb a m && leb k a) ≡ (ltb b n && leb k b)
 tests-same k e f = rw (e, f)
@@ -54,20 +54,19 @@ module _ (c : tie.After-rises Inv-loop μ-loop) where
   abbrev start-at : tie.Start Inv-loop μ-loop
   start-at = let on = loop-at .before .before .before .before .before .before in on .before
 
-  abbrev s : Section
-  s = tablesIn (start-at .args .payload .now) (start-at .args .starts .now) (start-at .args .tables)
+  abbrev s : List Rule → Section
+  s rules = tablesIn rules (start-at .args .payload .now) (start-at .args .starts .now) (start-at .args .tables)
 
-  parent-is : parentAt s (loop-at .loop .cell) ≡ c .before .place2 .result
-  parent-is =
+  parent-is : (rules : List Rule) → parentAt (s rules) (loop-at .loop .cell) ≡ c .before .place2 .result
+  parent-is rules =
       let a = start-at .args in
-      parent-at fourRules (a .payload .now) (a .starts .now) (layoutOut (a .tables)) (loop-at .loop .cell) (omega arith)
+      parent-at rules (a .payload .now) (a .starts .now) (layoutOut (a .tables)) (loop-at .loop .cell) (omega arith)
       ∙ sym (c .before .before .u32-at .ensures)
       ∙ sym (c .before .place2 .ensures)
 
-  rise-is : (ltb (parentAt s (loop-at .loop .cell))
-      (start-at .args .proof .«proof_id» .0) && leb
-      (loop-at .loop .least) (parentAt s (loop-at .loop .cell))) ≡ c .rises .result
-  rise-is = tests-same (loop-at .loop .least) parent-is (sym (loop-at .loop .inv .0)) ∙ sym (c .rises .ensures)
+  rise-is : (rules : List Rule) → (ltb (parentAt (s rules) (loop-at .loop .cell)) (start-at .args .proof .«proof_id» .0) && leb
+      (loop-at .loop .least) (parentAt (s rules) (loop-at .loop .cell))) ≡ c .rises .result
+  rise-is rules = tests-same (loop-at .loop .least) (parent-is rules) (sym (loop-at .loop .inv .0)) ∙ sym (c .rises .ensures)
 
   below : c .rises .result ≡ true
       → c .before .place2 .result <
@@ -79,15 +78,15 @@ module _ (c : tie.After-rises Inv-loop μ-loop) where
       omega (arith, ltb-true (c .before .place2 .result) number (test .0))
 
 returns : tie.Need-returns Inv-loop μ-loop
-returns c =
+returns c rules name =
     let t = c .before .before in
     let a = start-at t .args in
     let l = loop-at t .loop in
     ap refused (c .refuse .ensures)
-    ∙ sym (parents-25 (a .tables .«parents_at») (s t) (proofOut (a .proof)) (take (a .proof .«proof_id» .0) (a .depths .now)) _ (l .cell) (l .least)
+    ∙ sym (parents-25 (a .tables .«parents_at») (s t rules) (proofOut name (a .proof)) (take (a .proof .«proof_id» .0) (a .depths .now)) _ (l .cell) (l .least)
     (l .deepest) (omega arith)
-    (rise-is t ∙ not-true (t .rises .result) (c .before .if1 .taken)))
-    ∙ l .inv .2
+    (rise-is t rules ∙ not-true (t .rises .result) (c .before .if1 .taken)))
+    ∙ l .inv .2 rules name
 
 -- ---- A turn, once the parent is compared with its proof
 module _ (c : tie.After-agrees Inv-loop μ-loop) where
@@ -97,13 +96,13 @@ module _ (c : tie.After-agrees Inv-loop μ-loop) where
   rise : turn .rises .result ≡ true
   rise = not-false (turn .rises .result) (c .before .before .if1 .left)
 
-  agree-is : let a = start-at turn .args in pass.agrees
-      (s turn) (proofOut (a .proof)) (parentAt (s turn) (loop-at turn .loop .cell)) ≡ c .agrees .result
-  agree-is =
+  agree-is : (rules : List Rule) (name : List ℕ) → let a = start-at turn .args in
+      pass.agrees (s turn rules) (proofOut name (a .proof)) (parentAt (s turn rules) (loop-at turn .loop .cell)) ≡ c .agrees .result
+  agree-is rules name =
       let start = start-at turn in
       let a = start .args in
-      ap (pass.agrees (s turn) (proofOut (a .proof))) (parent-is turn)
-      ∙ agrees-at fourRules (a .payload .now) (a .starts .now) (layoutOut (a .tables)) (proofOut (a .proof)) (turn .before .place2 .result)
+      ap (pass.agrees (s turn rules) (proofOut name (a .proof))) (parent-is turn rules)
+      ∙ agrees-at rules (a .payload .now) (a .starts .now) (layoutOut (a .tables)) (proofOut name (a .proof)) (turn .before .place2 .result)
       (omega (arith, start .pre .started, below turn rise))
       ∙ sym (c .agrees .ensures)
 
@@ -123,16 +122,16 @@ agrees-requires c κs =
     (omega (arith, start .pre .started, below t (not-false (t .rises .result) (c .before .if1 .left)))) .inside
 
 returns-2 : tie.Need-returns-2 Inv-loop μ-loop
-returns-2 c =
+returns-2 c rules name =
     let g = c .before .before in
     let t = turn g in
     let a = start-at t .args in
     let l = loop-at t .loop in
     ap refused (c .refuse2 .ensures)
-    ∙ sym (parents-26 (a .tables .«parents_at») (s t) (proofOut (a .proof)) (take (a .proof .«proof_id» .0) (a .depths .now)) _ (l .cell) (l .least)
+    ∙ sym (parents-26 (a .tables .«parents_at») (s t rules) (proofOut name (a .proof)) (take (a .proof .«proof_id» .0) (a .depths .now)) _ (l .cell) (l .least)
     (l .deepest) (omega arith)
-    (rise-is t ∙ rise g) (agree-is g ∙ not-true (g .agrees .result) (c .before .if2 .taken)))
-    ∙ l .inv .2
+    (rise-is t rules ∙ rise g) (agree-is g rules name ∙ not-true (g .agrees .result) (c .before .if2 .taken)))
+    ∙ l .inv .2 rules name
 
 shared-slice-read-larger : tie.Need-shared-slice-read-larger Inv-loop μ-loop
 shared-slice-read-larger c = let g = c .before .before in omega (
@@ -154,23 +153,23 @@ loop-again c =
     let left : end - (l .cell + 1) ≡ end - l .cell - 1 = omega arith in (
       l .inv .0,
       l .inv .1,
-      rw (left, c .larger .ensures)
-          (sym (rw (parent-is t, getD-take (a .proof .«proof_id» .0) (a .depths .now) (t .before .place2 .result) 0 (below t (rise g)))
-          at (parents-turn (a .tables .«parents_at») (s t) (proofOut (a .proof)) (take (a .proof .«proof_id» .0) (a .depths .now)) (end - l .cell)
+      λ rules name. rw (left, c .larger .ensures)
+          (sym (rw (parent-is t rules, getD-take (a .proof .«proof_id» .0) (a .depths .now) (t .before .place2 .result) 0 (below t (rise g)))
+          at (parents-turn (a .tables .«parents_at») (s t rules) (proofOut name (a .proof)) (take (a .proof .«proof_id» .0) (a .depths .now)) (end - l .cell)
           (l .cell) (l .least) (l .deepest) (omega arith)
-          (rise-is t ∙ rise g) (agree-is g ∙ not-false (g .agrees .result) (c .before .before .if2 .left))))
-          ∙ l .inv .2),
+          (rise-is t rules ∙ rise g) (agree-is g rules name ∙ not-false (g .agrees .result) (c .before .before .if2 .left))))
+          ∙ l .inv .2 rules name),
     )
 
 returns-3 : tie.Need-returns-3 Inv-loop μ-loop
-returns-3 c =
+returns-3 c rules name =
     let on = c .before .before .before .before .before .before in
     let start = on .before .before in
     let a = start .args in
     let l = c .before .loop in
-    sym (parents-none (a .tables .«parents_at») (tablesIn (a .payload .now) (a .starts .now) (a .tables)) (proofOut (a .proof))
+    sym (parents-none (a .tables .«parents_at») (tablesIn rules (a .payload .now) (a .starts .now) (a .tables)) (proofOut name (a .proof))
     (take (a .proof .«proof_id» .0) (a .depths .now)) _ (l .cell) (l .least) (l .deepest) (omega arith))
-    ∙ l .inv .2
+    ∙ l .inv .2 rules name
 
 pub parents-from-spec : {M : Type 1} → statement M
 parents-from-spec =

@@ -7,5 +7,5 @@ use f.Tie as tie
 pub has-numbers-spec : {M : Type 1} → f.Statement.statement M
 unfolding hasNumbers
 has-numbers-spec =
-    tie.close (tie.spec (search needs) (search needs) (search needs)
-    (λ c. cc))
+    tie.close (tie.spec (search needs) (search needs) (search needs) (search needs)
+    (λ c name. cc))

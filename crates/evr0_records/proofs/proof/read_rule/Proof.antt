@@ -12,7 +12,7 @@ use Rattle.local_format.specs.Maps.{u16Out}
 use Rattle.local_format.proofs.OutLaws.{told}
 use Rattle.local_format.proofs.FieldLaws.{field-ok}
 use Rattle.local_format.proofs.TextLaws.{text-is}
-use Rattle.evr0_records.specs.Maps.{namedOut}
+use Rattle.evr0_rules.specs.Maps.{namedOut}
 use Rattle.evr0_records.proofs.NameLaws.{known-plain}
 use Rattle.evr0_records.proofs.proof.read_rule as f
 use f.Tie as tie
@@ -44,7 +44,7 @@ read-rule-spec =
     let at = k .size .given .0 .1 .0 in
     let len = k .size .given .0 .0 in
     let there : at + len ≤ length s = omega (arith, within k) in
-    let p = known-plain (take (at + len - at) (drop at s)) _ (told namedOut (c .before .before .rule-named .ensures) (c .enum-told2 .given .1)) in
+    let p = known-plain (take (at + len - at) (drop at s)) _ (told (namedOut _) (c .before .before .rule-named .ensures) (c .enum-told2 .given .1)) in
     let q : length (take (at + len - at) (drop at s)) ≡ len = rw (length-take, length-drop) (omega arith) in
     text-is s (start k .args .at) len at (sym (size k)) (omega (arith, p .some)) (omega (arith, p .few)) _
     (utf8-whole s at len there (text len false) (rw q at (p .scanned))))

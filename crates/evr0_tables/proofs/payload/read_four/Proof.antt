@@ -3,17 +3,19 @@ use borrow.Author.Needs.{needs}
 use borrow.Author.Tests.{not-true, not-false}
 use Prim.Native.Nat.{_≤_}
 use mathlib.Core.Path.{_≡_, sym}
+use mathlib.Core.List.{List}
 use lib.ListN.{length}
 use Rattle.local_format.specs.Out.{Out, ok, refused}
 use Rattle.local_format.specs.Maps.{refusalOut}
 use Rattle.local_format.proofs.OutLaws.{told}
-use Rattle.derivation.specs.Rule.{fourRules}
+use Rattle.derivation.specs.Rule.{Rule}
 use Rattle.evr0_section.specs.Rows.{rows}
 use Rattle.evr0_section.specs.Proposition.{first, propositionRow}
 use Rattle.evr0_section.specs.Proof.{noneOwned, proofRow}
 use Rattle.evr0_section.specs.Section.{Four, tablesAfter}
 use Rattle.evr0_section.proofs.Inside.{propositionRowIn, proofRowIn}
 use Rattle.evr0_head.specs.Maps.{countsOut}
+use Rattle.evr0_rules.specs.Maps.{rulesIn}
 use Rattle.evr0_records.specs.Maps.{unownedOut}
 use Rattle.evr0_tables.specs.Maps.{tableOut, proofTableOut, nextIn, ownedIn}
 use Rattle.evr0_tables.specs.PayloadMaps.{placesIn}
@@ -23,10 +25,13 @@ use f.Tie as tie
 
 -- ---- The stages
 abbrev start : tie.After-read-propositions → tie.Start
-start c = c .before .before .before .before .before
+start c = c .before .before .before .before .before .before .before
+
+abbrev among : tie.After-read-propositions → List Rule
+among c = let a = start c .args in rulesIn (a .rules) (a .table .now) (a .places .now)
 
 abbrev whole : tie.After-read-propositions → Out Four
-whole c = let a = start c .args in tablesAfter fourRules (countsOut (a .counts)) (a .payload .now) (a .at)
+whole c = let a = start c .args in tablesAfter (among c) (countsOut (a .counts)) (a .payload .now) (a .at)
 
 abbrev first-at : tie.After-first2 → tie.After-read-propositions
 first-at c = c .before .before .before .before
@@ -43,7 +48,7 @@ first-is f = told tableOut (first-at f .read-propositions .ensures .0) (f .first
 
 second-is : (s : tie.After-second2) → let f = opened (second-at s) in
     let a = start (first-at f) .args in
-    ownedIn (rows (proofRow fourRules (countsOut (a .counts))) (a .counts .proofs) noneOwned (a .payload .now) (f .first2 .given .0 .0))
+    ownedIn (rows (proofRow (among (first-at f)) (countsOut (a .counts))) (a .counts .proofs) noneOwned (a .payload .now) (f .first2 .given .0 .0))
     ≡ ok (record { unowned = unownedOut (s .second2 .given .0 .0); next = s .second2 .given .0 .1 .0 })
 second-is s = told proofTableOut (second-at s .read-proofs .ensures .0) (s .second2 .given .1)
 
@@ -67,14 +72,15 @@ pub read-four-spec : {M : Type 1} → f.Statement.statement M
 read-four-spec =
     tie.close (tie.spec (search needs) (search needs) (search needs)
     (λ c κs. let f = c .before .before in
-    (start (first-at f) .pre .0 .1, first-within f)) (search needs) (search needs) (search needs) (search needs) (search needs) (search needs) returns
+    (start (first-at f) .pre .0 .1, first-within f, start (first-at f) .pre .1 .2)) (search needs) (search needs) (search needs) (search needs)
+    (search needs) (search needs) returns
     (λ c κs. let s = c .before .before .before in
     let f = opened (second-at s) in
     let a = start (first-at f) .args in (
       start (first-at f) .pre .1 .0,
-      next-within (proofRow fourRules (countsOut (a .counts))) (λ q u. proofRowIn q fourRules (countsOut (a .counts)) u) (a .payload .now)
+      next-within (proofRow (among (first-at f)) (countsOut (a .counts))) (λ q u. proofRowIn q (among (first-at f)) (countsOut (a .counts)) u) (a .payload .now)
           (a .counts .proofs) noneOwned (f .first2 .given .0 .0) (first-within f)
-          (owned-next (rows (proofRow fourRules (countsOut (a .counts))) (a .counts .proofs) noneOwned (a .payload .now) (f .first2 .given .0 .0))
+          (owned-next (rows (proofRow (among (first-at f)) (countsOut (a .counts))) (a .counts .proofs) noneOwned (a .payload .now) (f .first2 .given .0 .0))
           (second-is s)),
     )) (search needs) (search needs) (search needs)
     (λ c. let p = c .before .before .before .before .before in
@@ -118,5 +124,5 @@ read-four-spec =
       not-false (i .before .all-owned .result) (i .if1 .left),
       told tableOut (r .before .before .read-rest .ensures) (r .rest2 .given .1),
     ) in
-    both-begun fourRules _ _ _ e (sym (first-is f)) (p .read-propositions .ensures .1)
+    both-begun _ _ _ _ e (sym (first-is f)) (p .read-propositions .ensures .1)
     (q .read-proofs .ensures .1)))

@@ -2,16 +2,17 @@
 use borrow.Author.Needs.{needs}
 use Prim.Native.Nat.{_+_, _-_}
 use mathlib.Core.Path.{_≡_, refl, sym, ap, _∙_}
-use mathlib.Core.List.{[], _∷_, _++_}
+use mathlib.Core.List.{List, [], _∷_, _++_}
 use native.Mathlib.Omega.{arith}
 use lib.ListN.{length, take, length-set}
 use Rattle.local_format.specs.Out.{refused}
 use Rattle.local_format.specs.Maps.{refusalOut}
 use Rattle.local_format.proofs.OutLaws.{told}
-use Rattle.derivation.specs.Rule.{fourRules}
+use Rattle.derivation.specs.Rule.{Rule}
 use Rattle.evr0_section.specs.Proof.{noneOwned, proofRow}
 use Rattle.evr0_section.proofs.Inside.{proofRowIn}
 use Rattle.evr0_head.specs.Maps.{countsOut}
+use Rattle.evr0_rules.specs.Maps.{rulesIn}
 use Rattle.evr0_records.specs.Maps.{unownedOut}
 use Rattle.evr0_tables.specs.Maps.{proofRowOut, ownedIn}
 use Rattle.evr0_tables.proofs.TableLaws.{Stands, Stopped, starting, advance, stop, stored, read-owned, read-front, refused-front}
@@ -19,21 +20,24 @@ use Rattle.evr0_tables.proofs.tables.read_proofs as f
 use f.Tie as tie
 
 abbrev Inv-loop : tie.InvT-loop
-Inv-loop payload counts at starts₀ count unowned₀ place₀ i₀ starts unowned place i =
-    Stands (proofRow fourRules (countsOut counts)) payload (counts .proofs) at noneOwned i place (unownedOut unowned) (take i starts)
+Inv-loop rules table places payload counts at starts₀ count unowned₀ place₀ i₀ starts unowned place i =
+    Stands (proofRow (rulesIn rules table places) (countsOut counts)) payload (counts .proofs) at noneOwned i place (unownedOut unowned) (take i starts)
     × (length starts ≡ length starts₀)
 
 abbrev μ-loop : tie.MeasureT-loop
-μ-loop payload counts at starts₀ count unowned₀ place₀ i₀ starts unowned place i = counts .proofs - i
+μ-loop rules table places payload counts at starts₀ count unowned₀ place₀ i₀ starts unowned place i = counts .proofs - i
 
 abbrev start : tie.At-loop Inv-loop μ-loop → tie.Start Inv-loop μ-loop
-start l = l .before .before .before
+start l = l .before .before .before .before .before
+
+abbrev among : tie.At-loop Inv-loop μ-loop → List Rule
+among l = let a = start l .args in rulesIn (a .rules) (a .table .now) (a .places .now)
 
 module _ (c : tie.After-row Inv-loop μ-loop) where
   abbrev l : tie.At-loop Inv-loop μ-loop
   l = c .before .before .before .before
 
-  on : Stands (proofRow fourRules (countsOut (start l .args .counts))) (start l .args .payload .now) (start l .args .counts .proofs) (start l .args .at)
+  on : Stands (proofRow (among l) (countsOut (start l .args .counts))) (start l .args .payload .now) (start l .args .counts .proofs) (start l .args .at)
       noneOwned (l .loop .i + 1) (l .loop .place + c .row .given .0 .0) (unownedOut (c .row .given .0 .1 .0))
       (take (l .loop .i) (l .loop .starts) ++ (l .loop .place ∷ []))
   on = advance (l .loop .inv .0) (proofRowIn _ _ _ _) (omega arith) (told proofRowOut (c .before .before .next-proof .ensures) (c .row .given .1))
@@ -42,14 +46,15 @@ module _ (c : tie.After-row2 Inv-loop μ-loop) where
   abbrev l2 : tie.At-loop Inv-loop μ-loop
   l2 = c .before .before .before .before
 
-  stopped : Stopped (proofRow fourRules (countsOut (start l2 .args .counts))) (start l2 .args .payload .now) (start l2 .args .counts .proofs)
+  stopped : Stopped (proofRow (among l2) (countsOut (start l2 .args .counts))) (start l2 .args .payload .now) (start l2 .args .counts .proofs)
       (start l2 .args .at) noneOwned (l2 .loop .place) (refusalOut (c .row2 .given .0 .0))
   stopped = stop (l2 .loop .inv .0) (proofRowIn _ _ _ _) (omega arith) (told proofRowOut (c .before .before .next-proof .ensures) (c .row2 .given .1))
 
 pub read-proofs-spec : {M : Type 1} → f.Statement.statement M
 read-proofs-spec =
     tie.close (tie.spec Inv-loop μ-loop
-    (λ c. (starting (proofRow fourRules _) _ _ _ noneOwned (c .before .before .pre .1), refl)) (search needs) (search needs) (search needs)
+    (λ c. (starting (proofRow _ _) _ _ _ noneOwned (c .before .before .before .before .pre .1), refl))
+    (λ c κs. start (c .before) .pre .2) (search needs) (search needs)
     (search needs)
     (λ c. omega (arith, on (c .before) .within)) (search needs) (search needs)
     (λ c. let k = c .before in

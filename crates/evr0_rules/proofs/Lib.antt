@@ -1,0 +1,4 @@
+pub mod NameLaws
+pub mod RuleLaws
+pub mod LoadLaws
+pub mod FourLaws

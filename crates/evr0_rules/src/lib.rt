@@ -1,0 +1,6 @@
+// The proof rules of a section: the four, or those of a table that comes as bytes.
+pub mod find;
+pub mod four;
+pub mod load;
+pub mod rule;
+pub mod settle;
