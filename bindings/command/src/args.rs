@@ -43,6 +43,18 @@ impl Args {
         number(&word.to_string_lossy()).map(Some)
     }
 
+    /// The file after an option, where it stands among the words.
+    pub fn file(&mut self, name: &str) -> Result<Option<OsString>, Stop> {
+        let Some(at) = self.words.iter().position(|word| word == name) else {
+            return Ok(None);
+        };
+        self.words.remove(at);
+        if at == self.words.len() {
+            return Err(failed(format!("no file after {name}")));
+        }
+        Ok(Some(self.words.remove(at)))
+    }
+
     /// The one word that is left, which says `what`.
     pub fn last(self, what: &str) -> Result<OsString, Stop> {
         let unknown = |word: &OsString| word != "-" && word.as_encoded_bytes().starts_with(b"-");

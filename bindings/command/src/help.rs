@@ -31,12 +31,13 @@ pub fn of(command: &str) -> Option<&'static str> {
     Some(match command {
         "section" => {
             "\
-falgnust section FILE [--at N] [--proposition N | --proof N] [--json]
+falgnust section FILE [--at N] [--rules FILE] [--proposition N | --proof N] [--json]
 
 What the evidence section at a place holds: namespaces; propositions, each authorised or not; proofs with rule, depth
 and mark, and the way down to a witness; witnesses with span and digests.
 
   --at N           the section's place in the file; 0 where it is not given
+  --rules FILE     a table of rules in the place of the four; where it is refused, no section is looked at
   --proposition N  that proposition alone, with its proofs
   --proof N        that proof alone: its proposition, each move of the way down, the witness at its end
   --json           for scripts, on standard output, a refusal too
@@ -52,18 +53,20 @@ Examples
   falgnust section examples/joined.evr0
   falgnust section examples/joined.evr0 --proof 3
   falgnust section examples/joined.evr0 --json
+  falgnust section examples/diocese.evr0 --rules examples/diocese.rules
   cat examples/refused.evr0 | falgnust section -
 "
         }
         "page" => {
             "\
-falgnust page FILE [--at N] > page.html
+falgnust page FILE [--at N] [--rules FILE] > page.html
 
 The section at a place as one HTML page, for a browser: the propositions with search, in pages; a proposition's proofs;
 of one proof at a time a picture of its derivation, down to the witnesses. The page holds all that it needs, and loads
 nothing.
 
-  --at N  the section's place in the file; 0 where it is not given
+  --at N        the section's place in the file; 0 where it is not given
+  --rules FILE  a table of rules in the place of the four
 
 Example
   falgnust page examples/joined.evr0 > page.html

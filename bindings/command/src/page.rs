@@ -4,8 +4,9 @@
 use crate::Stop;
 use crate::args::Args;
 use crate::refusal::Refusal;
-use crate::section::{HEADINGS, Section};
+use crate::section::{self, HEADINGS, Section};
 use crate::source::Source;
+use falgnust::evr0::RuleTable;
 
 const FRAME: &str = include_str!("page/page.html");
 const STYLE: &str = include_str!("page/style.css");
@@ -13,16 +14,21 @@ const SCRIPT: &str = include_str!("page/script.js");
 
 pub fn run(mut args: Args, answer: &mut Vec<u8>) -> Result<(), Stop> {
     let at = args.number("--at")?.unwrap_or(0);
+    let rules = section::table(&mut args)?;
     let source = Source::read(&args.last("file")?)?;
-    match page(&source, at) {
+    let rules = match rules {
+        Ok(rules) => rules,
+        Err(refused) => return refused.end(false, answer),
+    };
+    match page(&source, at, rules.as_ref()) {
         Ok(page) => answer.extend(page.bytes()),
         Err(refusal) => refusal.of(source, HEADINGS).end(false, answer)?,
     }
     Ok(())
 }
 
-fn page(source: &Source, at: usize) -> Result<String, Refusal> {
-    let section = Section::decode(&source.bytes, at)?.json(&source.name);
+fn page(source: &Source, at: usize, rules: Option<&RuleTable>) -> Result<String, Refusal> {
+    let section = Section::decode(&source.bytes, at, rules)?.json(&source.name);
     let mut page = String::new();
     let mut rest = FRAME;
     for (mark, text) in [

@@ -7,7 +7,7 @@ use crate::json::Json;
 use crate::paint::{Paint, Style};
 use crate::source::Source;
 use falgnust::calls;
-use falgnust::evr0::{Evr0Error, Evr0ErrorKind};
+use falgnust::evr0::{Evr0Error, Evr0ErrorKind, RulesError};
 use falgnust::locks::ClaimError;
 use falgnust::semcode_decode::DecodeError;
 
@@ -50,6 +50,17 @@ impl From<Evr0Error> for Refusal {
             number: error.number().expect("a number of every refusal"),
             offset: error.offset,
             message: Some(error.message.to_owned()),
+        }
+    }
+}
+
+impl From<RulesError> for Refusal {
+    fn from(error: RulesError) -> Self {
+        Refusal {
+            kind: "Added",
+            number: error.number().expect("a number of every refusal"),
+            offset: error.offset,
+            message: None,
         }
     }
 }

@@ -4,21 +4,24 @@ use crate::Stop;
 use crate::args::Args;
 use crate::paint::Paint;
 use crate::progress::ask_all;
-use crate::refusal::Refusal;
+use crate::refusal::{Refusal, Refused};
 use crate::source::Source;
-use falgnust::calls;
-use falgnust::evr0::{self, DecodedEvr0, Proof};
+use falgnust::evr0::{DecodedEvr0, Proof, RuleTable};
 use falgnust::raw::WayDown;
 use lent::Lent;
+use rules::Rules;
 use std::io;
 
 mod lent;
 mod one;
+mod rules;
 mod script;
 mod tables;
 
 /// The headings of docs/REFUSALS.md that speak of sections.
 pub const HEADINGS: &[&str] = &["Sections"];
+/// Those that speak of tables of rules.
+const OF_RULES: &[&str] = &["Tables of rules"];
 
 /// The most moves of a way down in an accepted section.
 const MOST_MOVES: u64 = 255;
@@ -26,6 +29,7 @@ const MOST_MOVES: u64 = 255;
 /// A section, with what the proved functions say of its proofs beside the records.
 pub struct Section<'a> {
     bytes: &'a [u8],
+    rules: Rules<'a>,
     /// Where it starts in the file, and where it ends.
     at: usize,
     end: usize,
@@ -35,15 +39,21 @@ pub struct Section<'a> {
 }
 
 impl<'a> Section<'a> {
-    pub fn decode(bytes: &'a [u8], at: usize) -> Result<Self, Refusal> {
+    pub fn decode(
+        bytes: &'a [u8],
+        at: usize,
+        rules: Option<&'a RuleTable>,
+    ) -> Result<Self, Refusal> {
+        let rules = Rules(rules);
         let mut end = at;
-        let records = evr0::decode_evr0_section(bytes, &mut end)?;
+        let records = rules.decode(bytes, &mut end)?;
         let mut lent = Lent::to(&records);
         let (tables, marks) = lent.tables();
-        let again = calls::decode_evr0_section(bytes, at, tables, marks);
+        let again = rules.marked(bytes, at, tables, marks);
         assert!(again.accepted, "the same section");
         Ok(Section {
             bytes,
+            rules,
             at,
             end,
             records,
@@ -56,7 +66,9 @@ impl<'a> Section<'a> {
     fn authorised(&self, propositions: &[u32]) -> Vec<bool> {
         let ask = |lent: &mut Lent, number| {
             let (tables, marks) = lent.tables();
-            let answer = calls::authorised(self.bytes, self.at, number, tables, marks);
+            let answer = self
+                .rules
+                .authorised(self.bytes, self.at, number, tables, marks);
             assert!(answer.accepted, "a proposition of the section");
             answer.authorised
         };
@@ -71,7 +83,10 @@ impl<'a> Section<'a> {
     }
 
     fn way_down(&self, proof: u32, limit: u64, lent: &mut Lent) -> WayDown {
-        let answer = calls::way_down(self.bytes, self.at, proof, limit, lent.tables().0);
+        let tables = lent.tables().0;
+        let answer = self
+            .rules
+            .way_down(self.bytes, self.at, proof, limit, tables);
         assert!(answer.accepted, "a proof of the section");
         answer
     }
@@ -118,16 +133,39 @@ pub fn run(mut args: Args, answer: &mut Vec<u8>) -> Result<(), Stop> {
             return Err(Stop::Failed(why.to_owned()));
         }
     };
+    let rules = table(&mut args)?;
     let source = Source::read(&args.last("file")?)?;
-    match shown(&source, at, asked, is_script) {
+    let rules = match rules {
+        Ok(rules) => rules,
+        Err(refused) => return refused.end(is_script, answer),
+    };
+    match shown(&source, at, rules.as_ref(), asked, is_script) {
         Ok(shown) => answer.extend(shown.bytes()),
         Err(refusal) => refusal.of(source, HEADINGS).end(is_script, answer)?,
     }
     Ok(())
 }
 
-fn shown(source: &Source, at: usize, asked: Asked, is_script: bool) -> Result<String, Refusal> {
-    let section = Section::decode(&source.bytes, at)?;
+/// The table of `--rules`, or its refusal.
+pub fn table(args: &mut Args) -> Result<Result<Option<RuleTable>, Refused>, Stop> {
+    let Some(file) = args.file("--rules")? else {
+        return Ok(Ok(None));
+    };
+    let source = Source::read(&file)?;
+    Ok(match RuleTable::load(&source.bytes) {
+        Ok(table) => Ok(Some(table)),
+        Err(error) => Err(Refusal::from(error).of(source, OF_RULES)),
+    })
+}
+
+fn shown(
+    source: &Source,
+    at: usize,
+    rules: Option<&RuleTable>,
+    asked: Asked,
+    is_script: bool,
+) -> Result<String, Refusal> {
+    let section = Section::decode(&source.bytes, at, rules)?;
     let paint = Paint::of(&io::stdout());
     let shown = match asked {
         Asked::All if is_script => format!("{}\n", section.json(&source.name)),

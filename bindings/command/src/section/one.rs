@@ -7,7 +7,7 @@ use super::{MOST_MOVES, Section, witnesses};
 use crate::json::{Json, list};
 use crate::paint::{Paint, Style};
 use crate::refusal::Refusal;
-use falgnust::evr0::{self, Proof};
+use falgnust::evr0::Proof;
 use falgnust::raw::WayDown;
 
 impl Section<'_> {
@@ -18,7 +18,7 @@ impl Section<'_> {
         is_script: bool,
         paint: Paint,
     ) -> Result<String, Refusal> {
-        let asked = evr0::proposition_number(self.bytes, self.at, number)?;
+        let asked = self.rules.proposition(self.bytes, self.at, number)?;
         asked.ok_or(Refusal::NO_SUCH_NUMBER)?;
         let of_it = |proof: &u32| self.proof(*proof).proposition_index == number;
         let proofs: Vec<u32> = self.all_proofs().into_iter().filter(of_it).collect();
@@ -36,7 +36,7 @@ impl Section<'_> {
 
     /// A proof with its proposition, each proof on its way down, and the witness there.
     pub fn one_proof(&self, number: u32, is_script: bool, paint: Paint) -> Result<String, Refusal> {
-        let asked = evr0::proof_number(self.bytes, self.at, number)?;
+        let asked = self.rules.proof(self.bytes, self.at, number)?;
         let proposition = asked.ok_or(Refusal::NO_SUCH_NUMBER)?.proposition_index;
         let mut lent = Lent::to(&self.records);
         let end = self.way_down(number, MOST_MOVES, &mut lent);
