@@ -121,7 +121,9 @@ fn block(code: &[u8]) -> u64 {
     match decode_block(code) {
         Ok(b) => {
             let paths = b.borrowed_paths.len() + b.write_paths.len();
-            (b.strings.len() + b.debug_symbols.len() + paths + b.instr_start_offset) as u64
+            let families = b.signature.map_or(0, |signature| signature.families.len());
+            (b.strings.len() + b.debug_symbols.len() + paths + families + b.instr_start_offset)
+                as u64
         }
         Err(error) => error.offset().unwrap_or_default() as u64,
     }
