@@ -4,7 +4,7 @@ use mathlib.Core.Bool.{true, false}
 use lib.ListN.{replicate}
 use Rattle.local_format.specs.Out.{Out, ok, refused}
 use Rattle.lock_rules.specs.Lock.{Part}
-use Rattle.locks.specs.Read.{Head}
+use Rattle.lock_register.specs.Read.{Head}
 use Rattle.falgnust.specs.Maps.{flatRefusal, noRefusal}
 use Rattle.falgnust.specs.BlockMaps.{noParts}
 use Rattle.falgnust.specs.declared.register.Claimed.{Claimed}

@@ -2,24 +2,26 @@
 ghost use mathlib.Core.Path.{_≡_};
 ghost use lib.ListN.{length};
 ghost use Rattle.semcode_decode.specs.Layout.{tables};
-ghost use Rattle.locks.specs.Words.{locksIn};
-ghost use Rattle.locks.specs.Claim.{Claims, Releases};
-ghost use Rattle.locks.specs.Read.{lockNumber, partNumber};
-ghost use Rattle.locks.specs.Maps.{claimOut, lockOut, partOut};
+ghost use Rattle.lock_words.specs.Words.{locksIn};
+ghost use Rattle.lock_register.specs.Release.{Releases};
+ghost use Rattle.locks.specs.Claim.{Claims};
+ghost use Rattle.lock_register.specs.Read.{lockNumber, partNumber};
+ghost use Rattle.lock_register.specs.Maps.{lockOut, partOut};
+ghost use Rattle.locks.specs.Maps.{claimOut};
 ghost use Rattle.falgnust.specs.LockMaps.{flatClaim, flatLock, flatLockPart};
 use crate::record::Parts;
 use crate::refusal::Refusal;
 use crate::refusal::flat_refusal;
 use crate::refusal::no_refusal;
+use lock_register::read::LockRead;
+use lock_register::read::PartRead;
+use lock_register::read::held;
+use lock_register::read::lock_number;
+use lock_register::read::lock_part;
+use lock_register::release::release;
+use lock_words::source::source_bytes;
 use locks::claim::Answer;
 use locks::claim::claim;
-use locks::read::LockRead;
-use locks::read::PartRead;
-use locks::read::held;
-use locks::read::lock_number;
-use locks::read::lock_part;
-use locks::release::release;
-use locks::source::source_bytes;
 
 // ---- Claims and releases
 

@@ -22,10 +22,11 @@ use Rattle.lock_rules.proofs.ClaimLaws.{claimed-ok, Met, met-exactly}
 use Rattle.lock_rules.proofs.SequenceLaws.{always-safe, at-most-256}
 use Rattle.lock_rules.proofs.RootLaws.{same-either, fewer}
 use Rattle.lock_rules.proofs.OneSetLaws.{one-set}
-use Rattle.locks.specs.Words.{locksIn}
-use Rattle.locks.specs.Claim.{claimIn, Left, Claims, Releases}
+use Rattle.lock_words.specs.Words.{locksIn}
+use Rattle.locks.specs.Claim.{claimIn, Left, Claims}
+use Rattle.lock_register.specs.Release.{Releases}
 use Rattle.locks.specs.Call.{Calls, none, claims, releases}
-use Rattle.locks.proofs.LockLaws.{empty}
+use Rattle.lock_register.proofs.LockLaws.{empty}
 
 abbrev Locks : Type 0
 Locks = List (Lock Root)

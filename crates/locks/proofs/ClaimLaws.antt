@@ -16,9 +16,11 @@ use Rattle.lock_rules.specs.Lock.{Lock, lockOf}
 use Rattle.lock_rules.specs.Register.{any, longPath, hindered, claimed}
 use Rattle.lock_rules.proofs.ListLaws.{any-append, map-append}
 use Rattle.lock_rules.specs.Source.{Root, sameRoot, rootUnder}
-use Rattle.locks.specs.Words.{lockIn, locksTo, locksIn, heldIn}
-use Rattle.locks.specs.Phase.{Placed, metBy, Front, FrontOf, KeyOf, noPath, Listed, LongAnswer, MetAnswer, Stored, TriedPaths}
-use Rattle.locks.proofs.LockLaws.{locks-length, locks-put, locks-counted}
+use Rattle.lock_words.specs.Words.{lockIn, locksTo, locksIn, heldIn}
+use Rattle.lock_words.specs.Place.{Placed}
+use Rattle.lock_register.specs.Meet.{metBy}
+use Rattle.locks.specs.Phase.{Front, FrontOf, KeyOf, noPath, Listed, LongAnswer, MetAnswer, Stored, TriedPaths}
+use Rattle.lock_register.proofs.LockLaws.{locks-length, locks-put, locks-counted}
 
 -- ---- Some of a list
 

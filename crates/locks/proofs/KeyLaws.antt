@@ -20,7 +20,7 @@ use Rattle.semcode_records.proofs.PathLaws.{kind-read, is-known, path-component
 use Rattle.lock_rules.specs.Lock.{Part, Lock, isWrite, partOf}
 use Rattle.lock_rules.proofs.ListLaws.{map-append}
 use Rattle.lock_rules.specs.Source.{Root, rootUnder}
-use Rattle.locks.specs.Words.{partIn, partsIn, sourceOf, sourceIn, rootIn, lockIn}
+use Rattle.lock_words.specs.Words.{partIn, partsIn, sourceOf, sourceIn, rootIn, lockIn}
 use Rattle.locks.specs.Phase.{Front, FrontOf, partsOf, Filled, KeyOf}
 
 -- ---- What stands in front of the components

@@ -1,10 +1,3 @@
-pub mod WordLaws
-pub mod PlaceLaws
-pub mod LockLaws
-pub mod ReadLaws
-pub mod RootLaws
-pub mod SourceLaws
-pub mod MeetLaws
 pub mod KeyLaws
 pub mod ClaimLaws
 pub mod BlockLaws

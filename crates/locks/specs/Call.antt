@@ -7,7 +7,8 @@ use Rattle.semcode_decode.specs.Number.{decodeAnew}
 use Rattle.lock_rules.specs.Register.{Step}
 use Rattle.lock_rules.specs.Register as step
 use Rattle.lock_rules.specs.Source.{Root, rootUnder}
-use Rattle.locks.specs.Claim.{Claims, Releases}
+use Rattle.locks.specs.Claim.{Claims}
+use Rattle.lock_register.specs.Release.{Releases}
 
 pub data Calls : List ℕ → List (Step Root) → List (Out ℕ) → List ℕ → Type 0 where
   none : {words : List ℕ} → Calls words [] [] words

@@ -1,16 +1,15 @@
--- What a claim and a release promise of a register's words, and of the lent tables.
+-- What a claim promises of a register's words, and of the lent tables.
 use mathlib.Core.Path.{_≡_}
 use Prim.Native.Nat.{ℕ}
 use mathlib.Core.List.{List}
-use lib.ListN.{length}
 use Rattle.local_format.specs.Out.{Out, ok, refused, _>>_}
 use Rattle.semcode_decode.specs.Block.{Block}
 use Rattle.semcode_decode.specs.Layout.{Lent, Leaves}
 use Rattle.semcode_decode.specs.Number.{decodeAnew}
 use Rattle.lock_rules.specs.Lock.{Lock}
-use Rattle.lock_rules.specs.Register.{heldCount, claim, release}
+use Rattle.lock_rules.specs.Register.{heldCount, claim}
 use Rattle.lock_rules.specs.Source.{Root, sameRoot, rootUnder}
-use Rattle.locks.specs.Words.{locksIn}
+use Rattle.lock_words.specs.Words.{locksIn}
 
 -- the locks held after a claim of a block's paths, under a source set
 abbrev pub claimIn : List ℕ → ℕ → List ℕ → Out Block → Out (List (Lock Root))
@@ -33,8 +32,3 @@ abbrev pub Claims : {A : Type 0} → (Out ℕ → A) → List ℕ → ℕ → �
 Claims due source owner base revision code words words′ before after told =
     let block = decodeAnew base revision code before in
     Claimed due block (claimIn source owner words block) words words′ before after told
-
--- a release leaves the locks of the other owners, and tells how many these are
-pub record Releases (owner : ℕ) (words words′ : List ℕ) (told : ℕ) : Type 0 where
-  pub register : locksIn words′ ≡ release owner (locksIn words)
-  pub answer : told ≡ length (locksIn words′)

@@ -1,5 +1,3 @@
-pub mod Words
-pub mod Read
 pub mod Claim
 pub mod Call
 pub mod Phase

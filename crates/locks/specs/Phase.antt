@@ -1,55 +1,18 @@
--- What the functions inside promise: words put in a lock's place, the key of a path, and the phases of a claim.
+-- What the functions inside promise: the key of a path, and the phases of a claim.
 use mathlib.Core.Path.{_≡_}
-use Prim.Native.Nat.{ℕ, _<_, _≤_}
+use Prim.Native.Nat.{ℕ, _<_}
 use mathlib.Core.List.{List, _++_, map}
-use mathlib.Core.Bool.{Bool, false, _||_}
+use mathlib.Core.Bool.{Bool, false}
 use lib.ListN.{length, getD, take, drop}
 use Rattle.local_format.specs.Out.{Out, ok}
 use Rattle.semcode_records.specs.Records.{Taken, taken, Table, noRecords, records}
 use Rattle.semcode_records.specs.Component.{Component}
 use Rattle.semcode_records.specs.Path.{Path, borrow, noActivation, kindOfEvent, pathAt}
-use Rattle.lock_rules.specs.Lock.{Part, partOf, Lock, lockOf, begins, hinders}
+use Rattle.lock_rules.specs.Lock.{Part, partOf, Lock, lockOf}
 use Rattle.lock_rules.specs.Register.{any, longPath, heldCount, hindered, claimed}
 use Rattle.lock_rules.specs.Source.{Root, sameRoot, rootUnder}
-use Rattle.locks.specs.Words.{partIn, partsIn, lockIn, slot, locksIn}
+use Rattle.lock_words.specs.Words.{partIn, lockIn, locksIn}
 use Rattle.locks.specs.Claim.{Left}
-
--- ---- Places
-
--- the words of a register
-abbrev pub Register : List ℕ → Type 0
-Register words = length words ≡ 6145
-
--- a lock's place among a register's words
-pub record Place (words : List ℕ) (lock : ℕ) : Type 0 where
-  pub register : length words ≡ 6145
-  pub there : lock < 256
-
--- one lock has been given other words
-pub record Placed (words after : List ℕ) (lock : ℕ) (ws : List ℕ) : Type 0 where
-  pub here : slot after lock ≡ ws
-  pub others : (j : ℕ) → (j ≡ lock → ⊥) → slot after j ≡ slot words j
-  pub same : length after ≡ length words
-
--- ---- Meeting
-
--- one's parts are the beginning of the other's
-abbrev pub eitherBegins : List ℕ → List ℕ → Bool
-eitherBegins a b = begins (partsIn a) (partsIn b) || begins (partsIn b) (partsIn a)
-
--- whether lock i stands against a key
-abbrev pub metAt : List ℕ → ℕ → List ℕ → Bool
-metAt words i key = hinders sameRoot (lockIn (slot words i)) (lockIn key)
-
--- a lock among these that stands against another
-abbrev pub metBy : Lock Root → List (Lock Root) → Bool
-metBy key held = any (λ l. hinders sameRoot l key) held
-
--- no lock from one number up to another stands against a key
-pub record Passed (words : List ℕ) (from to most : ℕ) (key : List ℕ) : Type 0 where
-  pub on : from ≤ to
-  pub within : to ≤ most
-  pub none : (j : ℕ) → from ≤ j → j < to → metAt words j key ≡ false
 
 -- ---- A key: the 24 words of the lock that an owner takes on a path
 

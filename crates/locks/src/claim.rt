@@ -1,25 +1,27 @@
 // A claim: all paths of a block, or none.
 use crate::key::path_key;
 use crate::key::read_front;
-use crate::meet::hindered;
-use crate::place::put_lock;
-use crate::source::Source;
-use crate::source::source_words;
-use crate::words::count;
 use lent_table::clear;
 use lent_table::clear_bytes;
 use local_format::refusal::Refusal;
 use local_format::refusal::refuse;
+use lock_register::meet::hindered;
+use lock_words::place::put_lock;
+use lock_words::source::Source;
+use lock_words::source::source_words;
+use lock_words::words::count;
 use semcode_decode::decode::Parse;
 use semcode_decode::decode::parse_block;
 use semcode_decode::decode::parse_refusal;
 ghost use Prim.Native.Nat.{_+_, _≤_};
 ghost use lib.ListN.{length};
 ghost use Rattle.semcode_decode.specs.Layout.{tables};
-ghost use Rattle.locks.specs.Words.{heldIn};
+ghost use Rattle.lock_words.specs.Words.{heldIn};
 ghost use Rattle.locks.specs.Claim.{Claims};
-ghost use Rattle.locks.specs.Phase.{Register, LongAnswer, MetAnswer, Stored, TriedPaths};
-ghost use Rattle.locks.specs.Maps.{claimOut, sourceIs};
+ghost use Rattle.lock_words.specs.Place.{Register};
+ghost use Rattle.locks.specs.Phase.{LongAnswer, MetAnswer, Stored, TriedPaths};
+ghost use Rattle.locks.specs.Maps.{claimOut};
+ghost use Rattle.lock_words.specs.Maps.{sourceIs};
 
 // Some path has more than 16 components.
 fn any_long(code: &[u8], header_rev: u16, starts: &[u64], paths: usize) -> bool

@@ -1,13 +1,13 @@
 // The key of a path: the 24 words of the lock that an owner takes on it.
-use crate::source::Source;
-use crate::words::component_word;
-use crate::words::parts;
 use local_format::field::U8;
 use local_format::field::U16;
 use local_format::field::U32;
 use local_format::field::read_u8;
 use local_format::field::read_u16_le;
 use local_format::field::read_u32_le;
+use lock_words::source::Source;
+use lock_words::words::component_word;
+use lock_words::words::parts;
 use semcode_records::component::Component;
 use semcode_records::component::read_component;
 use semcode_records::path::Event;
@@ -18,7 +18,8 @@ ghost use lib.ListN.{length};
 ghost use Rattle.semcode_records.specs.Component.{componentAt};
 ghost use Rattle.semcode_records.specs.Path.{pathAt};
 ghost use Rattle.locks.specs.Phase.{FrontOf, Filled, KeyOf};
-ghost use Rattle.locks.specs.Maps.{frontIs, sourceIs};
+ghost use Rattle.locks.specs.Maps.{frontIs};
+ghost use Rattle.lock_words.specs.Maps.{sourceIs};
 
 // What stands in front of a path's components: the byte of its event's kind, its root, how many components it has, and where they start.
 pub struct Front {

@@ -2,15 +2,15 @@
 // equal symbols. Each line is a call and its answer; at the end stand the locks that are held.
 use libc::STDOUT_FILENO;
 use local_format::refusal::Refusal;
+use lock_register::read::LockRead;
+use lock_register::read::PartRead;
+use lock_register::read::held;
+use lock_register::read::lock_number;
+use lock_register::read::lock_part;
+use lock_register::release::release;
+use lock_words::source::source_bytes;
 use locks::claim::Answer;
 use locks::claim::claim;
-use locks::read::LockRead;
-use locks::read::PartRead;
-use locks::read::held;
-use locks::read::lock_number;
-use locks::read::lock_part;
-use locks::release::release;
-use locks::source::source_bytes;
 
 fn number(title: &[u8], n: u64) {
     io::write_all(STDOUT_FILENO, title);

@@ -3,7 +3,7 @@ use mathlib.Core.Path.{sym, _∙_}
 use Prim.Native.Nat.{_≤_, _-_}
 use native.Mathlib.Omega.{arith}
 use borrow.Author.Needs.{needs}
-use Rattle.locks.specs.Maps.{sourceIs}
+use Rattle.lock_words.specs.Maps.{sourceIs}
 use Rattle.locks.proofs.ClaimLaws.{Free, free-none, met-found, free-more, free-all}
 use Rattle.locks.proofs.claim.any_met as f
 use f.Tie as tie

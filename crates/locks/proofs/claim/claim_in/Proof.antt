@@ -5,7 +5,8 @@ use Rattle.local_format.specs.Maps.{refusalOf}
 use Rattle.semcode_decode.specs.declared.decode.Parse.{Parse}
 use Rattle.semcode_decode.specs.Layout.{Lent, tables}
 use Rattle.semcode_decode.specs.Maps.{parseOut}
-use Rattle.locks.specs.Maps.{claimOut, sourceIs}
+use Rattle.locks.specs.Maps.{claimOut}
+use Rattle.lock_words.specs.Maps.{sourceIs}
 use Rattle.locks.proofs.BlockLaws.{block-refused, starts-room, paths-held, paths-refused}
 use Rattle.locks.proofs.claim.claim_in as f
 use f.Tie as tie

@@ -3,7 +3,7 @@ use mathlib.Core.Path.{refl}
 use Prim.Native.Nat.{_≤_, _-_}
 use native.Mathlib.Omega.{arith}
 use borrow.Author.Needs.{needs}
-use Rattle.locks.specs.Maps.{sourceIs}
+use Rattle.lock_words.specs.Maps.{sourceIs}
 use Rattle.locks.proofs.ClaimLaws.{Storing, storing, stores, stored}
 use Rattle.locks.proofs.claim.store as f
 use f.Tie as tie

@@ -1,0 +1,4 @@
+pub mod LockLaws
+pub mod ReadLaws
+pub mod RootLaws
+pub mod MeetLaws

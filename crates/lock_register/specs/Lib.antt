@@ -1,0 +1,4 @@
+pub mod Read
+pub mod Meet
+pub mod Release
+pub mod Maps

@@ -1,6 +1,0 @@
--- Meets its contract: the register has 6,145 words.
-use borrow.Author.Needs.{needs}
-use Rattle.locks.proofs.release.release as f
-
-pub release-spec : {M : Type 1} → f.Statement.statement M
-release-spec = f.Tie.close (f.Tie.spec (search needs) (λ c. c .release-in .ensures))
