@@ -1,6 +1,6 @@
 #!/usr/bin/env python3
-"""Writes the example sections beside this file: specimen 4 of docs/01-scope.md, which is accepted; specimen 5, which is refused; and one in
-which a positive and a negative proof are joined.
+"""Writes the example sections beside this file: specimen 4 of docs/01-scope.md, which is accepted; specimen 5, which is refused; one in
+which a positive and a negative proof are joined; and two that differ, as of two compilers that translated the same sources.
 
 What the specimens leave free (the digests, the epoch, owner, scope, type and the span) is zeros.
 """
@@ -36,9 +36,9 @@ def witness(number, proposition, polarity, file=DIGEST, span=(0, 0), origin=DIGE
     return u32(number, proposition) + bytes([polarity, 0, 0, 0]) + file + u32(*span) + origin
 
 
-def section(propositions, proofs, witnesses, parents):
+def section(propositions, proofs, witnesses, parents, source_set=DIGEST, compiler=DIGEST):
     schema, flags, epoch = 1, 0, 0
-    payload = u16(schema) + u16(flags) + DIGEST + DIGEST + u16(epoch) + text(b"a") + text(b"b")
+    payload = u16(schema) + u16(flags) + source_set + compiler + u16(epoch) + text(b"a") + text(b"b")
     payload += u32(len(propositions), len(proofs), len(witnesses), len(parents))
     payload += b"".join(propositions + proofs + witnesses) + u32(*parents)
     return b"EVR0" + u32(len(payload)) + payload
@@ -78,8 +78,51 @@ def joined():
     )
 
 
+SOURCES = bytes(range(32))
+
+
+def first():
+    """A baptism that is authorised, another that is, a burial, and a wedding that has a proof but no operation."""
+    return section(
+        [proposition(b"baptism", 3, 5, 8), proposition(b"baptism", 3, 6, 8), proposition(b"burial", 4, 1, 2), proposition("wedding of Åsa".encode(), 9, 0, 1)],
+        [
+            proof(0, 0, b"POS-WITNESS-1", 7, (0, 1), (0, 0), 0),
+            proof(1, 0, b"OP-T-ONLY-1", 7, (1, 0), (0, 1), 1),
+            proof(2, 1, b"POS-WITNESS-1", 7, (1, 1), (1, 0), 0),
+            proof(3, 1, b"OP-T-ONLY-1", 7, (2, 0), (1, 1), 1),
+            proof(4, 3, b"POS-WITNESS-1", 7, (2, 1), (2, 0), 0),
+        ],
+        [witness(0, 0, 1), witness(1, 1, 1), witness(2, 3, 1)],
+        [0, 2],
+        SOURCES,
+        bytes([1] * 32),
+    )
+
+
+def second():
+    """The same baptisms, of which the second has its operation on a join of a positive and a negative proof; a burial of another type; and the wedding
+    without a proof."""
+    return section(
+        [proposition(b"baptism", 3, 5, 8), proposition(b"baptism", 3, 6, 8), proposition(b"burial", 4, 1, 3), proposition("wedding of Åsa".encode(), 9, 0, 1)],
+        [
+            proof(0, 0, b"POS-WITNESS-1", 7, (0, 1), (0, 0), 0),
+            proof(1, 0, b"OP-T-ONLY-1", 7, (1, 0), (0, 1), 1),
+            proof(2, 1, b"POS-WITNESS-1", 7, (1, 1), (1, 0), 0),
+            proof(3, 1, b"NEG-WITNESS-1", 7, (2, 1), (1, 0), 0),
+            proof(4, 1, b"JOIN-SAME-P-1", 7, (3, 0), (1, 2), 0),
+            proof(5, 1, b"OP-T-ONLY-1", 7, (3, 0), (3, 1), 1),
+        ],
+        [witness(0, 0, 1), witness(1, 1, 1), witness(2, 1, 0)],
+        [0, 2, 3, 4],
+        SOURCES,
+        bytes([2] * 32),
+    )
+
+
 if __name__ == "__main__":
     here = pathlib.Path(__file__).parent
     (here / "accepted.evr0").write_bytes(specimen(0))
     (here / "refused.evr0").write_bytes(specimen(1))
     (here / "joined.evr0").write_bytes(joined())
+    (here / "first.evr0").write_bytes(first())
+    (here / "second.evr0").write_bytes(second())

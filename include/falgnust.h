@@ -27,7 +27,7 @@ extern "C" {
 
 /* The version of this header: ten thousand times the first number, a hundred times the second, and the third. The first rises where a
  * struct, an argument or an answer changes, and the second where something is added. */
-#define FALGNUST_VERSION 60100
+#define FALGNUST_VERSION 60200
 
 /* Layouts: the size of each struct below is that of the struct in crates/falgnust/src. */
 #define FALGNUST_SIZE(type, size) FALGNUST_ASSERT(sizeof(type) == (size), #type " has another layout")
@@ -51,14 +51,14 @@ enum {
 
 typedef struct FalgnustRefusal {
     uint8_t kind;
-    uint8_t number; /* 1 to 73; 0 in an accepted answer */
+    uint8_t number; /* 1 to 74; 0 in an accepted answer */
     size_t offset;
 } FalgnustRefusal;
 FALGNUST_SIZE(FalgnustRefusal, 16);
 
 /* The message of each number, in the Rust's words; after those of 31, 36 and 73 the Rust writes the count; 63, 64 and 72 have three each
- * there, and 71 two; it has none of 61, 62 and 66 to 70. 0 stands for no refusal. */
-static const char *const FALGNUST_MESSAGES[74] = {
+ * there, and 71 two; it has none of 61, 62, 66 to 70 and 74. 0 stands for no refusal. */
+static const char *const FALGNUST_MESSAGES[75] = {
     "accepted",
     "missing mandatory EVR0 section",
     "EVR0 length truncated",
@@ -132,7 +132,8 @@ static const char *const FALGNUST_MESSAGES[74] = {
     "rule's name given twice",
     "OWN0 or SIG0 section missing",
     "parameter count or family cut, or family unknown",
-    "too many callable-signature parameters: "
+    "too many callable-signature parameters: ",
+    "source sets differ"
 };
 
 /* ---- Evidence sections ----
@@ -329,6 +330,74 @@ FalgnustAuthorised falgnust_authorised(
     uint64_t *depths, size_t depths_len,
     uint8_t *marks, size_t marks_len);
 
+/* The same of every proposition, in one pass: the answer and the four tables of falgnust_decode_evr0_section, and authorised[i] is 1 where
+ * proposition i is authorised, else 0. That table is to be as long as the one of propositions: the shorter of the two decides whether 61 is
+ * given. Whoever lists a section asks this and not falgnust_authorised of each proposition, which decodes it each time. */
+FalgnustSection falgnust_authorised_table(
+    const uint8_t *bytes, size_t bytes_len, size_t cursor,
+    uint64_t *propositions, size_t propositions_len,
+    uint64_t *proofs, size_t proofs_len,
+    uint64_t *depths, size_t depths_len,
+    uint8_t *marks, size_t marks_len,
+    uint8_t *authorised, size_t authorised_len);
+
+/* ---- Two sections compared ----
+ *
+ * Two compilers translate the same sources, and their sections are held against each other. Each section stands in its bytes at its cursor, and
+ * has five lent tables of its own, those of falgnust_authorised_table; one part of bytes may serve as both. Propositions are matched on kind, owner,
+ * scope and type. Each that either section has stands once in a list, in the order of propositions, as a verdict in the lent table `verdicts`. */
+
+/* Authorised in both or in neither; in one of the two alone; a proposition of the first section alone; of the second alone. */
+enum {
+    FALGNUST_AGREED = 1,
+    FALGNUST_CONTRADICTED = 2,
+    FALGNUST_FIRST_ONLY = 3,
+    FALGNUST_SECOND_ONLY = 4
+};
+
+/* Whose refusal an answer holds: in this order they are asked. */
+enum {
+    FALGNUST_COMPARED = 0,       /* no one's */
+    FALGNUST_RULES_REFUSED = 1,  /* the table's of rules: 69 or 70, at 0 */
+    FALGNUST_FIRST_REFUSED = 2,  /* the first section's: as falgnust_authorised_table refuses it, at a place in the first bytes */
+    FALGNUST_SECOND_REFUSED = 3, /* the second section's: likewise, at a place in the second bytes */
+    FALGNUST_PAIR_REFUSED = 4    /* of both together: 74 where the source sets differ, at the second's source set, second_cursor + 12 in the second
+                                    bytes; then 61 at 0 where verdicts is shorter than the list */
+};
+
+typedef struct FalgnustComparison {
+    bool accepted;
+    uint8_t whose; /* FALGNUST_COMPARED exactly where accepted */
+    FalgnustRefusal refusal;
+    size_t agreed; /* how many of each verdict; the list is as long as all four together */
+    size_t contradicted;
+    size_t first_only;
+    size_t second_only;
+} FalgnustComparison;
+FALGNUST_SIZE(FalgnustComparison, 56);
+
+/* Compares. The list has at least as many entries as the larger count of propositions and at most as many as both together, 131072. agreed,
+ * contradicted and first_only are together the first section's propositions; agreed, contradicted and second_only the second's. The source set is
+ * the first digest of a section; the other fields of the heads are not compared.
+ *
+ * Where it is accepted the ten tables hold both sections, and the list is walked with a place in each table of propositions, from 0: an entry of 1
+ * or 2 is the proposition at both places, and both advance; one of 3 is the first's, and the first's advances; one of 4 is the second's, and the
+ * second's advances. After a refusal, whosever, all eleven tables are zeros. */
+FalgnustComparison falgnust_compare_sections(
+    const uint8_t *first, size_t first_len, size_t first_cursor,
+    uint64_t *first_propositions, size_t first_propositions_len,
+    uint64_t *first_proofs, size_t first_proofs_len,
+    uint64_t *first_depths, size_t first_depths_len,
+    uint8_t *first_marks, size_t first_marks_len,
+    uint8_t *first_authorised, size_t first_authorised_len,
+    const uint8_t *second, size_t second_len, size_t second_cursor,
+    uint64_t *second_propositions, size_t second_propositions_len,
+    uint64_t *second_proofs, size_t second_proofs_len,
+    uint64_t *second_depths, size_t second_depths_len,
+    uint8_t *second_marks, size_t second_marks_len,
+    uint8_t *second_authorised, size_t second_authorised_len,
+    uint8_t *verdicts, size_t verdicts_len);
+
 /* ---- Sections by loaded rules ----
  *
  * A table of rules takes the place of the four. As bytes: their count, 1 to 32, then of each rule its name as text (a 2-byte length and 1
@@ -409,6 +478,30 @@ FalgnustAuthorised falgnust_authorised_by_rules(
     uint64_t *proofs, size_t proofs_len,
     uint64_t *depths, size_t depths_len,
     uint8_t *marks, size_t marks_len);
+FalgnustSection falgnust_authorised_table_by_rules(
+    const uint8_t *rules, size_t rules_len,
+    const uint8_t *bytes, size_t bytes_len, size_t cursor,
+    uint64_t *propositions, size_t propositions_len,
+    uint64_t *proofs, size_t proofs_len,
+    uint64_t *depths, size_t depths_len,
+    uint8_t *marks, size_t marks_len,
+    uint8_t *authorised, size_t authorised_len);
+/* One table of rules for both sections. */
+FalgnustComparison falgnust_compare_sections_by_rules(
+    const uint8_t *rules, size_t rules_len,
+    const uint8_t *first, size_t first_len, size_t first_cursor,
+    uint64_t *first_propositions, size_t first_propositions_len,
+    uint64_t *first_proofs, size_t first_proofs_len,
+    uint64_t *first_depths, size_t first_depths_len,
+    uint8_t *first_marks, size_t first_marks_len,
+    uint8_t *first_authorised, size_t first_authorised_len,
+    const uint8_t *second, size_t second_len, size_t second_cursor,
+    uint64_t *second_propositions, size_t second_propositions_len,
+    uint64_t *second_proofs, size_t second_proofs_len,
+    uint64_t *second_depths, size_t second_depths_len,
+    uint8_t *second_marks, size_t second_marks_len,
+    uint8_t *second_authorised, size_t second_authorised_len,
+    uint8_t *verdicts, size_t verdicts_len);
 
 /* ---- Function blocks ----
  *

@@ -1,7 +1,7 @@
 """The inputs of docs/REFUSALS.md, as the tables there have them.
 
-An input is a row's cell `WORDS` with what is asked after it (rev N, room A B C, string N, from N, claim N, set N, held N `WORDS`, as rules, ..);
-docs/REFUSALS.md says how words are read.
+An input is a row's cell `WORDS` with what is asked after it (rev N, room A B C, string N, from N, claim N, set N, held N `WORDS`, as rules, against
+`WORDS`, ..); docs/REFUSALS.md says how words are read.
 """
 import dataclasses
 import os
@@ -11,19 +11,23 @@ TOP = os.path.dirname(os.path.dirname(os.path.dirname(os.path.abspath(__file__))
 DOCUMENT = os.path.join(TOP, "docs", "REFUSALS.md")
 KINDS = ("Invalid", "Limit", "Strings", "Debug", "Ownership", "Added", "Truncated", "Name", "Signature")
 BLOCK = (256, 8192, 65535, 4096)  # lent tables that are never too short
-LONGEST = {"section": (65536, 65536, 65536), "block": BLOCK, "functions": (1024, *BLOCK), "locks": BLOCK, "rules": ()}
+SECTION = (65536, 65536, 65536)
+LONGEST = {"section": SECTION, "pair": SECTION, "block": BLOCK, "functions": (1024, *BLOCK), "locks": BLOCK, "rules": ()}
 OF_LOCKS = ("claim", "lock", "part")
 
 
 @dataclasses.dataclass
 class Case:
     line: int  # of the document
-    form: str  # "section" (at cursor 0), "block" (at base 0), "functions" (from cursor 0), "locks" (a block that is claimed, or a register) or "rules"
+    form: str  # "section", "pair" (at cursor 0), "block" (at base 0), "functions" (from cursor 0), "locks" (a block that is claimed, or a register) or "rules"
     data: bytes
+    second: bytes  # the section that a pair's first is compared with, or None
     rules: bytes  # the table of rules that a section comes with, or None
     revision: int  # of a block or file
     rooms: tuple  # lengths of the lent tables: propositions, proofs, depths; or functions, of a file, strings, symbols, paths, families
     marks: int  # length of the table of marks where it differs from that of depths, or None
+    authorised: int  # length of the table of authorised where it differs from that of propositions, or None
+    verdicts: int  # length of the table of verdicts, or None
     asked: tuple  # (what, number) of a record by number or of a claim, or None
     set: int  # each byte of the source set of the claim
     held: list  # (owner, block) of each claim before, under the set of zeros
@@ -79,7 +83,7 @@ def cells(line):
 
 
 def asked_of(text):
-    revision, rooms, asked, source = 19, None, None, 0
+    revision, rooms, asked, source, verdicts = 19, None, None, 0, None
     for what, numbers in re.findall(r"([a-z]+)((?: \d+)+)", text):
         numbers = [int(n) for n in numbers.split()]
         if what == "from":
@@ -88,11 +92,13 @@ def asked_of(text):
             (revision,) = numbers
         elif what == "set":
             (source,) = numbers
+        elif what == "verdicts":
+            (verdicts,) = numbers
         elif what == "room":
             rooms = tuple(numbers)
         else:
             asked = (what, *numbers)
-    return revision, rooms, asked, source
+    return revision, rooms, asked, source, verdicts
 
 
 def cases():
@@ -122,17 +128,25 @@ def cases():
         if given:
             rules = read(text, names)
             text, rest = given.groups()
+        second, against = None, re.fullmatch(r" against `([^`]*)`(.*)", rest)
+        if against:
+            second, rest = read(against[1], names), against[2]
         held = [(int(owner), read(block, names)) for owner, block in re.findall(r"held (\d+) `([^`]*)`", rest)]
-        revision, rooms, asked, source = asked_of(re.sub(r"held \d+ `[^`]*`", "", rest))
+        revision, rooms, asked, source, verdicts = asked_of(re.sub(r"held \d+ `[^`]*`", "", rest))
         refused, offset = (int(n) for n in row["Answer"].split(" at "))
         form = "section" if given or refused <= 29 or text.startswith("EVR0") else "functions" if "from 0" in rest else "block"
         if asked and asked[0] in OF_LOCKS:
             form = "locks"
         if rest == " as rules":
             form = "rules"
-        rooms, marks = rooms or LONGEST[form], None
+        if against:
+            form = "pair"
+        rooms, marks, authorised = rooms or LONGEST[form], None, None
+        if form == "section" and len(rooms) > 4:
+            *rooms, authorised = rooms
         if form == "section" and len(rooms) > 3:
             *rooms, marks = rooms
         data = read(text, names)
-        found.append(Case(at, form, data, rules, revision, tuple(rooms), marks, asked, source, held, refused, kinds[refused], offset))
+        lent = tuple(rooms), marks, authorised, verdicts
+        found.append(Case(at, form, data, second, rules, revision, *lent, asked, source, held, refused, kinds[refused], offset))
     return found

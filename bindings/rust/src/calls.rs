@@ -3,9 +3,11 @@
 
 use crate::raw::*;
 
+mod compare;
 mod functions;
 mod locks;
 mod rules;
+pub use compare::*;
 pub use functions::*;
 pub use locks::*;
 pub use rules::*;

@@ -2,8 +2,8 @@
 //! witnesses.
 //!
 //! Added beside the original: [`Evr0Error::number`], `Display` and `Error` for [`Evr0Error`], the records by number
-//! ([`proposition_number`], [`proof_number`], [`witness_number`], [`parent_number`]), [`way_down`], [`authorised`] and [`marks`]; and all of
-//! them by other rules than the four ([`RuleTable`], [`RulesError`]).
+//! ([`proposition_number`], [`proof_number`], [`witness_number`], [`parent_number`]), [`way_down`], [`authorised`], [`authorised_table`] and
+//! [`marks`]; two sections compared ([`compare_sections`]); and all of them by other rules than the four ([`RuleTable`], [`RulesError`]).
 
 use crate::calls::{self, SectionTables};
 use crate::messages;
@@ -11,12 +11,16 @@ use crate::raw;
 use std::fmt;
 
 mod ask;
+mod compare;
 mod marks;
 mod records;
 mod rules;
 mod tables;
 
 pub use ask::*;
+pub use compare::{
+    CompareError, Compared, Comparison, Verdict, authorised_table, compare_sections,
+};
 pub use marks::marks;
 pub use rules::{RuleTable, RulesError};
 use tables::{Counted, Few};

@@ -1,7 +1,7 @@
-//! Document 01's numbers and the messages of skulmakov-oss/Semantic, which has none of 69 and 70.
+//! Document 01's numbers and the messages of skulmakov-oss/Semantic, which has none of 69, 70 and 74.
 
-/// Those of 31, 36 and 73 go on with the count; 63, 64 and 72 have three each, 71 two. 66 to 70 are not the original's.
-const MESSAGES: [(u8, &str); 78] = [
+/// Those of 31, 36 and 73 go on with the count; 63, 64 and 72 have three each, 71 two. 66 to 70 and 74 are not the original's.
+const MESSAGES: [(u8, &str); 79] = [
     (1, "missing mandatory EVR0 section"),
     (2, "EVR0 length truncated"),
     (3, "EVR0 payload exceeds bounded section budget or is empty"),
@@ -95,6 +95,7 @@ const MESSAGES: [(u8, &str); 78] = [
     (72, FAMILY_CUT),
     (72, FAMILY_UNKNOWN),
     (73, "too many callable-signature parameters: "),
+    (74, "source sets differ"),
 ];
 
 pub const NAME_LENGTH_CUT: &str = "missing function name length";

@@ -8,6 +8,7 @@
 //! [`calls`](crate::calls) has the same functions on slices, without `unsafe`.
 
 mod block;
+mod compare;
 mod functions;
 mod locks;
 mod record;
@@ -17,6 +18,7 @@ mod text;
 mod words;
 
 pub use block::*;
+pub use compare::*;
 pub use functions::*;
 pub use locks::*;
 pub use record::*;

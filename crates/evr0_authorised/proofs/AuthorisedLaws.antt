@@ -52,13 +52,13 @@ module _ {bytes : List ℕ} {cursor end : ℕ} {counts : Counts} {proofs marks :
   pub long : length starts ≤ length marks
   long = omega (arith, total due p starts part front, due .fits)
 
-  proofs-are : map (proofView (due .rules) p) starts ≡ s .proofs
+  pub proofs-are : map (proofView (due .rules) p) starts ≡ s .proofs
   unfolding view
   proofs-are =
       ap (map (proofView (due .rules) p)) (starts-are due p starts part front)
       ∙ sym (ap (λ (t : derivation.Section). t .proofs) (section-view (due .rules) (due .room) p (due .section .tables) (read due p starts part front)))
 
-  marks-total : length (marksOf (due .section)) ≡ proofTotal s
+  pub marks-total : length (marksOf (due .section)) ≡ proofTotal s
   marks-total = marks-read (due .rules) (due .shaped) (due .room) bytes cursor (due .section) (due .decoded) .total
 
   pub told : {r : Bool} (n : ℕ) → r ≡ operates (map (proofView (due .rules) p) starts) marks n → Front (marksOf (due .section)) marks → r ≡ authorised s n
@@ -118,6 +118,10 @@ module _ {which : Given} {bytes : List ℕ} {cursor : ℕ} {before after : Lent}
               ∙ take-at (startsOf (d .tables .proofs .entries)) _ (a .counts .proofs) n;
           fits = omega (arith, one-each, ap length marks-are, length-append (marksOf d) (replicate (length (before .marks) - length (marksOf d)) 0));
         }
+
+    pub decoded-is : x ≡ ok (due .section)
+    unfolding due
+    decoded-is = found .1
 
     pub front : Front (marksOf (due .section)) (after .marks)
     unfolding due

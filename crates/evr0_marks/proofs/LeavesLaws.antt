@@ -32,6 +32,16 @@ lent-twice n m xs h k =
     let b : m - length xs + (n - m) ≡ n - length xs = omega arith in
     rw (a, append-assoc, replicate-append-replicate, b)
 
+-- a table of which the first `room` entries were lent and then hold xs, and the rest is cleared
+pub cut-filled : (table left xs : List ℕ) {room : ℕ} {all : List ℕ} → room ≤ length table → length left ≡ room → left ≡ lent room xs
+    → all ≡ lent (length (left ++ drop room table)) (take room (left ++ drop room table)) → all ≡ lent (length table) xs
+cut-filled table left xs {room} within kept is cleared =
+    let n : length (left ++ drop room table) ≡ length table = length-append left (drop room table) ∙ omega (arith, kept, length-drop room table) in
+    let short : length xs ≤ room = omega (arith, kept, ap length is, length-append xs (replicate (room - length xs) 0)) in
+    cleared
+    ∙ ap₂ lent n (take-at left (drop room table) room kept ∙ is)
+    ∙ lent-twice (length table) room xs short within
+
 module _ (which : Given) (bytes : List ℕ) (cursor : ℕ) (before : Lent) {room : ℕ}
     (least : room ≡ min (length (before .others .depths)) (length (before .marks))) where
   abbrev depths : List ℕ
@@ -68,12 +78,7 @@ module _ (which : Given) (bytes : List ℕ) (cursor : ℕ) (before : Lent) {room
     module _ {all marks : List ℕ} (cleared : all ≡ lent (length (left .depths ++ drop room depths)) (take room (left .depths ++ drop room depths)))
         (marked : marks ≡ lent (length (before .marks)) (proofMarks x)) where
       all-depths : all ≡ lent (length depths) (proofDepths x)
-      all-depths =
-          let n : length (left .depths ++ drop room depths) ≡ length depths =
-          length-append (left .depths) (drop room depths) ∙ omega (arith, kept, least, length-drop room depths) in
-          cleared
-          ∙ ap₂ lent n (take-at (left .depths) (drop room depths) room kept ∙ depths-are)
-          ∙ lent-twice (length depths) room (proofDepths x) short (omega (arith, least))
+      all-depths = cut-filled depths (left .depths) (proofDepths x) (omega (arith, least)) kept depths-are cleared
 
       pub whole : LeavesBy which bytes cursor before (withMarks (lentOf (left .propositions) (left .proofs) all) marks) given
       whole =

@@ -7,9 +7,10 @@ use Rattle.local_format.specs.Out.{Out, ok, refused}
 use Rattle.derivation.specs.Rule.{fourRules}
 use Rattle.evr0_section.specs.Demand.{Demand3}
 use Rattle.evr0_section.specs.Marks.{MarksByRules}
-use Rattle.rule_table.specs.ByTable.{table, HoldsBy}
+use Rattle.rule_table.specs.ByTable.{Given, table, HoldsBy}
 use Rattle.evr0.specs.Answer.{Accepted, Answer, answerOf, Lent, Filled, decodeIn, decodeGiven, roomOf}
 use Rattle.evr0_marks.specs.Answer as marked
+use Rattle.authorised_table.specs.Answer as told
 use Rattle.falgnust.specs.Maps.{flatRefusal, noRefusal}
 use Rattle.falgnust.specs.declared.rules.Rules.{Rules}
 use Rattle.falgnust.specs.declared.section.Section.{Section}
@@ -82,3 +83,9 @@ pub record DecodesUnmarkedBy (t bytes : List ℕ) (cursor : ℕ) (before after :
   pub answer : r ≡ flatSection (answerOf cursor (decodeGiven (table t) before bytes cursor))
   pub tables : Filled (decodeGiven (table t) before bytes cursor) before after
   pub holds : HoldsBy (table t) (roomOf before) bytes cursor
+
+-- ---- With a byte for each proposition, by the rules of a call
+
+pub record Tells (given : Given) (bytes : List ℕ) (cursor : ℕ) (before after : told.Lent) (r : Section) : Type 0 where
+  pub answer : r ≡ flatSection (answerOf cursor (told.decodeGiven given before bytes cursor))
+  pub tables : told.Filled (told.decodeGiven given before bytes cursor) before after

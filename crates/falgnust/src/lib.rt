@@ -1,6 +1,8 @@
 // The decoders as C functions, for programs in other languages. An answer is a flat struct in C's layout.
 pub mod authorised;
+pub mod authorised_all;
 pub mod block;
+pub mod compare;
 pub mod field;
 pub mod function;
 pub mod functions;

@@ -35,7 +35,7 @@ pub struct Section {
     pub cursor: usize,
 }
 
-fn flat_section(decoded: DecodedEvr0) -> Section
+pub fn flat_section(decoded: DecodedEvr0) -> Section
     ensures { λ r. ⌜ r ≡ flatSection (answerOut decoded) ⌝ }
 {
     let source_set = decoded.source_set;

@@ -1,6 +1,6 @@
 //! By which rules a section is decoded, on both sides: by the four, or by those of a table that the port is given with each call.
 
-use falgnust::calls::{self, SectionTables};
+use falgnust::calls::{self, Lent, SectionTables};
 use falgnust::evr0::{self, RuleTable};
 use falgnust::raw;
 use oracle::evr0::{DecodedEvr0, Evr0Error};
@@ -229,6 +229,21 @@ impl<'a> By<'a> {
         )
     }
 
+    pub fn authorised_table(&self, lent: Lent) -> raw::Section {
+        call!(self, authorised_table, authorised_table_by_rules, lent)
+    }
+
+    pub fn compare(&self, first: Lent, second: Lent, verdicts: &mut [u8]) -> raw::Comparison {
+        call!(
+            self,
+            compare_sections,
+            compare_sections_by_rules,
+            first,
+            second,
+            verdicts
+        )
+    }
+
     // ---- The port, through the crate
 
     pub fn crate_section(
@@ -275,6 +290,29 @@ impl<'a> By<'a> {
         limit: u64,
     ) -> Found<evr0::WayDown> {
         crate_call!(self, way_down, file, cursor, from, limit)
+    }
+
+    pub fn crate_authorised_table(
+        &self,
+        file: &[u8],
+        cursor: usize,
+    ) -> Result<Vec<bool>, evr0::Evr0Error> {
+        crate_call!(self, authorised_table, file, cursor)
+    }
+
+    pub fn crate_compare(
+        &self,
+        (first, first_cursor): (&[u8], usize),
+        (second, second_cursor): (&[u8], usize),
+    ) -> Result<evr0::Comparison, evr0::CompareError> {
+        crate_call!(
+            self,
+            compare_sections,
+            first,
+            first_cursor,
+            second,
+            second_cursor
+        )
     }
 
     pub fn crate_authorised(&self, file: &[u8], cursor: usize, number: u32) -> Found<bool> {

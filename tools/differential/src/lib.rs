@@ -1,12 +1,15 @@
 //! The comparisons of the port with the Rust, for the run and for the fuzz target.
 
 pub mod authorised;
+pub mod authorised_table;
 pub mod block_binding;
 pub mod block_binding_numbers;
 pub mod block_compare;
 pub mod block_numbers;
 pub mod blocks;
 pub mod by;
+pub mod compare;
+pub mod compare_call;
 pub mod fields;
 pub mod four;
 pub mod function_binding;

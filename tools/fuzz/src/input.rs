@@ -1,13 +1,14 @@
 //! What a fuzzed input means: two bytes that choose, then the file or the block.
 //!
 //! The first byte: 0 a section in a file, 1 a payload, whose tag and length are put before it, 2 a block, 3 a file of functions, 4 a table of
-//! rules, the length of which stands before it in 2 bytes, and a payload. The second: in its low two bits a cursor or a base (0; 1; 1,000; 20
+//! rules, the length of which stands before it in 2 bytes, and a payload, 5 two payloads to compare, the length of the first before it in 2 bytes. The second: in its low two bits a cursor or a base (0; 1; 1,000; 20
 //! below 2^64), and above them a revision.
 
+use differential::compare_call::Pair;
 use inputs::block::REVISIONS;
 use inputs::cases::{BlockCase, FileCase, SectionCase};
 use inputs::random::Random;
-use inputs::ruled;
+use inputs::{compared, ruled};
 
 pub enum Case {
     Section(SectionCase),
@@ -15,6 +16,8 @@ pub enum Case {
     Functions(FileCase),
     /// A table and a section.
     Ruled(Vec<u8>, SectionCase),
+    /// Two sections.
+    Compared(Pair),
 }
 
 const PLACES: [usize; 4] = [0, 1, 1000, usize::MAX - 20];
@@ -26,7 +29,7 @@ pub fn case(data: &[u8]) -> Option<Case> {
     };
     let place = PLACES[(choice & 3) as usize];
     let revision = REVISIONS[(choice >> 2) as usize % REVISIONS.len()];
-    match kind % 5 {
+    match kind % 6 {
         0 => Some(Case::Section(SectionCase {
             file: rest.to_vec(),
             cursor: place,
@@ -42,12 +45,22 @@ pub fn case(data: &[u8]) -> Option<Case> {
             cursor: place,
             revision,
         })),
-        _ => {
-            let (length, rest) = rest.split_first_chunk()?;
-            let (table, payload) = rest.split_at_checked(u16::from_le_bytes(*length).into())?;
+        4 => {
+            let (table, payload) = two(rest)?;
             Some(Case::Ruled(table.to_vec(), framed(payload, place.min(1))?))
         }
+        _ => {
+            let (first, second) = two(rest)?;
+            let pair = Pair::new(framed(first, 0)?, framed(second, place.min(1))?);
+            Some(Case::Compared(pair))
+        }
     }
+}
+
+/// Two parts, the length of the first before it.
+fn two(rest: &[u8]) -> Option<(&[u8], &[u8])> {
+    let (length, rest) = rest.split_first_chunk()?;
+    rest.split_at_checked(u16::from_le_bytes(*length).into())
 }
 
 /// A payload with tag and length before it, at a cursor.
@@ -78,11 +91,23 @@ pub fn bytes(case: &Case) -> Vec<u8> {
         ),
         Case::Ruled(table, SectionCase { file, cursor }) => {
             let length = (table.len() as u16).to_le_bytes();
-            let section = file.get(*cursor..).unwrap_or_default();
-            let payload = section.get(8..).unwrap_or_default();
-            joined([4, 0], &[&length[..], table, payload].concat())
+            joined(
+                [4, 0],
+                &[&length[..], table, payload(file, *cursor)].concat(),
+            )
+        }
+        Case::Compared(pair) => {
+            let [first, second] = [pair.first(), pair.second()].map(|(file, at)| payload(file, at));
+            let length = (first.len() as u16).to_le_bytes();
+            joined([5, 0], &[&length[..], first, second].concat())
         }
     }
+}
+
+/// What stands behind a tag and a length.
+fn payload(file: &[u8], cursor: usize) -> &[u8] {
+    let section = file.get(cursor..).unwrap_or_default();
+    section.get(8..).unwrap_or_default()
 }
 
 /// The second byte for a revision.
@@ -102,4 +127,13 @@ pub fn by_rules(r: &mut Random) -> Case {
         table = ruled::damaged(r, table);
     }
     Case::Ruled(table.bytes(), case)
+}
+
+/// Two sections of one pool of propositions.
+pub fn of_one_pool(r: &mut Random) -> Case {
+    let [first, second] = compared::pair(r).map(|section| SectionCase {
+        file: section.bytes(),
+        cursor: 0,
+    });
+    Case::Compared(Pair::new(first, second))
 }

@@ -3,11 +3,12 @@
 mod input;
 mod mutate;
 
-pub use input::{Case, by_rules, bytes, case};
+pub use input::{Case, by_rules, bytes, case, of_one_pool};
 
+use differential::by::By;
 use differential::tally::Tally;
 use differential::{block_compare, block_numbers, marks, rules, section_compare, section_numbers};
-use differential::{function_compare, function_numbers};
+use differential::{compare as pairs, function_compare, function_numbers};
 
 /// Tries one input.
 ///
@@ -46,6 +47,7 @@ fn compare(case: &Case) {
             function_numbers::compare(&mut tally, case, &rust, function_compare::rooms(case));
         }
         Case::Ruled(table, case) => rules::compare(&mut tally, table, case),
+        Case::Compared(pair) => pairs::compare(&mut tally, pair, By::FOUR),
     }
     assert_eq!(tally.differences(), 0, "differences from the Rust");
 }

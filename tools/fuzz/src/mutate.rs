@@ -1,7 +1,7 @@
-//! Mutation: libFuzzer's own, and now and then a new section, block, file of functions or table of rules with a fault or two, which changes of
-//! bytes would not find.
+//! Mutation: libFuzzer's own, and now and then a new section, block, file of functions or table of rules with a fault or two, or a new pair of
+//! sections, which changes of bytes would not find.
 
-use crate::input::{Case, by_rules, bytes};
+use crate::input::{Case, by_rules, bytes, of_one_pool};
 use inputs::cases;
 use inputs::random::Random;
 
@@ -26,11 +26,12 @@ pub unsafe extern "C" fn LLVMFuzzerCustomMutator(
 ) -> usize {
     let mut r = Random::new(seed.into());
     if r.one_in(NEW) {
-        let case = match r.below(4) {
+        let case = match r.below(5) {
             0 => Case::Section(cases::section(&mut r)),
             1 => Case::Block(cases::block(&mut r)),
             2 => Case::Functions(cases::functions(&mut r)),
-            _ => by_rules(&mut r),
+            3 => by_rules(&mut r),
+            _ => of_one_pool(&mut r),
         };
         let new = bytes(&case);
         if new.len() <= max_size {

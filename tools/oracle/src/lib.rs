@@ -1,6 +1,6 @@
 //! The Rust decoders of skulmakov-oss/Semantic at commit a38c216cab, built unchanged (build.rs), with their answers in document 01's
-//! terms: a refusal has a kind, a number and an offset, and a table has the start of each record. `marks`, `locks` and `rules` are
-//! what the Rust does not have, and `evr0_ruled` is a model of it with other rules.
+//! terms: a refusal has a kind, a number and an offset, and a table has the start of each record. `marks`, `compare`, `locks` and `rules`
+//! are what the Rust does not have, and `evr0_ruled` is a model of it with other rules.
 
 include!(concat!(env!("OUT_DIR"), "/modules.rs"));
 

@@ -4,20 +4,24 @@
 //!     block HEX BASE REVISION TAB ANSWER
 //!     functions HEX CURSOR REVISION TAB ANSWER
 //!     ruled TABLE HEX CURSOR TAB ANSWER
+//!     compared HEX CURSOR HEX CURSOR ROOM TAB ANSWER
 //!
-//! The last are sections by the rules of a table, from the model and the plain lines. Either so many for each refusal number and condition that random inputs reach, or the inputs of fixed.rs, or those that standard input
+//! The last are sections by the rules of a table, from the model and the plain lines, and pairs of sections with room for so many verdicts, from the
+//! plain lines. Either so many for each refusal number and condition that random inputs reach, or the inputs of fixed.rs, or those that standard input
 //! has, a line each, as they are printed.
 
 mod fixed;
 
 use inputs::cases::{self, BlockCase, FileCase, SectionCase};
 use inputs::random::Random;
-use inputs::{block_conditions, function_conditions, ruled, section_conditions};
+use inputs::{block_conditions, compared, function_conditions, ruled, section_conditions};
+use oracle::compare::Whose;
 use oracle::lines::{block_line, functions_line, hex, ruled_line, section_line};
 use oracle::section::section_by;
 use std::collections::BTreeMap;
 
-const USAGE: &str = "usage: sample section|block|functions|ruled SEED EACH LONGEST [ACCEPTED]
+const USAGE: &str =
+    "usage: sample section|block|functions|ruled|compared SEED EACH LONGEST [ACCEPTED]
        sample fixed
        sample given";
 
@@ -48,6 +52,7 @@ fn random(form: &str, seed: usize, picked: Picked, longest: usize) {
         "block" => blocks(seed, picked, longest),
         "functions" => files(seed, picked, longest),
         "ruled" => ruled(seed, picked, longest),
+        "compared" => pairs(seed, picked, longest),
         _ => usage(),
     }
 }
@@ -173,6 +178,63 @@ fn ruled(seed: usize, mut picked: Picked, longest: usize) {
             let answer = ruled_line(&table, &case.file, case.cursor);
             let (table, file) = (hex_or_none(&table), hex_or_none(&case.file));
             println!("ruled {table} {file} {}\t{}", case.cursor, told(answer));
+        }
+    }
+}
+
+/// Pairs of sections, of which some are damaged, some have other source sets, and some too short a table.
+fn pairs(seed: usize, mut picked: Picked, longest: usize) {
+    let mut r = Random::new(seed as u64);
+    for _ in 0..TRIES {
+        let [first, mut second] = compared::pair(&mut r);
+        if r.one_in(8) {
+            compared::other_source_set(&mut r, &mut second);
+        }
+        let damaged = r.below(8);
+        let [first, second] = [first, second].map(|section| section.bytes());
+        let cut = |bytes: &[u8], is_cut: bool| bytes[..bytes.len() - is_cut as usize].to_vec();
+        let (first, second) = (cut(&first, damaged == 0), cut(&second, damaged <= 1));
+        if first.len() + second.len() > longest {
+            continue;
+        }
+        let cursor = r.below(4);
+        let second = [&vec![0; cursor], &second[..]].concat();
+        let sections = [(&first, 0), (&second, cursor)].map(|(file, cursor)| {
+            oracle::section::section(file, cursor).map(|(_, decoded)| decoded)
+        });
+        let room = r.below(10);
+        let found = oracle::compare::compare(&sections[0], &sections[1], cursor, room);
+        let (number, condition) = match &found {
+            Ok(list) => {
+                let [agreed, contradicted, ..] = oracle::compare::totals(list);
+                let condition = match (agreed, contradicted) {
+                    (0, 0) if list.is_empty() => "no proposition",
+                    (0, 0) => "apart",
+                    (_, 0) => "agreed",
+                    _ => "contradicted",
+                };
+                (0, condition)
+            }
+            Err((Whose::First, refusal)) => (refusal.number, "first"),
+            Err((Whose::Second, refusal)) => (refusal.number, "second"),
+            Err((Whose::Pair, refusal)) => (refusal.number, "pair"),
+        };
+        if picked.wants(number, condition) {
+            let answer = match found {
+                Ok(list) => {
+                    let verdicts: Vec<String> =
+                        list.iter().map(|entry| entry.1.to_string()).collect();
+                    let totals = oracle::compare::totals(&list).map(|total| total.to_string());
+                    format!(
+                        "ok verdicts={} totals={}",
+                        verdicts.join(","),
+                        totals.join(",")
+                    )
+                }
+                Err((_, refusal)) => format!("{condition} {refusal}"),
+            };
+            let (first, second) = (hex(&first), hex(&second));
+            println!("compared {first} 0 {second} {cursor} {room}\t{answer}");
         }
     }
 }

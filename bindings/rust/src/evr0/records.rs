@@ -25,17 +25,7 @@ pub fn section(
         epoch: section.epoch,
         policy_namespace,
         issuer_namespace,
-        propositions: records(
-            words,
-            &propositions[..section.propositions],
-            |starts, words| calls::proposition_words(payload, starts, words),
-            |[start, len, owner, scope, obligation]| Proposition {
-                kind: accepted_text(payload, start, len),
-                ast_owner_id: owner as u32,
-                semantic_scope_id: scope as u32,
-                type_obligation_id: obligation as u32,
-            },
-        ),
+        propositions: self::propositions(payload, &propositions[..section.propositions], words),
         proofs: records(
             words,
             &proofs[..section.proofs],
@@ -66,6 +56,22 @@ pub fn section(
         witnesses: witnesses(payload, section, words),
         parents: parents(payload, section, words),
     }
+}
+
+/// The propositions of an accepted section that start at these places.
+#[inline]
+pub fn propositions(payload: &[u8], starts: &[u64], words: &mut Words) -> Vec<Proposition> {
+    records(
+        words,
+        starts,
+        |starts, words| calls::proposition_words(payload, starts, words),
+        |[start, len, owner, scope, obligation]| Proposition {
+            kind: accepted_text(payload, start, len),
+            ast_owner_id: owner as u32,
+            semantic_scope_id: scope as u32,
+            type_obligation_id: obligation as u32,
+        },
+    )
 }
 
 #[inline]

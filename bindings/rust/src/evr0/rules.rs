@@ -1,6 +1,7 @@
 //! Sections by other rules than the four.
 
 use super::ask::{answer, payload};
+use super::compare::{CompareError, Comparison, authorised_by, compared};
 use super::marks::marked;
 use super::tables::lend;
 use super::{DecodedEvr0, Evr0Error, Proof, Proposition, WayDown, Witness, decoded, records};
@@ -141,6 +142,30 @@ impl RuleTable {
                 calls::authorised_by_rules(&self.bytes, bytes, cursor, proposition, lent, marks);
             records::authorised(read)
         }))
+    }
+
+    /// Of each proposition whether it is authorised, as [`authorised_table`](super::authorised_table).
+    pub fn authorised_table(&self, bytes: &[u8], cursor: usize) -> Result<Vec<bool>, Evr0Error> {
+        authorised_by(bytes, cursor, |lent| {
+            calls::authorised_table_by_rules(&self.bytes, lent)
+        })
+    }
+
+    /// Two sections compared, both by these rules, as [`compare_sections`](super::compare_sections).
+    pub fn compare_sections(
+        &self,
+        first: &[u8],
+        first_cursor: usize,
+        second: &[u8],
+        second_cursor: usize,
+    ) -> Result<Comparison, CompareError> {
+        compared(
+            (first, first_cursor),
+            (second, second_cursor),
+            |first, second, verdicts| {
+                calls::compare_sections_by_rules(&self.bytes, first, second, verdicts)
+            },
+        )
     }
 
     /// A proposition by its number.

@@ -25,6 +25,7 @@ impl Few {
 }
 
 /// Tables as long as the counts.
+#[derive(Default)]
 pub struct Counted {
     pub propositions: Vec<u64>,
     pub proofs: Vec<u64>,

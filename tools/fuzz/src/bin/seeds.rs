@@ -1,7 +1,7 @@
 //! Writes a corpus to start from: the specimens' shapes, and small sections, blocks, files of functions and tables of rules, of which
-//! most have a fault.
+//! most have a fault, and pairs of sections.
 
-use fuzz::{Case, by_rules, bytes};
+use fuzz::{Case, by_rules, bytes, of_one_pool};
 use inputs::block::{self, REVISIONS};
 use inputs::cases::{self, BlockCase, SectionCase};
 use inputs::random::Random;
@@ -36,6 +36,7 @@ fn main() -> std::io::Result<()> {
         all.push(Case::Block(cases::block(r)));
         all.push(Case::Functions(cases::functions(r)));
         all.push(by_rules(r));
+        all.push(of_one_pool(r));
     }
     for (number, case) in all.iter().enumerate() {
         std::fs::write(Path::new(&folder).join(number.to_string()), bytes(case))?;

@@ -1,0 +1,2 @@
+// Of every proposition of an evidence section, whether it is authorised.
+pub mod table;

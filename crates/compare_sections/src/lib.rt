@@ -1,0 +1,2 @@
+// Two evidence sections held against each other.
+pub mod compare;

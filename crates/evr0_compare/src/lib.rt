@@ -1,0 +1,1 @@
+// Definitions and theorems only: two evidence sections held against each other.
