@@ -57,15 +57,26 @@ impl Args {
 
     /// The one word that is left, which says `what`.
     pub fn last(self, what: &str) -> Result<OsString, Stop> {
+        let [word] = self.left([what], "one")?;
+        Ok(word)
+    }
+
+    /// The two files that are left.
+    pub fn two_files(self) -> Result<[OsString; 2], Stop> {
+        self.left(["first file", "second file"], "two")
+    }
+
+    /// The words that are left: as many as say `what`.
+    fn left<const N: usize>(self, what: [&str; N], many: &str) -> Result<[OsString; N], Stop> {
         let unknown = |word: &OsString| word != "-" && word.as_encoded_bytes().starts_with(b"-");
         if let Some(word) = self.words.iter().find(|word| unknown(word)) {
             return Err(failed(format!("no option {word:?} here")));
         }
-        match <[OsString; 1]>::try_from(self.words) {
-            Ok([word]) => Ok(word),
-            Err(words) if words.is_empty() => Err(failed(format!("which {what}?"))),
-            Err(words) => Err(failed(format!("more than one {what}: {:?}", words[1]))),
-        }
+        <[OsString; N]>::try_from(self.words).map_err(|words| match what.get(words.len()) {
+            Some(what) => failed(format!("which {what}?")),
+            None if N == 1 => failed(format!("more than {many} {}: {:?}", what[0], words[N])),
+            None => failed(format!("more than {many} files: {:?}", words[N])),
+        })
     }
 }
 

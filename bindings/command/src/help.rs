@@ -5,7 +5,8 @@ pub const ALL: &str = "\
 falgnust: evidence sections and function tables of SemCode, shown by proved functions
 
   falgnust section FILE        what an evidence section holds, as tables
-  falgnust page FILE           the same as one HTML page, with a picture of each derivation
+  falgnust compare FILE FILE   two compilers' sections of the same sources, proposition by proposition
+  falgnust page FILE           a section as one HTML page, with a picture of each derivation
   falgnust functions FILE      the functions of a file, with their tables
   falgnust block FILE          the tables of one function's block
   falgnust locks SCRIPT        claims and releases, one after the other
@@ -21,6 +22,7 @@ with --json it goes to standard output. Colours are on a terminal alone; NO_COLO
 Examples
   falgnust section examples/joined.evr0
   falgnust section examples/refused.evr0
+  falgnust compare examples/first.evr0 examples/second.evr0
   falgnust page examples/joined.evr0 > page.html
   falgnust functions examples/functions.semcode --revision 22
   falgnust explain 25
@@ -46,8 +48,8 @@ A proof's mark says how the walks down from it end, by any parents until none is
 positive witness; negative, where each ends at a negative one; both, otherwise. A proposition is authorised where some
 proof of it has operation 1 and a positive mark. The way down always takes the first parent.
 
-Each answer is asked of the proved functions, for every proposition and proof anew; on a section of tens of thousands
-the part done is shown on a terminal.
+Each answer is asked of the proved functions, a way down for every proof anew; on a section of tens of thousands the
+part done is shown on a terminal.
 
 Examples
   falgnust section examples/joined.evr0
@@ -55,6 +57,27 @@ Examples
   falgnust section examples/joined.evr0 --json
   falgnust section examples/diocese.evr0 --rules examples/diocese.rules
   cat examples/refused.evr0 | falgnust section -
+"
+        }
+        "compare" => {
+            "\
+falgnust compare FIRST SECOND [--at N] [--second-at N] [--rules FILE] [--json]
+
+Two sections of one source set held against each other. Propositions are matched on kind, owner, scope and type, and are
+listed in their order: agreed, where they are authorised in both or in neither; contradicted; first only; second only.
+
+  --at N         the first section's place in its file; 0 where it is not given
+  --second-at N  the second section's place in its file; 0 where it is not given
+  --rules FILE   a table of rules in the place of the four, for both
+  --json         for scripts, on standard output, a refusal too, with whose it is
+
+The first section's refusal goes first, then the second's, then 74, that the source sets differ. The status is 0 wherever
+both are compared, whatever they say. One of the two files may be -.
+
+Examples
+  falgnust compare examples/first.evr0 examples/second.evr0
+  falgnust compare examples/first.evr0 examples/second.evr0 --json
+  falgnust compare examples/diocese.evr0 examples/diocese.evr0 --rules examples/diocese.rules
 "
         }
         "page" => {

@@ -5,6 +5,7 @@
 
 mod args;
 mod block;
+mod compare;
 mod document;
 mod explain;
 mod functions;
@@ -79,6 +80,7 @@ fn run(answer: &mut Vec<u8>) -> Result<(), Stop> {
     }
     match command.as_str() {
         "section" => section::run(args, answer),
+        "compare" => compare::run(args, answer),
         "page" => page::run(args, answer),
         "functions" => functions::run(args, answer),
         "block" => block::run(args, answer),

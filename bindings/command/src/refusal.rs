@@ -7,7 +7,7 @@ use crate::json::Json;
 use crate::paint::{Paint, Style};
 use crate::source::Source;
 use falgnust::calls;
-use falgnust::evr0::{Evr0Error, Evr0ErrorKind, RulesError};
+use falgnust::evr0::{CompareError, Evr0Error, Evr0ErrorKind, RulesError};
 use falgnust::locks::ClaimError;
 use falgnust::semcode_decode::DecodeError;
 
@@ -65,6 +65,20 @@ impl From<RulesError> for Refusal {
     }
 }
 
+impl From<CompareError> for Refusal {
+    fn from(error: CompareError) -> Self {
+        match error {
+            CompareError::First(error) | CompareError::Second(error) => error.into(),
+            CompareError::SourceSets { offset } => Refusal {
+                kind: "Added",
+                number: SOURCE_SETS,
+                offset,
+                message: None,
+            },
+        }
+    }
+}
+
 impl From<DecodeError> for Refusal {
     fn from(error: DecodeError) -> Self {
         let offset = error.offset().expect("an offset of every refusal");
@@ -93,6 +107,9 @@ impl From<ClaimError> for Refusal {
         }
     }
 }
+
+/// The refusal of two sections whose source sets differ: the one of those added whose offset is a place in the file.
+const SOURCE_SETS: u8 = 74;
 
 /// The refusal of a section whose tag is not at its place.
 const NO_TAG: u8 = 1;
@@ -135,6 +152,22 @@ impl Refused {
         Err(Stop::Refused(self))
     }
 
+    /// The same of one of several that are looked at together: whose it is stands before it.
+    pub fn end_of(
+        self,
+        whose: &'static str,
+        is_script: bool,
+        answer: &mut Vec<u8>,
+    ) -> Result<(), Stop> {
+        if is_script {
+            let mut fields = vec![("whose", whose.into())];
+            fields.extend(self.json());
+            answer.extend(format!("{}\n", Json::Object(fields)).bytes());
+            return Err(Stop::Answered);
+        }
+        Err(Stop::Refused(self))
+    }
+
     /// Of the conditions of its number those of its kind, where they are under one of the headings.
     fn sentence(&self) -> String {
         let Refusal { kind, number, .. } = self.refusal;
@@ -161,7 +194,7 @@ impl Refused {
         if *number == NO_TAG {
             told += &tags(&self.source.bytes);
         }
-        if *kind != "Added" {
+        if *kind != "Added" || *number == SOURCE_SETS {
             told += &hex::around(&self.source.bytes, *offset, paint);
         }
         told

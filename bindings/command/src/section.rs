@@ -14,9 +14,9 @@ use std::io;
 
 mod lent;
 mod one;
-mod rules;
+pub mod rules;
 mod script;
-mod tables;
+pub mod tables;
 
 /// The headings of docs/REFUSALS.md that speak of sections.
 pub const HEADINGS: &[&str] = &["Sections"];
@@ -36,6 +36,8 @@ pub struct Section<'a> {
     records: DecodedEvr0,
     depths: Vec<u64>,
     marks: Vec<u8>,
+    /// 1 where a proposition is authorised.
+    authorised: Vec<u8>,
 }
 
 impl<'a> Section<'a> {
@@ -48,8 +50,7 @@ impl<'a> Section<'a> {
         let mut end = at;
         let records = rules.decode(bytes, &mut end)?;
         let mut lent = Lent::to(&records);
-        let (tables, marks) = lent.tables();
-        let again = rules.marked(bytes, at, tables, marks);
+        let again = rules.told(lent.all(bytes, at));
         assert!(again.accepted, "the same section");
         Ok(Section {
             bytes,
@@ -59,21 +60,13 @@ impl<'a> Section<'a> {
             records,
             depths: lent.depths,
             marks: lent.marks,
+            authorised: lent.authorised,
         })
     }
 
-    /// Whether each of these propositions is authorised.
-    fn authorised(&self, propositions: &[u32]) -> Vec<bool> {
-        let ask = |lent: &mut Lent, number| {
-            let (tables, marks) = lent.tables();
-            let answer = self
-                .rules
-                .authorised(self.bytes, self.at, number, tables, marks);
-            assert!(answer.accepted, "a proposition of the section");
-            answer.authorised
-        };
-        let what = "propositions authorised or not";
-        ask_all(what, propositions, || Lent::to(&self.records), ask)
+    /// Whether a proposition is authorised.
+    fn authorised(&self, proposition: u32) -> bool {
+        self.authorised[proposition as usize] == 1
     }
 
     /// The way down from each of these proofs.
@@ -83,10 +76,9 @@ impl<'a> Section<'a> {
     }
 
     fn way_down(&self, proof: u32, limit: u64, lent: &mut Lent) -> WayDown {
-        let tables = lent.tables().0;
         let answer = self
             .rules
-            .way_down(self.bytes, self.at, proof, limit, tables);
+            .way_down(self.bytes, self.at, proof, limit, lent.tables());
         assert!(answer.accepted, "a proof of the section");
         answer
     }

@@ -1,7 +1,9 @@
 //! By which rules a section is decoded: the four, or those of a table.
 
-use falgnust::calls::{self, SectionTables};
-use falgnust::evr0::{self, DecodedEvr0, Evr0Error, Proof, Proposition, RuleTable};
+use falgnust::calls::{self, Lent, SectionTables};
+use falgnust::evr0::{
+    self, CompareError, Comparison, DecodedEvr0, Evr0Error, Proof, Proposition, RuleTable,
+};
 use falgnust::raw;
 
 /// The table of `--rules`, or none, where the four are meant.
@@ -18,35 +20,30 @@ impl Rules<'_> {
         }
     }
 
-    /// With the depths and the marks in the lent tables.
-    pub fn marked(
-        self,
-        bytes: &[u8],
-        at: usize,
-        lent: SectionTables,
-        marks: &mut [u8],
-    ) -> raw::Section {
+    /// With the depths, the marks and what is authorised in the lent tables.
+    pub fn told(self, lent: Lent) -> raw::Section {
         match self.0 {
-            None => calls::decode_evr0_section(bytes, at, lent, marks),
-            Some(table) => {
-                calls::decode_evr0_section_by_rules(table.bytes(), bytes, at, lent, marks)
-            }
+            None => calls::authorised_table(lent),
+            Some(table) => calls::authorised_table_by_rules(table.bytes(), lent),
         }
     }
 
-    pub fn authorised(
-        self,
-        bytes: &[u8],
-        at: usize,
-        proposition: u32,
-        lent: SectionTables,
-        marks: &mut [u8],
-    ) -> raw::Authorised {
+    /// Of each proposition whether it is authorised.
+    pub fn authorised(self, bytes: &[u8], at: usize) -> Result<Vec<bool>, Evr0Error> {
         match self.0 {
-            None => calls::authorised(bytes, at, proposition, lent, marks),
-            Some(table) => {
-                calls::authorised_by_rules(table.bytes(), bytes, at, proposition, lent, marks)
-            }
+            None => evr0::authorised_table(bytes, at),
+            Some(table) => table.authorised_table(bytes, at),
+        }
+    }
+
+    pub fn compare(
+        self,
+        (first, first_at): (&[u8], usize),
+        (second, second_at): (&[u8], usize),
+    ) -> Result<Comparison, CompareError> {
+        match self.0 {
+            None => evr0::compare_sections(first, first_at, second, second_at),
+            Some(table) => table.compare_sections(first, first_at, second, second_at),
         }
     }
 

@@ -31,8 +31,7 @@ impl Section<'_> {
     }
 
     pub fn propositions_json(&self, numbers: &[u32]) -> Vec<Json> {
-        let authorised = self.authorised(numbers).into_iter();
-        let each = numbers.iter().zip(authorised).map(|(number, authorised)| {
+        let each = numbers.iter().map(|number| {
             let proposition = &self.records.propositions[*number as usize];
             Json::Object(vec![
                 ("number", (*number).into()),
@@ -40,7 +39,7 @@ impl Section<'_> {
                 ("owner", proposition.ast_owner_id.into()),
                 ("scope", proposition.semantic_scope_id.into()),
                 ("type", proposition.type_obligation_id.into()),
-                ("authorised", authorised.into()),
+                ("authorised", self.authorised(*number).into()),
             ])
         });
         each.collect()

@@ -39,12 +39,11 @@ impl Section<'_> {
     }
 
     pub fn propositions_table(&self, numbers: &[u32], paint: Paint) -> String {
-        let authorised = self.authorised(numbers);
-        let rows = numbers.iter().zip(authorised).map(|(at, authorised)| {
+        let rows = numbers.iter().map(|at| {
             let proposition = &self.records.propositions[*at as usize];
             [
                 number(at),
-                yes_no(authorised),
+                yes_no(self.authorised(*at)),
                 number(proposition.ast_owner_id),
                 number(proposition.semantic_scope_id),
                 number(proposition.type_obligation_id),
@@ -149,7 +148,7 @@ pub fn witnesses_table<'a>(witnesses: impl Iterator<Item = &'a Witness>, paint: 
     .lines(paint)
 }
 
-fn yes_no(yes: bool) -> Cell {
+pub fn yes_no(yes: bool) -> Cell {
     match yes {
         true => styled("yes", Style::Green),
         false => styled("no", Style::Plain),
