@@ -1,6 +1,7 @@
 #!/usr/bin/env python3
-"""Writes the example sections beside this file: specimen 4 of docs/01-scope.md, which is accepted; specimen 5, which is refused; one in
-which a positive and a negative proof are joined; and two that differ, as of two compilers that translated the same sources.
+"""Writes the example sections beside this file: specimen 4 of docs/01-scope.md, which is accepted; specimen 5, which is refused; one in which
+a positive and a negative proof are joined; two that differ, as of two compilers that translated the same sources; and one of schema 2, whose spans
+are long.
 
 What the specimens leave free (the digests, the epoch, owner, scope, type and the span) is zeros.
 """
@@ -32,12 +33,13 @@ def proof(number, proposition, rule, authority, witnesses, parents, operation):
     return u32(number, proposition) + text(rule) + u32(authority, *witnesses, *parents) + bytes([operation, 0, 0, 0])
 
 
-def witness(number, proposition, polarity, file=DIGEST, span=(0, 0), origin=DIGEST):
-    return u32(number, proposition) + bytes([polarity, 0, 0, 0]) + file + u32(*span) + origin
+def witness(number, proposition, polarity, file=DIGEST, span=(0, 0), origin=DIGEST, schema=1):
+    start_and_end = struct.pack("<2Q" if schema == 2 else "<2I", *span)
+    return u32(number, proposition) + bytes([polarity, 0, 0, 0]) + file + start_and_end + origin
 
 
-def section(propositions, proofs, witnesses, parents, source_set=DIGEST, compiler=DIGEST):
-    schema, flags, epoch = 1, 0, 0
+def section(propositions, proofs, witnesses, parents, source_set=DIGEST, compiler=DIGEST, schema=1):
+    flags, epoch = 0, 0
     payload = u16(schema) + u16(flags) + source_set + compiler + u16(epoch) + text(b"a") + text(b"b")
     payload += u32(len(propositions), len(proofs), len(witnesses), len(parents))
     payload += b"".join(propositions + proofs + witnesses) + u32(*parents)
@@ -119,6 +121,25 @@ def second():
     )
 
 
+def long():
+    """Schema 2: two propositions, with witnesses far inside a long scan, whose spans 32 bits do not hold."""
+    digests = [bytes(range(first, first + 32)) for first in range(0, 128, 32)]
+    return section(
+        [proposition(b"marriage", 3, 5, 8), proposition(b"residence", 3, 6, 8)],
+        [
+            proof(0, 0, b"POS-WITNESS-1", 7, (0, 1), (0, 0), 0),
+            proof(1, 0, b"OP-T-ONLY-1", 7, (1, 0), (0, 1), 1),
+            proof(2, 1, b"NEG-WITNESS-1", 7, (1, 1), (1, 0), 0),
+        ],
+        [
+            witness(0, 0, 1, digests[0], (2**32, 2**32 + 4096), digests[1], 2),
+            witness(1, 1, 0, digests[2], (2**53 + 1, 2**64 - 1), digests[3], 2),
+        ],
+        [0],
+        schema=2,
+    )
+
+
 if __name__ == "__main__":
     here = pathlib.Path(__file__).parent
     (here / "accepted.evr0").write_bytes(specimen(0))
@@ -126,3 +147,4 @@ if __name__ == "__main__":
     (here / "joined.evr0").write_bytes(joined())
     (here / "first.evr0").write_bytes(first())
     (here / "second.evr0").write_bytes(second())
+    (here / "long.evr0").write_bytes(long())

@@ -27,7 +27,7 @@ extern "C" {
 
 /* The version of this header: ten thousand times the first number, a hundred times the second, and the third. The first rises where a
  * struct, an argument or an answer changes, and the second where something is added. */
-#define FALGNUST_VERSION 60200
+#define FALGNUST_VERSION 70000
 
 /* Layouts: the size of each struct below is that of the struct in crates/falgnust/src. */
 #define FALGNUST_SIZE(type, size) FALGNUST_ASSERT(sizeof(type) == (size), #type " has another layout")
@@ -150,6 +150,7 @@ typedef struct FalgnustSection {
     uint8_t source_set[32];
     uint8_t compiler_contract[32];
     uint16_t epoch;
+    uint16_t schema; /* 1 or 2: a span's start and end take 4 bytes each in the payload under 1, and 8 under 2 */
     size_t policy_at; /* places in the payload of the policy's and the issuer's length: falgnust_read_text reads each */
     size_t issuer_at;
     size_t policy_chars; /* how many characters each has */
@@ -232,10 +233,10 @@ typedef struct FalgnustWitness {
     uint32_t witness_id;
     uint32_t proposition_index;
     uint8_t polarity;
-    uint32_t source_start;
-    uint32_t source_end;
+    uint64_t source_start; /* 64 bits under either schema */
+    uint64_t source_end;
 } FalgnustWitness;
-FALGNUST_SIZE(FalgnustWitness, 120);
+FALGNUST_SIZE(FalgnustWitness, 128);
 
 typedef struct FalgnustParent {
     bool accepted;
@@ -247,15 +248,18 @@ FALGNUST_SIZE(FalgnustParent, 40);
 
 /* A record at a place of a payload: a proposition at an entry of the table of propositions, a proof at one of proofs, a witness and a
  * parent cell at the places below. This is how to read all records of a section that was decoded once. A place where no such record
- * stands gives whatever its bytes say, or a refusal (5 to 9) whose offset counts from that place. */
+ * stands gives whatever its bytes say, or a refusal (5 to 9) whose offset counts from that place.
+ *
+ * schema, here and below, is the section's: under 2 a witness takes 92 bytes, its span's start and end 8 each; any other number means 84 and
+ * 4, as 1 does. */
 FalgnustProposition falgnust_read_proposition(const uint8_t *payload, size_t payload_len, size_t at);
 FalgnustProof falgnust_read_proof(const uint8_t *payload, size_t payload_len, size_t at);
-FalgnustWitness falgnust_read_witness(const uint8_t *payload, size_t payload_len, size_t at);
+FalgnustWitness falgnust_read_witness(const uint8_t *payload, size_t payload_len, uint16_t schema, size_t at);
 FalgnustParent falgnust_read_parent(const uint8_t *payload, size_t payload_len, size_t at);
 
 /* The place of a witness and of a parent cell in a payload of len bytes, by the counts of its section; 0, where no record stands, for a
  * number that is not below its count. */
-size_t falgnust_witness_place(size_t len, size_t witnesses, size_t parents, uint32_t number);
+size_t falgnust_witness_place(size_t len, uint16_t schema, size_t witnesses, size_t parents, uint32_t number);
 size_t falgnust_parent_place(size_t len, size_t parents, uint32_t number);
 
 /* The fields of many records at once, as words of a lent table, for whoever copies all records of a section that was decoded once. Nothing is
@@ -267,7 +271,7 @@ bool falgnust_proposition_words( /* 5 words each */
 bool falgnust_proof_words( /* 10 words each */
     const uint8_t *payload, size_t payload_len, const uint64_t *starts, size_t starts_len, uint64_t *words, size_t words_len);
 bool falgnust_witness_words( /* 7 words each: number, proposition, polarity, first digest, start, end, second digest */
-    const uint8_t *payload, size_t payload_len, const uint64_t *starts, size_t starts_len, uint64_t *words, size_t words_len);
+    const uint8_t *payload, size_t payload_len, uint16_t schema, const uint64_t *starts, size_t starts_len, uint64_t *words, size_t words_len);
 /* The parent cells from a place on, as many as there are words. */
 bool falgnust_parent_words(const uint8_t *payload, size_t payload_len, size_t at, uint64_t *words, size_t words_len);
 

@@ -1,4 +1,4 @@
-/* Prints an evidence section: its propositions, and its proofs with depth, mark, witnesses and parents. For each proof that is named after
+/* Prints an evidence section: its schema, its propositions, and its proofs with depth, mark, witnesses and parents. For each proof that is named after
  * the file, the way down to its witness, and whether its proposition is authorised.
  *
  *   section FILE [PROOF..]      ("-" is standard input) */
@@ -57,9 +57,9 @@ static void print_proposition(const uint8_t *payload, size_t len, size_t number,
     printf(", characters %zu, owner %" PRIu32 ", scope %" PRIu32 ", type %" PRIu32 "\n", p.kind.chars, p.ast_owner_id, p.semantic_scope_id, p.type_obligation_id);
 }
 
-static void print_witness(const uint8_t *payload, size_t len, size_t at) {
-    FalgnustWitness w = falgnust_read_witness(payload, len, at);
-    printf("  witness %" PRIu32 ": polarity %u, source %" PRIu32 " to %" PRIu32, w.witness_id, w.polarity, w.source_start, w.source_end);
+static void print_witness(const uint8_t *payload, size_t len, uint16_t schema, size_t at) {
+    FalgnustWitness w = falgnust_read_witness(payload, len, schema, at);
+    printf("  witness %" PRIu32 ": polarity %u, source %" PRIu64 " to %" PRIu64, w.witness_id, w.polarity, w.source_start, w.source_end);
     printf("\n    file   ");
     print_digest(w.file_digest);
     printf("\n    origin ");
@@ -72,8 +72,10 @@ static void print_proof(const uint8_t *payload, size_t len, const FalgnustSectio
     printf("proof %" PRIu32 ": proposition %" PRIu32 ", ", p.proof_id, p.proposition_index);
     print_text(payload + p.rule_id.start, p.rule_id.len);
     printf(", authority %" PRIu32 ", depth %" PRIu64 ", mark %u\n", p.authority_context, depth, mark);
-    for (uint32_t i = 0; i < p.witness_count; i++)
-        print_witness(payload, len, falgnust_witness_place(len, section->witnesses, section->parents, p.witness_first + i));
+    for (uint32_t i = 0; i < p.witness_count; i++) {
+        size_t place = falgnust_witness_place(len, section->schema, section->witnesses, section->parents, p.witness_first + i);
+        print_witness(payload, len, section->schema, place);
+    }
     for (uint32_t i = 0; i < p.parent_count; i++) {
         size_t cell = falgnust_parent_place(len, section->parents, p.parent_first + i);
         printf("  parent %" PRIu32 "\n", falgnust_read_parent(payload, len, cell).proof_id);
@@ -89,6 +91,7 @@ static int list(Source *s) {
         return refused(section.refusal);
     const uint8_t *payload = s->input.bytes + 8;
     size_t len = section.cursor - 8;
+    printf("schema %u\n", section.schema);
     print_namespace("policy", payload, len, section.policy_at, section.policy_chars);
     print_namespace("issuer", payload, len, section.issuer_at, section.issuer_chars);
     for (size_t i = 0; i < section.propositions; i++)

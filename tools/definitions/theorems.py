@@ -1,6 +1,6 @@
 """Writes a crate of theorems, each by computation: the definition gives the Rust's answer to one input.
 
-usage: theorems.py section|block|functions|ruled|compared REPOSITORY < the lines of tools/sample"""
+usage: theorems.py section|wide|block|functions|ruled|compared REPOSITORY < the lines of tools/sample"""
 import glob
 import os
 import re
@@ -34,7 +34,7 @@ def with_dependencies(repository, crate):
 
 def main():
     kind, repository = sys.argv[1:]
-    form = {"section": sections, "block": blocks, "functions": functions, "ruled": ruled, "compared": compared}[kind]
+    form = {"section": sections, "wide": sections, "block": blocks, "functions": functions, "ruled": ruled, "compared": compared}[kind]
     uses, names = [], list(form.NAMES)
     crates = with_dependencies(repository, form.CRATE)
     for crate in crates:

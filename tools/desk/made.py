@@ -4,7 +4,7 @@ import sys
 
 TOP = os.path.dirname(os.path.dirname(os.path.dirname(os.path.abspath(__file__))))
 sys.path.append(os.path.join(TOP, "tools", "replay"))
-from sections import JOIN, NEG, OP, POS, Section, chain, shapes, text
+from sections import JOIN, NEG, OP, POS, Section, chain, shapes, text, wide
 
 HOSTILE = [
     "<script>document.title = 'taken'</script>",
@@ -46,6 +46,15 @@ def grouped(groups, layers=0, wide=20):
         for _ in range(layers):
             last = [s.proof(JOIN, sorted((last[at], last[(at + 1) % wide])), groups) for at in range(wide)]
         s.proof(OP, last[:1], groups)
+    return s
+
+
+def long_scans():
+    """Schema 2, with spans around 2^32, around 2^53, up to which a 64-bit float holds every number, and at the end."""
+    s = wide(Section().proposition(b"k"))
+    for span in ((0, 2**32 - 1), (2**32, 2**32 + 1), (2**53 - 1, 2**53), (2**53 + 1, 2**63), (2**64 - 2, 2**64 - 1)):
+        s.proof(POS)
+        s.witnesses[-1].update(start=span[0], end=span[1])
     return s
 
 

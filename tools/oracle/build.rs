@@ -3,7 +3,7 @@
 //! SEMANTIC_SRC names a checkout of skulmakov-oss/Semantic at commit a38c216cab. Its files must have the sums in sources.sha256. They are
 //! copied to OUT_DIR as they are, but for two mechanical changes: the functions in reach/ are appended, since what they call is private, and so
 //! is the loop of `decode_semcode` as a function of its own. The files of plain/, for what the Rust does not have, are copied beside them, and so
-//! is `evr0_ruled`, evr0.rs with other rules: a model, and not the Rust.
+//! are models of it, which are not the Rust: `evr0_ruled`, evr0.rs with other rules, `evr0_wide`, evr0.rs for schema 2, and `evr0_wide_ruled`, with both.
 
 use std::env;
 use std::fs;
@@ -39,8 +39,14 @@ fn main() {
         }
         root.push_str(&copied(&out, module, text));
     }
-    let ruled = with_fault("evr0_ruled", ruled(&read(&sources.join("evr0.rs"))));
-    root.push_str(&copied(&out, "evr0_ruled", ruled));
+    let evr0 = read(&sources.join("evr0.rs"));
+    for (module, text) in [
+        ("evr0_ruled", ruled(&evr0)),
+        ("evr0_wide", wide(&evr0)),
+        ("evr0_wide_ruled", wide_ruled(&evr0)),
+    ] {
+        root.push_str(&copied(&out, module, with_fault(module, text)));
+    }
     for module in PLAIN {
         let file = PathBuf::from(format!("plain/{module}.rs"));
         println!("cargo::rerun-if-changed={}", file.display());
@@ -108,15 +114,41 @@ fn functions_from(text: &str) -> String {
     )
 }
 
-/// evr0.rs by the rules of a table: in the two places that name rules the caller's table is asked. Its types are those of `evr0`.
-fn ruled(text: &str) -> String {
-    let types = once(text, "#[derive(Debug, Clone, Copy, PartialEq, Eq)]\n");
-    let reader = once(text, "struct Reader<'a> {\n");
-    let mut text = format!("{}{USED}{}", &text[..types], &text[reader..]);
-    for (old, new) in RULED {
+/// A model: evr0.rs without its types up to a place, for which others are used, and with some places edited, each of which must stand exactly once.
+fn model(text: &str, until: &str, used: &str, places: &[&[Place]]) -> String {
+    let (types, rest) = (once(text, ERRORS), once(text, until));
+    let mut text = format!("{}{used}\n{}", &text[..types], &text[rest..]);
+    for (old, new) in places.iter().copied().flatten() {
         once(&text, old);
         text = text.replacen(old, new, 1);
     }
+    text
+}
+
+/// A text, and what replaces it.
+type Place = (&'static str, &'static str);
+
+/// The first of the types, the first that schema 2 changes, and what follows them.
+const ERRORS: &str = "#[derive(Debug, Clone, Copy, PartialEq, Eq)]\npub enum Evr0ErrorKind {\n";
+const WITNESS: &str = "#[derive(Debug, Clone, PartialEq, Eq)]\npub struct Witness {\n";
+const READER: &str = "struct Reader<'a> {\n";
+
+/// evr0.rs by the rules of a table: in the two places that name rules the caller's table is asked.
+fn ruled(text: &str) -> String {
+    without_the_four(model(text, READER, RULED_USES, &[&RULED]))
+}
+
+/// evr0.rs for schema 2: its number, 92 bytes for a witness, and spans of 8 bytes, held and read. `size_of` then gives 96 by itself.
+fn wide(text: &str) -> String {
+    model(text, WITNESS, WIDE_USES, &[&WIDE_TYPES, &WIDE])
+}
+
+/// The same by the rules of a table.
+fn wide_ruled(text: &str) -> String {
+    without_the_four(model(text, READER, WIDE_RULED_USES, &[&WIDE, &RULED]))
+}
+
+fn without_the_four(text: String) -> String {
     for name in [
         "POS-WITNESS-1",
         "NEG-WITNESS-1",
@@ -128,13 +160,38 @@ fn ruled(text: &str) -> String {
     text
 }
 
-const USED: &str =
+const RULED_USES: &str =
     "use crate::evr0::{DecodedEvr0, Evr0Error, Evr0ErrorKind, Proof, Proposition, Witness};
 use crate::rules::Rule;
-
 ";
 
-const RULED: [(&str, &str); 3] = [
+const WIDE_USES: &str = "use crate::evr0::{Evr0Error, Evr0ErrorKind, Proof, Proposition};
+";
+
+const WIDE_RULED_USES: &str = "use crate::evr0::{Evr0Error, Evr0ErrorKind, Proof, Proposition};
+use crate::evr0_wide::{DecodedEvr0, Witness};
+use crate::rules::Rule;
+";
+
+const WIDE_TYPES: [Place; 2] = [
+    ("pub source_start: u32,", "pub source_start: u64,"),
+    ("pub source_end: u32,", "pub source_end: u64,"),
+];
+
+const WIDE: [Place; 4] = [
+    ("if r.u16()? != 1 {", "if r.u16()? != 2 {"),
+    ("[15usize, 35, 84, 4]", "[15usize, 35, 92, 4]"),
+    (
+        "source_start: r.u32()?,",
+        r#"source_start: u64::from_le_bytes(r.take(8)?.try_into().expect("fixed read")),"#,
+    ),
+    (
+        "source_end: r.u32()?,",
+        r#"source_end: u64::from_le_bytes(r.take(8)?.try_into().expect("fixed read")),"#,
+    ),
+];
+
+const RULED: [Place; 3] = [
     (
         "pub fn decode_evr0_section(bytes: &[u8], ",
         "pub fn decode_evr0_section(rules: &[Rule], bytes: &[u8], ",

@@ -5,8 +5,8 @@
 
 RUST_FOLDER is a checkout of skulmakov-oss/Semantic at commit a38c216cab. The inputs are those of sections.py, blocks.py and functions.py beside this file,
 those of docs/REFUSALS.md, and from tools/sample so many small ones for each refusal number and condition, accepted ones, and every cut and
-one change of each byte of a few. The answers are the Rust's, but for 61, which it does not have: short_section, short_block and
-short_functions say where that is due. The seed is fixed, so that a second run writes the same list.
+one change of each byte of a few. The answers are the Rust's, but for sections of schema 2, whose answers are those of the model in tools/oracle,
+and for 61, which neither has: short_section, short_block and short_functions say where that is due. The seed is fixed, so that a second run writes the same list.
 
 Writes crates/test_replay/stdin and crates/test_replay/stdout. An entry of the list is what crates/test_replay/src/asked.rt reads, and then
 the answer in the order in which crates/test_replay/src/section.rt, block.rt and functions.rt hold it against theirs: numbers of 4 bytes (offsets and
@@ -27,10 +27,10 @@ import functions
 import inputs
 import sections
 
-SAMPLES = ("section 1 5 480 120", "block 1 12 300 120", "functions 1 3 400 30", "fixed")
+SAMPLES = ("section 1 5 480 120", "wide 1 3 480 40", "block 1 12 300 120", "functions 1 3 400 30", "fixed")
 KINDS = ("Invalid", "Limit", "Strings", "Debug", "Ownership", "Added", "Truncated", "Name", "Signature")
 SECTION, BLOCK, FUNCTIONS = 0, 1, 2
-PAGE, PAGES, END = 262144, 19, b"\xff"
+PAGE, PAGES, END = 262144, 21, b"\xff"
 LARGEST = 2**64 - 1
 
 

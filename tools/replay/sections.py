@@ -1,6 +1,6 @@
 """Sections that the replayed list names one by one: accepted shapes, limits, and one or two faults at once.
 
-A section is a value of fields, written by document 01's layout. An input is (bytes, cursor, lengths of the lent tables or none).
+A section is a value of fields, written by document 01's layout, or by that of schema 2. An input is (bytes, cursor, lengths of the lent tables or none).
 """
 import copy
 import itertools
@@ -26,6 +26,7 @@ def words(*numbers):
 class Section:
     def __init__(self):
         self.tag, self.schema, self.flags, self.epoch = b"EVR0", 1, 0, 9
+        self.span = 4  # bytes of a span's start, and of its end
         self.policy, self.issuer = text(b"a"), text(b"b")
         self.propositions, self.proofs, self.witnesses, self.parents = [], [], [], []
         self.counts, self.length, self.more = [None] * 4, None, b""
@@ -62,12 +63,19 @@ class Section:
             out += bytes([p["operation"]]) + p["zeros"]
         for w in self.witnesses:
             out += words(w["number"], w["proposition"]) + bytes([w["polarity"]]) + w["zeros"] + bytes(range(32))
-            out += words(w["start"], w["end"]) + bytes(range(32, 64))
+            out += b"".join((w[name] % 256**self.span).to_bytes(self.span, "little") for name in ("start", "end")) + bytes(range(32, 64))
         return bytes(out + words(*self.parents) + self.more)
 
     def bytes(self):
         payload = self.payload()
         return self.tag + words(len(payload) if self.length is None else self.length) + payload
+
+
+def wide(section):
+    """The section in schema 2."""
+    s = copy.deepcopy(section)
+    s.schema, s.span = 2, 8
+    return s
 
 
 def with_propositions(*kinds):
@@ -168,7 +176,7 @@ HEAD = [
     put("length", 0),
     put("length", 2**22 + 1),
     put("length", 2**22),
-    put("schema", 2),
+    put("schema", 3),
     put("flags", 1),
     put("policy", text(b"")),
     put("policy", text(b"a", 4097)),
@@ -365,6 +373,47 @@ def numbers():
             yield s
 
 
+# ---- Schema 2, and every other
+
+
+def schemas():
+    for schema in (0, 3, 4, 255, 256, 257, 258, 512, 513, 2**15 + 2, 2**16 - 1):
+        for s in (Section(), base(), wide(base())):
+            s.schema = schema
+            yield s
+    for schema, span in ((1, 8), (2, 4)):  # the layout of the other
+        s = base()
+        s.schema, s.span = schema, span
+        yield s
+    for s in (*shapes(), chain(256), chain(257)):
+        yield wide(s)
+    for fault in HEAD + RECORDS:
+        yield faulty(wide(base()), fault)
+    ends = (0, 1, 2**31, 2**32 - 1, 2**32, 2**32 + 1, 2**33, 2**63, 2**64 - 1)
+    for start, end in itertools.product(ends, repeat=2):
+        s = wide(grown((POS,)))
+        s.witnesses[0].update(start=start, end=end)
+        yield s
+    for change in (-1, 0, 1):  # 13: 92 for a witness, and not 84
+        for least in ((0, 0, 84, 0), (0, 0, 92, 0), (15, 35, 92, 4), (0, 0, 92 + 84, 0), (0, 0, 92 + 92, 0)):
+            s = wide(Section())
+            s.counts = [int(least[0] > 0), int(least[1] > 0), (least[2] + 91) // 92, int(least[3] > 0)]
+            s.more = bytes(sum(least) + change)
+            yield s
+
+
+def payloads():
+    """Payloads of a schema and a part of the flags; and each cut of a witness, where the kind is so long that 13 does not apply."""
+    for schema in (1, 2, 3, 258, 513):
+        for length in (1, 2, 3, 4):
+            yield b"EVR0" + words(length) + struct.pack("<HH", schema, 0)[:length], 0, None
+    for s in (grown((POS,)), wide(grown((POS,)))):
+        s.propositions[0][0] = text(b"k" * 100)
+        data = s.bytes()
+        for end in range(len(data) - 76 - 2 * s.span, len(data)):
+            yield data[:4] + words(end - 8) + data[8:end], 0, None
+
+
 # ---- The frame, and the lent tables
 
 
@@ -398,11 +447,14 @@ def rooms():
         for lengths in ((1, 4, 4), (2, 3, 4), (2, 4, 3), (2, 4, 4), (0, 0, 0)):
             if fault in HEAD or lengths in ((2, 3, 4), (2, 4, 4)):
                 yield faulty(base(), fault).bytes(), 0, lengths
+    for lengths in ((1, 4, 4), (2, 3, 4), (2, 4, 3), (2, 4, 4), (3, 5, 6)):
+        yield wide(base()).bytes(), 0, lengths
 
 
 def inputs():
-    for make in (shapes, chains, pairs, kin, deep_pairs, texts, numbers):
+    for make in (shapes, chains, pairs, kin, deep_pairs, texts, numbers, schemas):
         for s in make():
             yield s.bytes(), 0, None
+    yield from payloads()
     yield from framed()
     yield from rooms()

@@ -1,6 +1,6 @@
 /* Replays the list of crates/test_replay/stdin, from standard input, through the C functions, with every lent table and the lent list of
  * symbols compared whole, up to the first answer that differs. Inputs count from 0. A section goes through both decoders. The list
- * has no marks: those of proofs have to be 1, 2 or 3, and those past the count 0. */
+ * has no marks: those of proofs have to be 1, 2 or 3, and those past the count 0; nor has it the schema, which has to be the payload's. */
 #include "falgnust.h"
 #include <stdio.h>
 #include <string.h>
@@ -81,6 +81,7 @@ static void section(const uint8_t *input, size_t len, size_t cursor, size_t a, s
     old(a, b, c);
     FalgnustSection s = falgnust_decode_evr0_section(input, len, cursor, first, a, second, b, third, c, marks, c);
     told_section(s, a, b, c);
+    same = same && s.schema == (s.accepted ? input[cursor + 8] + 256u * input[cursor + 9] : 0);
     for (size_t i = 0; i < c; i++)
         same = same && (i < s.proofs ? 1 <= marks[i] && marks[i] <= 3 : marks[i] == 0);
 }

@@ -13,7 +13,7 @@ import sys
 sys.dont_write_bytecode = True
 TOP = os.path.dirname(os.path.dirname(os.path.dirname(os.path.abspath(__file__))))
 sys.path.append(os.path.join(TOP, "tools", "replay"))
-from sections import JOIN, OP, POS, Section, text
+from sections import JOIN, OP, POS, Section, text, wide
 
 CRATE = os.path.join(TOP, "crates", "test_rules")
 LENT = 8  # entries of the table of depths
@@ -98,6 +98,12 @@ def sections():
     s = by(DIOCESE)
     s.parents[-1] = 4
     yield table(*DIOCESE), s, refused(25, len(s.bytes()) - 4)
+    # schema 2
+    yield table(*DIOCESE), wide(s), refused(25, len(wide(s).bytes()) - 4)
+    yield table(*DIOCESE), wide(by(DIOCESE)), accepted(by(DIOCESE))
+    yield table(*FOUR[::-1]), wide(by(FOUR)), accepted(by(FOUR))
+    yield table(*DIOCESE), wide(by(FOUR)), refused(20, proof_start(s, 0))
+    yield table(Rule("POS-WITNESS-1", 1, 0, 0, 0), *FOUR[1:]), wide(by(FOUR)), refused(29, PAYLOAD)
 
 
 def tables():

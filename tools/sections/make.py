@@ -13,7 +13,7 @@ import sys
 sys.dont_write_bytecode = True
 TOP = os.path.dirname(os.path.dirname(os.path.dirname(os.path.abspath(__file__))))
 sys.path.append(os.path.join(TOP, "tools", "replay"))
-from sections import JOIN, NEG, OP, POS, Section
+from sections import JOIN, NEG, OP, POS, Section, wide
 
 CRATE = os.path.join(TOP, "crates", "test_sections")
 
@@ -86,6 +86,12 @@ def entries():
     yield b"EVR1" + s.bytes()[4:], 9, refused(1, 0, 9)
     s.parents[-1] = 2
     yield s.bytes(), 9, refused(25, len(s.bytes()) - 4, 9)
+    yield wide(s).bytes(), 9, refused(25, len(wide(s).bytes()) - 4, 9)
+    # schema 2
+    for s in (wide(section(*sides)), wide(beside), wide(negative)):
+        count = len(s.proofs)
+        yield s.bytes(), count + 1, accepted(s, count + 1)
+        yield s.bytes(), count - 1, refused(61, counts_end(s), count - 1)
 
 
 def main():

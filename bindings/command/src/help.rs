@@ -35,14 +35,14 @@ pub fn of(command: &str) -> Option<&'static str> {
             "\
 falgnust section FILE [--at N] [--rules FILE] [--proposition N | --proof N] [--json]
 
-What the evidence section at a place holds: namespaces; propositions, each authorised or not; proofs with rule, depth
-and mark, and the way down to a witness; witnesses with span and digests.
+What the evidence section at a place holds: schema and namespaces; propositions, each authorised or not; proofs with
+rule, depth and mark, and the way down to a witness; witnesses with span and digests.
 
   --at N           the section's place in the file; 0 where it is not given
   --rules FILE     a table of rules in the place of the four; where it is refused, no section is looked at
   --proposition N  that proposition alone, with its proofs
   --proof N        that proof alone: its proposition, each move of the way down, the witness at its end
-  --json           for scripts, on standard output, a refusal too
+  --json           for scripts, on standard output, a refusal too; a number of a span above 2^53 - 1 is text there
 
 A proof's mark says how the walks down from it end, by any parents until none is left: positive, where each ends at a
 positive witness; negative, where each ends at a negative one; both, otherwise. A proposition is authorised where some

@@ -246,10 +246,10 @@ pub fn read_proof(payload: &[u8], at: usize) -> Proof {
     at_place(falgnust_read_proof, payload, at)
 }
 
-/// The witness at a place of a payload.
+/// The witness at a place of a payload of this schema.
 #[inline]
-pub fn read_witness(payload: &[u8], at: usize) -> Witness {
-    at_place(falgnust_read_witness, payload, at)
+pub fn read_witness(payload: &[u8], schema: u16, at: usize) -> Witness {
+    unsafe { falgnust_read_witness(payload.as_ptr(), payload.len(), schema, at) }
 }
 
 /// The parent cell at a place of a payload.
@@ -258,10 +258,16 @@ pub fn read_parent(payload: &[u8], at: usize) -> Parent {
     at_place(falgnust_read_parent, payload, at)
 }
 
-/// Where a witness stands in a payload of `len` bytes.
+/// Where a witness stands in a payload of `len` bytes of this schema.
 #[inline]
-pub fn witness_place(len: usize, witnesses: usize, parents: usize, number: u32) -> usize {
-    unsafe { falgnust_witness_place(len, witnesses, parents, number) }
+pub fn witness_place(
+    len: usize,
+    schema: u16,
+    witnesses: usize,
+    parents: usize,
+    number: u32,
+) -> usize {
+    unsafe { falgnust_witness_place(len, schema, witnesses, parents, number) }
 }
 
 /// Where a parent cell stands in a payload of `len` bytes.
@@ -295,10 +301,20 @@ pub fn proof_words(payload: &[u8], starts: &[u64], words: &mut [u64]) -> bool {
     of_starts(falgnust_proof_words, payload, starts, words)
 }
 
-/// 7 words of each witness.
+/// 7 words of each witness of a payload of this schema.
 #[inline]
-pub fn witness_words(payload: &[u8], starts: &[u64], words: &mut [u64]) -> bool {
-    of_starts(falgnust_witness_words, payload, starts, words)
+pub fn witness_words(payload: &[u8], schema: u16, starts: &[u64], words: &mut [u64]) -> bool {
+    unsafe {
+        falgnust_witness_words(
+            payload.as_ptr(),
+            payload.len(),
+            schema,
+            starts.as_ptr(),
+            starts.len(),
+            words.as_mut_ptr(),
+            words.len(),
+        )
+    }
 }
 
 /// 2 words of each text of a section or string of a block.

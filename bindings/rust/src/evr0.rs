@@ -4,6 +4,9 @@
 //! Added beside the original: [`Evr0Error::number`], `Display` and `Error` for [`Evr0Error`], the records by number
 //! ([`proposition_number`], [`proof_number`], [`witness_number`], [`parent_number`]), [`way_down`], [`authorised`], [`authorised_table`] and
 //! [`marks`]; two sections compared ([`compare_sections`]); and all of them by other rules than the four ([`RuleTable`], [`RulesError`]).
+//!
+//! Otherwise than in the original, sections of schema 2 are read too, so that a witness's span has 64 bits under either schema, and a section
+//! says which it has ([`DecodedEvr0::schema`]). A caller that names these types sees it when it is compiled.
 
 use crate::calls::{self, SectionTables};
 use crate::messages;
@@ -138,10 +141,10 @@ pub struct Witness {
     pub polarity: u8,
     /// The first digest.
     pub file_digest: [u8; 32],
-    /// Where its span starts.
-    pub source_start: u32,
+    /// Where its span starts. In the original this is a `u32`; schema 2 has 64 bits.
+    pub source_start: u64,
     /// Where its span ends.
-    pub source_end: u32,
+    pub source_end: u64,
     /// The second digest.
     pub origin_digest: [u8; 32],
 }
@@ -155,6 +158,8 @@ pub struct DecodedEvr0 {
     pub compiler_contract: [u8; 32],
     /// The epoch.
     pub epoch: u16,
+    /// The schema, 1 or 2. The original, a reader of schema 1, does not have this field.
+    pub schema: u16,
     /// The policy's namespace.
     pub policy_namespace: String,
     /// The issuer's namespace.

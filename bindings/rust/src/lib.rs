@@ -1,7 +1,7 @@
 //! Evidence sections and function tables of SemCode, decoded by functions that are proved to give the answers of their definitions.
 //!
 //! The module [`evr0`] takes the place of the one of that name in skulmakov-oss/Semantic, whole: the same functions, types, fields and
-//! messages, so that a caller changes a path and nothing else. [`semcode_decode`] has the parts of that module that read a file's functions
+//! messages, but for what schema 2 asks, so that a caller changes a path and little else. [`semcode_decode`] has the parts of that module that read a file's functions
 //! and a function's block, which is private there; `decode_semcode` itself is missing. [`locks`] is not in the original: it keeps which paths are claimed. Behind all stands the static library that
 //! `rt staticlib falgnust` writes; nothing here parses a byte.
 //!
@@ -19,7 +19,10 @@
 //! assert_eq!(section.policy_namespace, "a");
 //! assert_eq!(cursor, 100);
 //!
-//! file[8] = 2;
+//! file[8] = 2; // the other schema, in which spans are longer
+//! assert_eq!(decode_evr0_section(&file, &mut 0).unwrap().schema, 2);
+//!
+//! file[8] = 3;
 //! let error = decode_evr0_section(&file, &mut 0).unwrap_err();
 //! assert_eq!(error.to_string(), "unsupported EVR0 schema at 10");
 //! assert_eq!(error.number(), Some(10));

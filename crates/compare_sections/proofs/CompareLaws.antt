@@ -42,12 +42,13 @@ module _ {which : Given} {bytes : List ℕ} {cursor : ℕ} {before after : one.L
   not-decoded e = answer-refused cursor x (sym (ap (λ (a : unmarked.Answer). a .outcome) (tells .answer)) ∙ e)
 
   module _ {a : unmarked.Accepted} (e : given .outcome ≡ ok a) where
-    found : (d : Section) × (x ≡ ok d) × (answerOf cursor x .cursor ≡ d .cursor) × (a .counts ≡ d .tables .head .counts)
+    found : (d : Section) × (x ≡ ok d) × (answerOf cursor x .cursor ≡ d .cursor) × (a .schema ≡ d .tables .head .schema)
+        × (a .counts ≡ d .tables .head .counts)
     found = answer-accepted cursor x (sym (ap (λ (a : unmarked.Answer). a .outcome) (tells .answer)) ∙ e)
 
     pub decoded : Told bytes cursor (given .cursor) (a .counts .propositions) (after .others .others .propositions) (after .authorised)
     decoded =
-        let (d, is, end, counts) = found in
+        let (d, is, end, schema, counts) = found in
         let n : length (startsOf (d .tables .propositions .entries)) ≡ a .counts .propositions =
         sides.starts-count which (inputOf before bytes cursor) d is ∙ ap (λ (c : Counts). c .propositions) (sym counts) in
         let starts = tells .tables .others .others .propositions

@@ -20,7 +20,8 @@ use Rattle.derivation.specs.Rule.{Rule, fourRules}
 use Rattle.derivation.specs.Section as derivation
 use Rattle.derivation.specs.Pass.{parentsFrom, witnessesFrom, depthOf, depthsFrom, depths}
 use Rattle.evr0_section.specs.Rows.{Sized, Entry}
-use Rattle.evr0_section.specs.Head.{Counts, Head, Room, listed, countLimits, withinLimits, sizes, checkCounts}
+use Rattle.evr0_section.specs.Head.{Counts, Head, Room, spanWidth, witnessSize, listed, countLimits, withinLimits, sizes, checkCounts}
+use Rattle.evr0_section.proofs.SectionWithin.{least-sizes}
 use Rattle.evr0_section.specs.Proof.{ProofRecord, Settled, Unowned, proofOf, zerosAt, proofRow}
 use Rattle.evr0_section.specs.Section.{Section, decodeSection}
 use Rattle.evr0_section.proofs.RowChecks.{proof-behind}
@@ -134,8 +135,9 @@ counts-few : (room : Room) (p : List ℕ) (h : Head) {u : Unit {0}} → checkCou
 unfolding checkCounts
 counts-few room p h e =
     let limits = then-ok (withinLimits (listed (h .counts)) countLimits (h .countsAt)) _ e in
-    let c = checked-ok (leb (sizes (h .counts) 15 35 84 4) (length p - h .next)) 13 (h .next) _ (limits .2) in
-    omega (arith, leb-true (sizes (h .counts) 15 35 84 4) (length p - h .next) (c .0))
+    let size : ℕ = witnessSize (spanWidth (h .schema)) in
+    let c = checked-ok (leb (sizes (h .counts) 15 35 size 4) (length p - h .next)) 13 (h .next) _ (limits .2) in
+    least-sizes (h .counts) (h .schema) (length p) (omega (arith, leb-true (sizes (h .counts) 15 35 size 4) (length p - h .next) (c .0))) .bytes
 
 take-bytes : (n : ℕ) (s : List ℕ) → Bytes s → Bytes (take n s)
 take-bytes zero s h i = omega arith

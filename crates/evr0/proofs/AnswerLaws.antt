@@ -23,6 +23,7 @@ pub answered-with : (x : Out Section) (s : Section) (h : Head) (cursor end : ℕ
       cursor = end;
       outcome =
           ok (record {
+            schema = h .schema;
             epoch = h .epoch;
             policyAt = h .policyAt;
             issuerAt = h .issuerAt;

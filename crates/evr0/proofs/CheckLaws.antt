@@ -14,6 +14,7 @@ use Rattle.derivation.specs.Rule.{Rule}
 use Rattle.derivation.specs.Pass.{depths}
 use Rattle.derivation.proofs.Tests.{both}
 use Rattle.evr0_section.specs.Head.{Counts, Head, Room, listed, countLimits, withinLimits, sizes, hasRoom, headOf, checkCounts, checkedHead}
+use Rattle.evr0_section.specs.Head.{spanWidth, witnessSize, witnessMemory}
 use Rattle.evr0_section.specs.Rows.{startsOf}
 use Rattle.evr0_section.specs.Section.{Four, tablesAfter, whole, sectionOf, tablesOf}
 use Rattle.evr0_section.proofs.SectionWithin.{head-end}
@@ -42,8 +43,8 @@ unfolding checkCounts hasRoom
 counts-ready room p g f k =
     let a = then-ok (withinLimits (listed (g .counts)) countLimits (g .countsAt)) _ k in
     let l : Limited (g .counts) = limited (g .counts) (g .countsAt) (a .1) in
-    let b = checked-ok (leb (sizes (g .counts) 15 35 84 4) (length p - g .next)) 13 (g .next) _ (a .2) in
-    let c = checked-ok (leb (length p + sizes (g .counts) 40 64 84 4) 16777216) 14 (g .next) _ (b .1) in
+    let b = checked-ok (leb (sizes (g .counts) 15 35 (witnessSize (spanWidth (g .schema))) 4) (length p - g .next)) 13 (g .next) _ (a .2) in
+    let c = checked-ok (leb (length p + sizes (g .counts) 40 64 (witnessMemory (g .schema)) 4) 16777216) 14 (g .next) _ (b .1) in
     let d = checked-ok (leb (length p + sizes (g .counts) 1 1 1 1) 8388608) 15 (g .next) _ (c .1) in
     let r = both _ _ (check-ok _ 61 (g .next) (d .1)) in
     let s = both _ _ (r .1) in
@@ -62,8 +63,8 @@ head-ready room p h e =
     let b = then-ok (checkCounts room p (a .0)) _ (a .2) in
     subst (λ (g : Head). Ready room p (g .counts) (g .next)) (ok-same (b .2)) (counts-ready room p (a .0) (a .1) (b .1))
 
-pub ready : (room : Room) (p : List ℕ) (counts : Counts) (at : ℕ) → HeadThere room p counts at → Ready room p counts at
-ready room p counts at t =
+pub ready : (room : Room) (p : List ℕ) (schema : ℕ) (counts : Counts) (at : ℕ) → HeadThere room p schema counts at → Ready room p counts at
+ready room p schema counts at t =
     let r = head-ready room p (t .head) (t .read) in
     rw (t .same, t .next) at r
 
@@ -87,16 +88,18 @@ pass-refused : (x : Out (List ℕ)) {q : Refusal} → doneIn x ≡ refused q →
 pass-refused (ok ds) e = absurd (never (sym e))
 pass-refused (refused r) e = cc
 
-same-parts : {c d : Counts} {w v q k : ℕ} → c ≡ d → w ≡ v → q ≡ k → _≡_ {A = Layout} (record { counts = c; witnessesAt = w; parentsAt = q })
-    (record { counts = d; witnessesAt = v; parentsAt = k })
-same-parts a b c = rw (a, b, c)
+pub same-parts : {c d : Counts} {m n w v q k : ℕ} → c ≡ d → m ≡ n → w ≡ v → q ≡ k
+    → _≡_ {A = Layout} (record { counts = c; witnessSize = m; witnessesAt = w; parentsAt = q })
+    (record { counts = d; witnessSize = n; witnessesAt = v; parentsAt = k })
+same-parts a b c d = rw (a, b, c, d)
 
-module _ (rules : List Rule) (before after : Lent) (p : List ℕ) (counts : Counts) (at : ℕ) (there : HeadThere (roomOf before) p counts at) where
+module _ (rules : List Rule) (before after : Lent) (p : List ℕ) (schema : ℕ) (counts : Counts) (at : ℕ)
+    (there : HeadThere (roomOf before) p schema counts at) where
   abbrev four : Out Four
-  four = tablesAfter rules counts p at
+  four = tablesAfter rules (spanWidth schema) counts p at
 
-  same-tables : {x : Out Four} → four ≡ x → tablesAfter rules (there .head .counts) p (there .head .next) ≡ x
-  same-tables e = rw (there .same, there .next) e
+  same-tables : {x : Out Four} → four ≡ x → tablesAfter rules (spanWidth (there .head .schema)) (there .head .counts) p (there .head .next) ≡ x
+  same-tables e = rw (there .is, there .same, there .next) e
 
   -- ---- Refused tables
   pub tables-refused : {ps qs : List ℕ} {q : Refusal} → Reads four (before .propositions) (before .proofs) ps qs (refused q) → after .propositions ≡ ps
@@ -107,7 +110,8 @@ module _ (rules : List Rule) (before after : Lent) (p : List ℕ) (counts : Coun
       (record { propositions = ep ∙ r .propositions ∙ rw x; proofs = eq ∙ r .proofs ∙ rw x; depths = d })
 
   -- ---- Tables that were read, with what the last pass makes of them
-  module _ {ps qs : List ℕ} {g : Places} (r : Reads four (before .propositions) (before .proofs) ps qs (ok g)) where
+  module _ {size : ℕ} (sized : size ≡ witnessSize (spanWidth schema)) {ps qs : List ℕ} {g : Places}
+      (r : Reads four (before .propositions) (before .proofs) ps qs (ok g)) where
     f : Four
     f = places-read four (sym (r .answer)) .0
 
@@ -115,7 +119,7 @@ module _ (rules : List Rule) (before after : Lent) (p : List ℕ) (counts : Coun
     unfolding f
     four-is = places-read four (sym (r .answer)) .1
 
-    of-head : tablesAfter rules (there .head .counts) p (there .head .next) ≡ ok f
+    of-head : tablesAfter rules (spanWidth (there .head .schema)) (there .head .counts) p (there .head .next) ≡ ok f
     of-head = same-tables four-is
 
     read : tablesOf rules (roomOf before) p ≡ ok (whole (there .head) f)
@@ -130,11 +134,13 @@ module _ (rules : List Rule) (before after : Lent) (p : List ℕ) (counts : Coun
         ∙ take-at (startsOf (f .proofs .entries)) _ (counts .proofs) total
 
     abbrev layout : Layout
-    layout = record { counts = counts; witnessesAt = g .witnessesAt; parentsAt = g .parentsAt }
+    layout = record { counts = counts; witnessSize = size; witnessesAt = g .witnessesAt; parentsAt = g .parentsAt }
 
     same-layout : layoutOf (whole (there .head) f) ≡ layout
     unfolding f
-    same-layout = let b = places-read four (sym (r .answer)) in same-parts (there .same) (b .2) (b .3)
+    same-layout =
+        let b = places-read four (sym (r .answer)) in
+        same-parts (there .same) (ap (λ (n : ℕ). witnessSize (spanWidth n)) (there .is) ∙ sym sized) (b .2) (b .3)
 
     pub may-derive : TablesThere p (take (counts .proofs) qs) layout
     may-derive = rw (starts-are, ← same-layout) (tables-there rules (roomOf before) p (whole (there .head) f) read)

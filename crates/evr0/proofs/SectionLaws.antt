@@ -7,7 +7,7 @@ use Rattle.local_format.specs.Out.{ok, refused}
 use Rattle.local_format.proofs.OutLaws.{bind-ok, ok-same}
 use Rattle.derivation.specs.Rule.{Rule}
 use Rattle.derivation.specs.Pass.{depths}
-use Rattle.evr0_section.specs.Head.{Head, Room, checkedHead}
+use Rattle.evr0_section.specs.Head.{Head, Room, spanWidth, checkedHead}
 use Rattle.evr0_section.specs.Section.{Four, Tables, Section, tablesAfter, whole, sectionOf, tablesOf, sectionIn}
 
 module _ (rules : List Rule) (room : Room) (p : List ℕ) where
@@ -17,11 +17,12 @@ module _ (rules : List Rule) (room : Room) (p : List ℕ) where
     no-head q e = rw e
 
     module _ (h : Head) (eh : checkedHead room p ≡ ok h) where
-      pub no-tables : (q : Refusal) → tablesAfter rules (h .counts) p (h .next) ≡ refused q → sectionIn rules room p cursor ≡ refused q
+      pub no-tables : (q : Refusal) → tablesAfter rules (spanWidth (h .schema)) (h .counts) p (h .next) ≡ refused q
+          → sectionIn rules room p cursor ≡ refused q
       unfolding sectionIn tablesOf
       no-tables q e = rw (eh, e)
 
-      module _ (f : Four) (ef : tablesAfter rules (h .counts) p (h .next) ≡ ok f) where
+      module _ (f : Four) (ef : tablesAfter rules (spanWidth (h .schema)) (h .counts) p (h .next) ≡ ok f) where
         pub tables-are : tablesOf rules room p ≡ ok (whole h f)
         unfolding tablesOf
         tables-are = rw (eh, ef)
@@ -43,7 +44,7 @@ module _ (rules : List Rule) (room : Room) (p : List ℕ) where
           let b = bind-ok (depths (a .0 .witnesses .next) (sectionOf (a .0))) _ (a .2) in
           let q : record { tables = a .0; depths = b .0; cursor = cursor } ≡ s = ok-same (b .2) in
           let k = bind-ok (checkedHead room p) _ (a .1) in
-          let f = bind-ok (tablesAfter rules (k .0 .counts) p (k .0 .next)) _ (k .2) in
+          let f = bind-ok (tablesAfter rules (spanWidth (k .0 .schema)) (k .0 .counts) p (k .0 .next)) _ (k .2) in
           let w : whole (k .0) (f .0) ≡ a .0 = ok-same (f .2) in (
             ap (λ (x : Section). x .tables .head) (sym q) ∙ ap (λ (x : Tables). x .head) (sym w) ∙ ok-same (sym (k .1) ∙ eh),
             ap (λ (x : Section). x .cursor) (sym q),

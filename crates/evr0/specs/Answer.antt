@@ -30,9 +30,10 @@ roomOf t =
 
 -- ---- The answer
 
--- what is given of an accepted section: the epoch, the places in the payload of both namespaces' lengths, how many characters each has,
+-- what is given of an accepted section: the schema, the epoch, the places in the payload of both namespaces' lengths, how many characters each has,
 -- and the counts
 pub record Accepted : Type 0 where
+  pub schema : ℕ
   pub epoch : ℕ
   pub policyAt : ℕ
   pub issuerAt : ℕ
@@ -56,6 +57,7 @@ answerOf cursor (ok s) =
       cursor = s .cursor;
       outcome =
           ok (record {
+            schema = s .tables .head .schema;
             epoch = s .tables .head .epoch;
             policyAt = s .tables .head .policyAt;
             issuerAt = s .tables .head .issuerAt;

@@ -17,6 +17,7 @@ use Rattle.evr0.specs.declared.section.DecodedEvr0.{DecodedEvr0}
 abbrev pub acceptedOut : given.Accepted → of.Accepted
 acceptedOut a =
     record {
+      schema = a .schema;
       epoch = a .epoch;
       policyAt = a .«policy_namespace»;
       issuerAt = a .«issuer_namespace»;
@@ -29,6 +30,7 @@ acceptedOut a =
 abbrev pub headOutcome : head.Head → of.Accepted
 headOutcome h =
     record {
+      schema = h .schema;
       epoch = h .epoch;
       policyAt = h .«policy_at»;
       issuerAt = h .«issuer_at»;

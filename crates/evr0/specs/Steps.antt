@@ -16,10 +16,11 @@ payloadIn rules tables payload end = sectionIn rules (roomOf tables) payload end
 abbrev pub sectionBy : List Rule → Lent → List ℕ → ℕ → Out Section
 sectionBy rules tables bytes cursor = sectionAt rules (roomOf tables) bytes cursor
 
--- a payload has a checked head with these counts, after which stands this place
-pub record HeadThere (room : Room) (p : List ℕ) (counts : Counts) (at : ℕ) : Type 0 where
+-- a payload has a checked head with this schema and these counts, after which stands this place
+pub record HeadThere (room : Room) (p : List ℕ) (schema : ℕ) (counts : Counts) (at : ℕ) : Type 0 where
   pub head : Head
   pub read : checkedHead room p ≡ ok head
+  pub is : head .schema ≡ schema
   pub same : head .counts ≡ counts
   pub next : head .next ≡ at
 

@@ -24,9 +24,10 @@ use evr0_rules::settle::Rules;
 use evr0_tables::payload::Places;
 use local_format::refusal::Refusal;
 
-// What is given of an accepted section: the epoch, the places in the payload of both namespaces' lengths, how many characters each has,
+// What is given of an accepted section: the schema, the epoch, the places in the payload of both namespaces' lengths, how many characters each has,
 // and the counts.
 pub struct Accepted {
+    pub schema: u16,
     pub epoch: u16,
     pub policy_namespace: usize,
     pub issuer_namespace: usize,
@@ -66,6 +67,7 @@ fn accept(head: Head) -> Accepted
     let policy = head.policy_namespace;
     let issuer = head.issuer_namespace;
     Accepted {
+        schema: head.schema,
         epoch: head.epoch,
         policy_namespace: head.policy_at,
         issuer_namespace: head.issuer_at,
@@ -81,13 +83,14 @@ fn check_tables(
     table: &[u8],
     places: &[u64],
     payload: &[u8],
+    schema: u16,
     counts: Counts,
     at: usize,
     propositions: &mut [u64],
     proofs: &mut [u64],
     depths: &mut [u64],
 ) -> Checked
-    requires { ⌜ HeadThere (roomOf (lentOf (now propositions) (now proofs) (now depths))) (now payload) (countsOut counts) at
+    requires { ⌜ HeadThere (roomOf (lentOf (now propositions) (now proofs) (now depths))) (now payload) schema (countsOut counts) at
         × RulesThere (now table) (now places) ⌝ }
     ensures { λ r. ⌜ ((end : ℕ) → Passes
         (payloadIn (rulesIn rules (now (table .entry)) (now (places .entry)))
@@ -95,11 +98,13 @@ fn check_tables(
         (lentOf (now (propositions .entry)) (now (proofs .entry)) (now (depths .entry)))
         (lentOf (now (propositions .exit)) (now (proofs .exit)) (now (depths .exit))) (checkedOut r)) ⌝ }
 {
+    let size = evr0_fields::schema::witness_size(schema);
     let tables = evr0_tables::payload::read_tables(
         rules,
         table,
         places,
         payload,
+        schema,
         counts,
         at,
         propositions,
@@ -117,6 +122,7 @@ fn check_tables(
             let count = counts.proofs;
             let layout = Layout {
                 counts,
+                witness_size: size,
                 witnesses_at,
                 parents_at,
             };
@@ -181,6 +187,7 @@ fn decode_payload(
                 table,
                 places,
                 payload,
+                head.schema,
                 counts,
                 head.next,
                 propositions,

@@ -79,7 +79,8 @@ module _ {which : Given} {bytes : List ℕ} {cursor : ℕ} {before after : Lent}
       record { answer = rw z; tables = rw z (rw z at (leaves .tables)) }
 
   module _ {a : unmarked.Accepted} (e : given .outcome ≡ ok a) where
-    found : (d : Section) × (x ≡ ok d) × (answerOf cursor x .cursor ≡ d .cursor) × (a .counts ≡ d .tables .head .counts)
+    found : (d : Section) × (x ≡ ok d) × (answerOf cursor x .cursor ≡ d .cursor) × (a .schema ≡ d .tables .head .schema)
+        × (a .counts ≡ d .tables .head .counts)
     found = answer-accepted cursor x (sym (ap (λ (a : Answer). a .outcome) (leaves .answer)) ∙ e)
 
     abbrev d : Section
@@ -99,12 +100,12 @@ module _ {which : Given} {bytes : List ℕ} {cursor : ℕ} {before after : Lent}
     unfolding proofTotal sectionOf
     one-each =
         leaves .holds .marks (by .0) (by .1) d (by .2) .total ∙ length-map (d .tables .proofs .entries) proofItem ∙ counted .proofs ∙ ap
-        (λ (c : Counts). c .proofs) (sym (found .3))
+        (λ (c : Counts). c .proofs) (sym (found .4))
 
     pub due : Due bytes cursor (given .cursor) (a .counts) (after .others .proofs) (after .marks)
     due =
         let n : length (startsOf (d .tables .proofs .entries)) ≡ a .counts .proofs =
-        length-map (d .tables .proofs .entries) (λ e. e .start) ∙ counted .proofs ∙ ap (λ (c : Counts). c .proofs) (sym (found .3)) in
+        length-map (d .tables .proofs .entries) (λ e. e .start) ∙ counted .proofs ∙ ap (λ (c : Counts). c .proofs) (sym (found .4)) in
         record {
           rules = by .0;
           shaped = given-shaped which (by .0) (by .1);
@@ -112,7 +113,7 @@ module _ {which : Given} {bytes : List ℕ} {cursor : ℕ} {before after : Lent}
           section = d;
           decoded = by .2;
           ends = sym (ap (λ (a : Answer). a .cursor) (leaves .answer) ∙ found .2);
-          counted = sym (found .3);
+          counted = sym (found .4);
           started = ap (take (a .counts .proofs))
               (leaves .tables .others .proofs ∙ ap (λ (y : Out Section). lent (length (before .others .proofs)) (unmarked.proofStarts y)) (found .1))
               ∙ take-at (startsOf (d .tables .proofs .entries)) _ (a .counts .proofs) n;
@@ -128,7 +129,7 @@ module _ {which : Given} {bytes : List ℕ} {cursor : ℕ} {before after : Lent}
     front = ap (take (length (marksOf d))) marks-are ∙ take-at (marksOf d) _ (length (marksOf d)) refl
 
     propositions : length (d .tables .propositions .entries) ≡ a .counts .propositions
-    propositions = counted .propositions ∙ ap (λ (c : Counts). c .propositions) (sym (found .3))
+    propositions = counted .propositions ∙ ap (λ (c : Counts). c .propositions) (sym (found .4))
 
     pub answered : {r : Bool} → n < a .counts .propositions → r ≡ authorised (sectionOf (due .section .tables)) n
         → AuthorisesBy which n (authorisedTold n) bytes cursor before after (ok r)

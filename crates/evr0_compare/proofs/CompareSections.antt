@@ -21,7 +21,7 @@ use Rattle.local_format.proofs.TagLaws.{equal-is}
 use Rattle.derivation.specs.Rule.{Rule}
 use Rattle.derivation.specs.Section as derivation
 use Rattle.evr0_section.specs.Rows.{Entry}
-use Rattle.evr0_section.specs.Head.{Room, Digest, digestAt, countsAt, Head, headOf}
+use Rattle.evr0_section.specs.Head.{Room, Digest, digestAt, countsAt, Head, isSchema, headOf}
 use Rattle.evr0_section.specs.Proposition.{Proposition, propositionRow}
 use Rattle.evr0_section.specs.Section.{Frame, frameAt, Tables, Section, sectionOf, tablesOf}
 use Rattle.evr0_compare.specs.Compare.{Standing, standingKey, standingsFrom, standings, compared, Rising, Totals}
@@ -189,7 +189,7 @@ pub head-source : (p : List ℕ) (h : Head) → headOf p ≡ ok h → (36 ≤ le
 unfolding headOf
 head-source p h e =
     step (sectionField 2 p 0) _ e λ schema f e1.
-    let (t, e2) = checked-ok (eqb (schema .value) 1) 10 (schema .next) _ e1 in
+    let (t, e2) = checked-ok (isSchema (schema .value)) 10 (schema .next) _ e1 in
     step (sectionField 2 p (schema .next)) _ e2 λ flags g e3.
     let (u, e4) = checked-ok (eqb (flags .value) 0) 11 (flags .next) _ e3 in
     step (digestAt p (flags .next)) _ e4 λ source k e5.

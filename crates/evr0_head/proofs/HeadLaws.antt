@@ -12,7 +12,8 @@ use Rattle.local_format.specs.Text.{Span, sectionField, textAt}
 use Rattle.local_format.proofs.OutLaws.{ok-same, bind-ok, checked-ok}
 use Rattle.local_format.proofs.FieldLaws.{field-ok}
 use Rattle.local_format.proofs.TextLaws.{text-ok}
-use Rattle.evr0_section.specs.Head.{Counts, Counted, Head, Room, digestAt, countsAt, headOf, listed, countLimits, withinLimits, checkCounts, checkedHead}
+use Rattle.evr0_section.specs.Head.{Counts, Counted, Head, Room, digestAt, countsAt, isSchema, headOf, listed, countLimits, withinLimits}
+use Rattle.evr0_section.specs.Head.{checkCounts, checkedHead}
 use Rattle.evr0_head.specs.Checks.{Limited}
 use Rattle.evr0_fields.specs.Maps.{Beside, beside}
 use Rattle.evr0_head.specs.Maps.{headIn, headOut, headBeside}
@@ -68,12 +69,13 @@ pub record Lies (p : List ℕ) (h : Head) : Type 0 where
   pub next : h .next ≡ h .countsAt + 16
   pub ends : h .next ≤ length p
 
-lies : (p source contract : List ℕ) (epoch : ℕ) {a b c d e : ℕ} (policy issuer : Span) (counted : Counted)
+lies : (p source contract : List ℕ) (schema epoch : ℕ) {a b c d e : ℕ} (policy issuer : Span) (counted : Counted)
     → a ≡ 0 + 2 → b ≡ a + 2 → c ≡ b + 32 → d ≡ c + 32 → e ≡ d + 2
     → policy .next ≡ e + 2 + policy .len → issuer .next ≡ policy .next + 2 + issuer .len
     → (counted .next ≡ issuer .next + 16) × (counted .next ≤ length p)
     → Lies p
     (record {
+      schema = schema;
       sourceSet = source;
       compilerContract = contract;
       epoch = epoch;
@@ -85,7 +87,7 @@ lies : (p source contract : List ℕ) (epoch : ℕ) {a b c d e : ℕ} (policy is
       countsAt = issuer .next;
       next = counted .next;
     })
-lies p source contract epoch policy issuer counted h1 h2 h3 h4 h5 h6 h7 h8 =
+lies p source contract schema epoch policy issuer counted h1 h2 h3 h4 h5 h6 h7 h8 =
     record { policy = omega arith; issuer = omega arith; counts = omega arith; next = h8 .0; ends = h8 .1 }
 
 -- what holds after a step that was read
@@ -96,7 +98,7 @@ pub head-ok : (p : List ℕ) {h : Head} → headOf p ≡ ok h → Lies p h
 unfolding headOf
 head-ok p e =
     after (sectionField 2 p 0) _ e λ schema f1 e1.
-    after (sectionField 2 p (schema .next)) _ (checked-ok (eqb (schema .value) 1) 10 (schema .next) _ e1 .1) λ flags f2 e2.
+    after (sectionField 2 p (schema .next)) _ (checked-ok (isSchema (schema .value)) 10 (schema .next) _ e1 .1) λ flags f2 e2.
     after (digestAt p (flags .next)) _ (checked-ok (eqb (flags .value) 0) 11 (flags .next) _ e2 .1) λ source f3 e3.
     after (digestAt p (source .next)) _ e3 λ contract f4 e4.
     after (sectionField 2 p (contract .next)) _ e4 λ epoch f5 e5.
@@ -104,7 +106,7 @@ head-ok p e =
     after (textAt p (policy .next)) _ e6 λ issuer f7 e7.
     after (countsAt p (issuer .next)) _ e7 λ counted f8 e8.
     subst (Lies p) (ok-same e8)
-    (lies p (source .bytes) (contract .bytes) (epoch .value) policy issuer counted
+    (lies p (source .bytes) (contract .bytes) (schema .value) (epoch .value) policy issuer counted
     (field-ok 5 2 p 0 f1 .0)
     (field-ok 5 2 p (schema .next) f2 .0)
     (digest-ok p (flags .next) f3 .0)

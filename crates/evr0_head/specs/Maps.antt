@@ -27,6 +27,7 @@ roomOut r = record { propositions = r .propositions; proofs = r .proofs; depths 
 abbrev pub headRecord : List ℕ → List ℕ → Head → of.Head
 headRecord source contract h =
     record {
+      schema = h .schema;
       sourceSet = source;
       compilerContract = contract;
       epoch = h .epoch;

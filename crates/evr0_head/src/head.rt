@@ -14,6 +14,9 @@ use crate::counts::Counts;
 use evr0_fields::check::Checked;
 use evr0_fields::check::both;
 use evr0_fields::place::Place;
+use evr0_fields::schema::is_schema;
+use evr0_fields::schema::witness_memory;
+use evr0_fields::schema::witness_size;
 use evr0_fields::span::Span;
 use local_format::field::U16;
 use local_format::refusal::Refusal;
@@ -21,6 +24,7 @@ use local_format::text::Text;
 
 // The places of the namespaces' lengths and of the first count, and the place after the counts.
 pub struct Head {
+    pub schema: u16,
     pub epoch: u16,
     pub policy_at: usize,
     pub policy_namespace: Span,
@@ -63,15 +67,15 @@ fn refused_head(refusal: Refusal) -> HeadRead
 pub fn read_head(payload: &[u8]) -> HeadRead
     ensures { λ r. ⌜ headOut r ≡ headBeside (headOf (now (payload .entry))) ⌝ }
 {
-    let schema = local_format::field::read_u16_le(payload, 0);
+    let version = local_format::field::read_u16_le(payload, 0);
     let U16::Value {
-        value: version,
+        value: schema,
         next: flags_at,
-    } = schema
+    } = version
     else {
         return refused_head(local_format::refusal::refuse(5, 0));
     };
-    if version != 1 {
+    if !is_schema(schema) {
         return refused_head(local_format::refusal::refuse(10, flags_at));
     }
     let flags = local_format::field::read_u16_le(payload, flags_at);
@@ -133,6 +137,7 @@ pub fn read_head(payload: &[u8]) -> HeadRead
         source_set,
         compiler_contract,
         answer: HeadAnswer::Read(Head {
+            schema,
             epoch,
             policy_at,
             policy_namespace: Span {
@@ -189,8 +194,8 @@ fn within_limits(counts: Counts, at: usize) -> Checked
 }
 
 fn product(size: usize, count: usize) -> usize
-    requires { ⌜ (size ≤ 84) × (count ≤ 262144) ⌝ }
-    ensures { λ r. ⌜ (r ≡ size * count) × (r ≤ 22020096) ⌝ }
+    requires { ⌜ (size ≤ 96) × (count ≤ 262144) ⌝ }
+    ensures { λ r. ⌜ (r ≡ size * count) × (r ≤ 25165824) ⌝ }
 {
     size * count
 }
@@ -204,8 +209,8 @@ fn table_sizes(
     parent: usize,
 ) -> usize
     requires { ⌜ Limited (countsOut counts) ⌝ }
-    requires { ⌜ (proposition ≤ 84) × (proof ≤ 84) × (witness ≤ 84) × (parent ≤ 84) ⌝ }
-    ensures { λ r. ⌜ (r ≡ sizes (countsOut counts) proposition proof witness parent) × (r ≤ 88080384) ⌝ }
+    requires { ⌜ (proposition ≤ 96) × (proof ≤ 96) × (witness ≤ 96) × (parent ≤ 96) ⌝ }
+    ensures { λ r. ⌜ (r ≡ sizes (countsOut counts) proposition proof witness parent) × (r ≤ 100663296) ⌝ }
 {
     product(proposition, counts.propositions)
         + product(proof, counts.proofs)
@@ -222,10 +227,10 @@ fn check_sizes(payload: &[u8], head: Head, room: Room) -> Checked
     let len = payload.len();
     let next = head.next;
     let counts = head.counts;
-    if len - next < table_sizes(counts, 15, 35, 84, 4) {
+    if len - next < table_sizes(counts, 15, 35, witness_size(head.schema), 4) {
         return evr0_fields::check::refused(13, next);
     }
-    if 16777216 < len + table_sizes(counts, 40, 64, 84, 4) {
+    if 16777216 < len + table_sizes(counts, 40, 64, witness_memory(head.schema), 4) {
         return evr0_fields::check::refused(14, next);
     }
     if 8388608 < len + table_sizes(counts, 1, 1, 1, 1) {

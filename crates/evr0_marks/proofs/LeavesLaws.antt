@@ -23,7 +23,7 @@ use Rattle.evr0.specs.Answer.{Answer, answerOf, lentOf, propositionStarts, proo
 use Rattle.evr0_read.proofs.TableLaws.{facts}
 use Rattle.evr0_read.proofs.FindLaws.{answer-refused, answer-accepted}
 use Rattle.evr0_marks.specs.Answer.{Lent, withMarks, roomOf, proofMarks, Leaves, decodeGiven, LeavesBy}
-use Rattle.evr0_marks.specs.Steps.{Due}
+use Rattle.evr0_marks.specs.Steps.{Due, DueOf}
 
 -- zeros past a table that already ends in zeros
 lent-twice : (n m : ℕ) (xs : List ℕ) → length xs ≤ m → m ≤ n → lent n (lent m xs) ≡ lent n xs
@@ -103,13 +103,14 @@ module _ (which : Given) (bytes : List ℕ) (cursor : ℕ) (before : Lent) {room
 
     -- ---- An accepted section
     module _ {a : unmarked.Accepted} (e : given .outcome ≡ ok a) where
-      found : (d : Section) × (x ≡ ok d) × (answerOf cursor x .cursor ≡ d .cursor) × (a .counts ≡ d .tables .head .counts)
+      found : (d : Section) × (x ≡ ok d) × (answerOf cursor x .cursor ≡ d .cursor) × (a .schema ≡ d .tables .head .schema)
+          × (a .counts ≡ d .tables .head .counts)
       found = answer-accepted cursor x (sym (ap (λ (a : Answer). a .outcome) answered) ∙ e)
 
-      pub due : Due bytes cursor (given .cursor) (a .counts) (left .proofs) (before .marks)
+      due : Due bytes cursor (given .cursor) (a .counts) (left .proofs) (before .marks)
       unfolding decodeBy
       due =
-          let (d, is, end, counts) = found in
+          let (d, is, end, schema, counts) = found in
           let (rules, given-are, decoded) = bind-ok (rulesGiven which) _ is in
           let f = facts rules (roomOf before) bytes cursor d decoded in
           let n : length (startsOf (d .tables .proofs .entries)) ≡ a .counts .proofs =
@@ -130,8 +131,13 @@ module _ (which : Given) (bytes : List ℕ) (cursor : ℕ) (before : Lent) {room
             fits = omega (arith, short, depthed, least);
           }
 
-      pub some : {marks : List ℕ} → marks ≡ lent (length (before .marks)) (marksOf (due .section)) → marks ≡ lent (length (before .marks)) (proofMarks x)
+      pub due-of : DueOf (a .schema) bytes cursor (given .cursor) (a .counts) (left .proofs) (before .marks)
       unfolding due
+      due-of = record { due = due; is = sym (found .3) }
+
+      pub some : {marks : List ℕ} → marks ≡ lent (length (before .marks)) (marksOf (due-of .due .section))
+          → marks ≡ lent (length (before .marks)) (proofMarks x)
+      unfolding due due-of
       some h = rw (found .1) h
 
 -- ---- By the four

@@ -14,7 +14,7 @@ use Rattle.derivation.specs.Section.{Proof, Section, Witness, noWitness, proofA
 use Rattle.derivation.specs.InOrder.{inOrder, gathered}
 use Rattle.derivation.specs.Mark.{endPolarity, endMark, joined, markOf, marks}
 use Rattle.derivation.proofs.Laws.{in-order-none, in-order-turn, gathered-turn, mark-end, mark-inner}
-use Rattle.evr0_pass.specs.View.{Layout, afterName, places, proofView, witnessView, view, ProofThere}
+use Rattle.evr0_pass.specs.View.{Layout, afterName, places, proofView, widthIn, witnessView, view, ProofThere}
 use Rattle.evr0_pass.proofs.ViewLaws.{length-places, proof-total, proof-at, witness-at, parent-at}
 
 module _ (rules : List Rule) (p starts : List ℕ) (l : Layout) where
@@ -22,16 +22,17 @@ module _ (rules : List Rule) (p starts : List ℕ) (l : Layout) where
   s = view rules p starts l
 
   -- ---- A witness
-  pub polarity-there : (w : ℕ) → w < l .counts .witnesses → getD p (l .witnessesAt + 84 * w + 8) 0 ≡ witnessAt s w .polarity
+  pub polarity-there : (w : ℕ) → w < l .counts .witnesses → getD p (l .witnessesAt + l .witnessSize * w + 8) 0 ≡ witnessAt s w .polarity
   unfolding witnessView
-  polarity-there w h = le-1 p (l .witnessesAt + 84 * w + 8) ∙ sym (ap (λ (x : Witness). x .polarity) (witness-at rules p starts l w h))
+  polarity-there w h = le-1 p (l .witnessesAt + l .witnessSize * w + 8) ∙ sym (ap (λ (x : Witness). x .polarity) (witness-at rules p starts l w h))
 
   pub polarity-none : (w : ℕ) → l .counts .witnesses ≤ w → 0 ≡ witnessAt s w .polarity
   unfolding witnessAt view
   polarity-none w h =
-      let at = places 84 (l .counts .witnesses) (l .witnessesAt) in
-      let few : length (map (witnessView p) at) ≤ w = omega (arith, length-map at (witnessView p), length-places 84 (l .counts .witnesses) (l .witnessesAt)) in
-      ap (λ (x : Witness). x .polarity) (sym (List·getD-eq-default (map (witnessView p) at) noWitness {n = w} few))
+      let at = places (l .witnessSize) (l .counts .witnesses) (l .witnessesAt) in
+      let here : ℕ → Witness = witnessView (widthIn (l .witnessSize)) p in
+      let few : length (map here at) ≤ w = omega (arith, length-map at here, length-places (l .witnessSize) (l .counts .witnesses) (l .witnessesAt)) in
+      ap (λ (x : Witness). x .polarity) (sym (List·getD-eq-default (map here at) noWitness {n = w} few))
 
   -- ---- The parents
   -- one of them, whose number is `parent`, with the marks before it

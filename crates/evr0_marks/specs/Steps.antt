@@ -21,3 +21,8 @@ pub record Due (bytes : List ℕ) (cursor end : ℕ) (counts : Counts) (proofs m
   pub counted : section .tables .head .counts ≡ counts
   pub started : take (counts .proofs) proofs ≡ startsOf (section .tables .proofs .entries)
   pub fits : counts .proofs ≤ length marks
+
+-- and the section has this schema
+pub record DueOf (schema : ℕ) (bytes : List ℕ) (cursor end : ℕ) (counts : Counts) (proofs marks : List ℕ) : Type 0 where
+  pub due : Due bytes cursor end counts proofs marks
+  pub is : due .section .tables .head .schema ≡ schema

@@ -8,11 +8,12 @@ ghost use Rattle.derivation.specs.Rule.{Rule};
 ghost use Rattle.derivation.specs.Section.{witnessAt};
 ghost use Rattle.derivation.specs.InOrder.{gathered};
 ghost use Rattle.derivation.specs.Mark as of;
-ghost use Rattle.evr0_pass.specs.View.{TablesThere};
+ghost use Rattle.evr0_pass.specs.View.{WitnessesThere, TablesThere};
 ghost use Rattle.evr0_pass.specs.Maps.{layoutOut, tablesIn};
 use crate::record::after_name;
 use evr0_fields::number::wide;
 use evr0_pass::pass::Layout;
+use evr0_pass::pass::witness_start;
 use local_format::field::u32_at;
 
 // Two marks together; 0 is none.
@@ -53,11 +54,11 @@ fn byte_at(table: &[u8], i: usize) -> u8
 
 // The polarity of a witness; 0 where there is none with the number.
 fn polarity_at(payload: &[u8], tables: Layout, witness: usize) -> u8
-    requires { ⌜ tables .«witnesses_at» + 84 * tables .counts .witnesses ≤ length (now payload) ⌝ }
+    requires { ⌜ WitnessesThere (length (now payload)) (layoutOut tables) ⌝ }
     ensures { λ r. ⌜ ((rules : List Rule) (starts : List ℕ) → r ≡ witnessAt (tablesIn rules (now (payload .entry)) starts tables) witness .polarity) ⌝ }
 {
     if witness < tables.counts.witnesses {
-        return payload[tables.witnesses_at + 84 * witness + 8];
+        return payload[witness_start(payload.len(), tables, witness) + 8];
     }
     0
 }

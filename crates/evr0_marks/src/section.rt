@@ -7,11 +7,12 @@ ghost use Rattle.evr0_head.specs.Maps.{countsOut};
 ghost use Rattle.evr0.specs.Answer.{lentOf};
 ghost use Rattle.evr0.specs.AnswerMaps.{answerOut, givenOut};
 ghost use Rattle.evr0_marks.specs.Answer.{withMarks, Leaves, LeavesBy};
-ghost use Rattle.evr0_marks.specs.Steps.{Due};
+ghost use Rattle.evr0_marks.specs.Steps.{DueOf};
 use crate::marks::mark_proofs;
 use evr0::section::DecodedEvr0;
 use evr0::section::Outcome;
 use evr0::section::decode_evr0_by;
+use evr0_fields::schema::witness_size;
 use evr0_head::counts::Counts;
 use evr0_pass::pass::Layout;
 use evr0_read::cell::before_parents;
@@ -26,19 +27,21 @@ fn fill_marks(
     bytes: &[u8],
     cursor: usize,
     end: usize,
+    schema: u16,
     counts: Counts,
     proofs: &[u64],
     marks: &mut [u8],
 )
-    requires { ⌜ Due (now bytes) cursor end (countsOut counts) (now proofs) (now marks) ⌝ }
-    ensures { λ r. ⌜ ((due : Due (now (bytes .entry)) cursor end (countsOut counts) (now (proofs .entry)) (now (marks .entry)))
-        → now (marks .exit) ≡ lent (length (now (marks .entry))) (marksOf (due .section))) ⌝ }
+    requires { ⌜ DueOf schema (now bytes) cursor end (countsOut counts) (now proofs) (now marks) ⌝ }
+    ensures { λ r. ⌜ ((of : DueOf schema (now (bytes .entry)) cursor end (countsOut counts) (now (proofs .entry)) (now (marks .entry)))
+        → now (marks .exit) ≡ lent (length (now (marks .entry))) (marksOf (of .due .section))) ⌝ }
 {
     let payload = payload_of(bytes, cursor, end);
     let parents_at = before_parents(payload.len(), counts.parents);
-    let witnesses_at = before_witnesses(parents_at, counts.witnesses);
+    let witnesses_at = before_witnesses(parents_at, schema, counts.witnesses);
     let tables = Layout {
         counts,
+        witness_size: witness_size(schema),
         witnesses_at,
         parents_at,
     };
@@ -83,7 +86,7 @@ pub fn decode_evr0_section_by(
         }
         Outcome::Accepted(accepted) => {
             let counts = accepted.counts;
-            fill_marks(bytes, cursor, end, counts, proofs, marks);
+            fill_marks(bytes, cursor, end, accepted.schema, counts, proofs, marks);
         }
     }
     decoded

@@ -1,7 +1,8 @@
 -- The entries of a payload's tables by their places.
-use Prim.Native.Nat.{ℕ, zero, suc, _+_, _*_, _<_}
+use Prim.Native.Nat.{ℕ, zero, suc, _+_, _-_, _*_, _/_, _≤_, _<_}
 use mathlib.Core.Path.{_≡_, refl, ap, _∙_}
 use mathlib.Core.List.{List, [], _∷_, map}
+use native.Mathlib.Nat.{mul-le-mul-left, mul-div-cancel-left}
 use native.Mathlib.Omega.{arith}
 use mathlib.Core.Bool.{_&&_}
 use lib.Dec.{eqb}
@@ -10,7 +11,8 @@ use Rattle.local_format.specs.Field.{le}
 use Rattle.derivation.specs.Rule.{Rule}
 use Rattle.derivation.specs.Pass.{agrees}
 use Rattle.derivation.specs.Section.{Proof, proofAt, witnessAt, parentAt, proofTotal}
-use Rattle.evr0_pass.specs.View.{Layout, places, afterName, proofView, witnessView, view}
+use Rattle.evr0_section.specs.Head.{witnessSize}
+use Rattle.evr0_pass.specs.View.{Layout, places, afterName, proofView, widthIn, witnessView, view, WitnessesThere}
 
 pub getD-map-in : {A B : Type 0} (f : A → B) (l : List A) (i : ℕ) (d : A) (e : B) → i < length l → getD (map f l) i e ≡ f (getD l i d)
 getD-map-in f [] i d e h = absurd (omega arith)
@@ -31,6 +33,15 @@ getD-places size (suc n) at (suc i) h = getD-places size n (at + size) i (omega 
     rest : at + size + size * i ≡ at + size * suc i
     rest = omega arith
 
+pub width-in : (width : ℕ) → widthIn (witnessSize width) ≡ width
+unfolding widthIn
+width-in width = let e : 76 + 2 * width - 76 ≡ 2 * width = omega arith in ap (λ (n : ℕ). n / 2) e ∙ mul-div-cancel-left width (omega arith)
+
+-- a witness of the table ends within the payload
+pub witness-inside : {len : ℕ} (l : Layout) → WitnessesThere len l → (w : ℕ) → w < l .counts .witnesses
+    → l .witnessesAt + l .witnessSize * w + l .witnessSize ≤ len
+witness-inside l there w h = omega (arith, there .inside, mul-le-mul-left {m = suc w} {n = l .counts .witnesses} (l .witnessSize) (omega arith))
+
 module _ (rules : List Rule) (p starts : List ℕ) (l : Layout) where
   pub proof-total : proofTotal (view rules p starts l) ≡ length starts
   unfolding proofTotal view
@@ -40,10 +51,13 @@ module _ (rules : List Rule) (p starts : List ℕ) (l : Layout) where
   unfolding proofAt view
   proof-at i h = getD-map-in (proofView rules p) starts i 0 _ h
 
-  pub witness-at : (w : ℕ) → w < l .counts .witnesses → witnessAt (view rules p starts l) w ≡ witnessView p (l .witnessesAt + 84 * w)
+  abbrev pub width : ℕ
+  width = widthIn (l .witnessSize)
+
+  pub witness-at : (w : ℕ) → w < l .counts .witnesses → witnessAt (view rules p starts l) w ≡ witnessView width p (l .witnessesAt + l .witnessSize * w)
   unfolding witnessAt view
-  witness-at w h = getD-map-in (witnessView p) (places 84 (l .counts .witnesses) (l .witnessesAt)) w 0 _ (rw length-places h)
-      ∙ ap (witnessView p) (getD-places 84 _ _ w h)
+  witness-at w h = getD-map-in (witnessView width p) (places (l .witnessSize) (l .counts .witnesses) (l .witnessesAt)) w 0 _ (rw length-places h)
+      ∙ ap (witnessView width p) (getD-places (l .witnessSize) _ _ w h)
 
   pub parent-at : (c : ℕ) → c < l .counts .parents → parentAt (view rules p starts l) c ≡ le 4 p (l .parentsAt + 4 * c)
   unfolding parentAt view

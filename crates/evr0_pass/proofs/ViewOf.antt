@@ -11,7 +11,7 @@ use Rattle.local_format.specs.Field.{le}
 use Rattle.local_format.specs.Text.{bytesAt}
 use Rattle.derivation.specs.Rule.{Rule, known, ruleNamed}
 use Rattle.evr0_section.specs.Rows.{Sized, Row, Entry}
-use Rattle.evr0_section.specs.Head.{Counts, Room}
+use Rattle.evr0_section.specs.Head.{Counts, Room, spanWidth, witnessSize}
 use Rattle.evr0_section.specs.Proof.{ProofRecord, Settled, Unowned, proofRow}
 use Rattle.evr0_section.specs.Witness.{WitnessRecord, witnessRow, parentRow}
 use Rattle.evr0_section.specs.Section.{Tables, proofItem, witnessItem, parentItem, sectionOf, tablesOf}
@@ -21,6 +21,7 @@ use Rattle.evr0_section.proofs.RecordLaws.{ProofLies, proof-lies, witness-lies,
 use Rattle.evr0_section.proofs.CheckedTables.{Steps, steps}
 use Rattle.evr0_section.specs.Rows.{startsOf}
 use Rattle.evr0_pass.specs.View.{Layout, places, nameAt, proofView, witnessView, view, ProofThere, TablesThere, RulesKnown}
+use Rattle.evr0_pass.proofs.ViewLaws.{width-in}
 
 -- ---- Any table
 
@@ -111,24 +112,29 @@ names-known rules p l (more {at = at} {state = u} r e w) (suc i) h = names-known
 
 -- ---- A witness and a parent cell
 
-module _ (p : List ℕ) (counts : Counts) where
-  witness-view : (w at : ℕ) (r : Row WitnessRecord ℕ) → witnessRow 4 counts w (drop at p) ≡ ok r → witnessItem (entry at r) ≡ witnessView p at
+module _ (p : List ℕ) (width : ℕ) (counts : Counts) where
+  witness-view : (w at : ℕ) (r : Row WitnessRecord ℕ) → witnessRow width counts w (drop at p) ≡ ok r → witnessItem (entry at r) ≡ witnessView width p at
   unfolding witnessView
   witness-view w at r e =
-      let (x, f, i, z) = witness-behind 4 counts w (drop at p) r e in
-      let y = witness-lies p at 4 x f in
-      let q : at + 44 + 4 ≡ at + 48 = omega arith in
-      rw (i, y .number, y .proposition, y .polarity, y .spanStart, y .spanEnd, q)
+      let (x, f, i, z) = witness-behind width counts w (drop at p) r e in
+      let y = witness-lies p at width x f in
+      rw (i, y .number, y .proposition, y .polarity, y .spanStart, y .spanEnd)
 
-  witness-size : (w at : ℕ) (r : Row WitnessRecord ℕ) → witnessRow 4 counts w (drop at p) ≡ ok r → r .size ≡ 84
+  witness-size : (w at : ℕ) (r : Row WitnessRecord ℕ) → witnessRow width counts w (drop at p) ≡ ok r → r .size ≡ witnessSize width
   witness-size w at r e =
-      let (x, f, i, z) = witness-behind 4 counts w (drop at p) r e in
-      z ∙ witness-lies p at 4 x f .size
+      let (x, f, i, z) = witness-behind width counts w (drop at p) r e in
+      z ∙ witness-lies p at width x f .size
 
 -- ---- The tables of a payload
 
 abbrev pub layoutOf : Tables → Layout
-layoutOf t = record { counts = t .head .counts; witnessesAt = t .proofs .next; parentsAt = t .witnesses .next }
+layoutOf t =
+    record {
+      counts = t .head .counts;
+      witnessSize = witnessSize (spanWidth (t .head .schema));
+      witnessesAt = t .proofs .next;
+      parentsAt = t .witnesses .next;
+    }
 
 module _ (rules : List Rule) (room : Room) (p : List ℕ) (t : Tables) (read : tablesOf rules room p ≡ ok t) where
   read-steps : Steps rules room p t
@@ -138,9 +144,12 @@ module _ (rules : List Rule) (room : Room) (p : List ℕ) (t : Tables) (read : t
       (t .propositions .next) (t .proofs .entries) (t .proofs .state) (t .proofs .next)
   proofs-read = trace (proofRow rules (t .head .counts)) p _ _ _ (t .proofs) (read-steps .proofs)
 
-  witnesses-read : Trace (witnessRow 4 (t .head .counts)) p (t .head .counts .witnesses) 0 (t .proofs .next) (t .witnesses .entries)
+  abbrev width : ℕ
+  width = spanWidth (t .head .schema)
+
+  witnesses-read : Trace (witnessRow width (t .head .counts)) p (t .head .counts .witnesses) 0 (t .proofs .next) (t .witnesses .entries)
       (t .witnesses .state) (t .witnesses .next)
-  witnesses-read = trace (witnessRow 4 (t .head .counts)) p _ _ _ (t .witnesses) (read-steps .witnesses)
+  witnesses-read = trace (witnessRow width (t .head .counts)) p _ _ _ (t .witnesses) (read-steps .witnesses)
 
   parents-read : Trace parentRow p (t .head .counts .parents) tt (t .witnesses .next) (t .parents .entries) (t .parents .state) (t .parents .next)
   parents-read = trace parentRow p _ _ _ (t .parents) (read-steps .parents)
@@ -153,24 +162,25 @@ module _ (rules : List Rule) (room : Room) (p : List ℕ) (t : Tables) (read : t
   pub section-view : sectionOf t ≡ view rules p (startsOf (t .proofs .entries)) (layoutOf t)
   unfolding sectionOf view
   section-view =
-      let ws = same-size (witnessRow 4 (t .head .counts)) p 84 (witness-size p (t .head .counts)) witnesses-read in
+      let ws = same-size (witnessRow width (t .head .counts)) p (witnessSize width) (witness-size p width (t .head .counts)) witnesses-read in
       let cs = same-size parentRow p 4 (λ u at r e. parent-lies p at u r e .1) parents-read in
       rw (
         by-starts (proofRow rules (t .head .counts)) p proofItem (proofView rules p) (proof-view rules p (layoutOf t)) proofs-read,
-        by-starts (witnessRow 4 (t .head .counts)) p witnessItem (witnessView p) (witness-view p (t .head .counts)) witnesses-read,
+        by-starts (witnessRow width (t .head .counts)) p witnessItem (witnessView width p) (witness-view p width (t .head .counts)) witnesses-read,
         by-starts parentRow p parentItem (le 4 p) (λ u at r e. parent-lies p at u r e .0) parents-read,
         ws .0,
         cs .0,
+        width-in width,
       )
 
   -- and they are there, as the last pass asks
   pub tables-there : TablesThere p (startsOf (t .proofs .entries)) (layoutOf t)
   tables-there =
-      let ws = same-size (witnessRow 4 (t .head .counts)) p 84 (witness-size p (t .head .counts)) witnesses-read in
+      let ws = same-size (witnessRow width (t .head .counts)) p (witnessSize width) (witness-size p width (t .head .counts)) witnesses-read in
       let cs = same-size parentRow p 4 (λ u at r e. parent-lies p at u r e .1) parents-read in
       record {
         proofs = λ i h. rw (zero-add i) at (proofs-there rules p (layoutOf t) proofs-read i h);
-        witnesses = omega (arith, ws .1, cs .1, read-steps .whole);
+        witnesses = record { size = omega arith; inside = omega (arith, ws .1, cs .1, read-steps .whole) };
         parents = omega (arith, cs .1, read-steps .whole);
       }
 

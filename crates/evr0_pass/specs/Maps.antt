@@ -20,7 +20,8 @@ use Rattle.evr0_pass.specs.declared.pass.Depth.{Depth}
 use Rattle.evr0_pass.specs.declared.pass.Depth.the-variants as depth
 
 abbrev pub layoutOut : Layout → view.Layout
-layoutOut l = record { counts = countsOut (l .counts); witnessesAt = l .«witnesses_at»; parentsAt = l .«parents_at» }
+layoutOut l =
+    record { counts = countsOut (l .counts); witnessSize = l .«witness_size»; witnessesAt = l .«witnesses_at»; parentsAt = l .«parents_at» }
 
 -- the tables of a payload, by some rules
 abbrev pub tablesIn : List Rule → List ℕ → List ℕ → Layout → section.Section

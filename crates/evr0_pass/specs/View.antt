@@ -1,5 +1,5 @@
 -- The tables of a payload as its bytes hold them at known places, for the last pass, which runs over a payload whose tables have been read.
-use Prim.Native.Nat.{ℕ, zero, suc, _+_, _*_, _≤_, _<_}
+use Prim.Native.Nat.{ℕ, zero, suc, _+_, _-_, _*_, _/_, _≤_, _<_}
 use mathlib.Core.Path.{_≡_}
 use mathlib.Core.List.{List, [], _∷_, map}
 use lib.ListN.{length, getD}
@@ -10,9 +10,10 @@ use Rattle.derivation.specs.Section.{Proof, Witness, Section}
 use Rattle.evr0_section.specs.Head.{Counts}
 use Rattle.evr0_rules.specs.Maps.{Known}
 
--- the counts of the tables, and where those of the witnesses and of the parents start
+-- the counts of the tables, the size of a witness, and where the tables of the witnesses and of the parents start
 pub record Layout : Type 0 where
   pub counts : Counts
+  pub witnessSize : ℕ
   pub witnessesAt : ℕ
   pub parentsAt : ℕ
 
@@ -52,17 +53,27 @@ proofView rules p start =
 
 -- ---- The three tables
 
-unfoldable pub witnessView : List ℕ → ℕ → Witness
-witnessView p at =
-    record { number = le 4 p at; proposition = le 4 p (at + 4); polarity = le 1 p (at + 8); spanStart = le 4 p (at + 44); spanEnd = le 4 p (at + 48) }
+-- the width of a span's ends, by the size of a witness
+unfoldable pub widthIn : ℕ → ℕ
+widthIn size = (size - 76) / 2
 
--- proofs by their starts, witnesses of 84 bytes, parent cells of 4
+unfoldable pub witnessView : ℕ → List ℕ → ℕ → Witness
+witnessView width p at =
+    record {
+      number = le 4 p at;
+      proposition = le 4 p (at + 4);
+      polarity = le 1 p (at + 8);
+      spanStart = le width p (at + 44);
+      spanEnd = le width p (at + 44 + width);
+    }
+
+-- proofs by their starts, witnesses of one size, parent cells of 4 bytes
 unfoldable pub view : List Rule → List ℕ → List ℕ → Layout → Section
 view rules p starts l =
     record {
       propositions = l .counts .propositions;
       proofs = map (proofView rules p) starts;
-      witnesses = map (witnessView p) (places 84 (l .counts .witnesses) (l .witnessesAt));
+      witnesses = map (witnessView (widthIn (l .witnessSize)) p) (places (l .witnessSize) (l .counts .witnesses) (l .witnessesAt));
       parents = map (le 4 p) (places 4 (l .counts .parents) (l .parentsAt));
     }
 
@@ -75,9 +86,14 @@ pub record ProofThere (p : List ℕ) (l : Layout) (start i : ℕ) : Type 0 where
   pub witnesses : le 4 p (afterName p start + 4) + le 4 p (afterName p start + 8) ≤ l .counts .witnesses
   pub parents : le 4 p (afterName p start + 12) + le 4 p (afterName p start + 16) ≤ l .counts .parents
 
+-- the witnesses lie in a payload of this length
+pub record WitnessesThere (len : ℕ) (l : Layout) : Type 0 where
+  pub size : 76 ≤ l .witnessSize
+  pub inside : l .witnessesAt + l .witnessSize * l .counts .witnesses ≤ len
+
 pub record TablesThere (p starts : List ℕ) (l : Layout) : Type 0 where
   pub proofs : (i : ℕ) → i < length starts → ProofThere p l (getD starts i 0) i
-  pub witnesses : l .witnessesAt + 84 * l .counts .witnesses ≤ length p
+  pub witnesses : WitnessesThere (length p) l
   pub parents : l .parentsAt + 4 * l .counts .parents ≤ length p
 
 -- the rule of each proof is known

@@ -2,7 +2,7 @@
 ghost use mathlib.Core.Path.{_≡_};
 ghost use mathlib.Core.Bool.{_&&_};
 ghost use mathlib.Core.List.{List, []};
-ghost use Prim.Native.Nat.{ℕ, _+_, _*_, _≤_, max};
+ghost use Prim.Native.Nat.{ℕ, _+_, _*_, _≤_, _<_, max};
 ghost use lib.Dec.{eqb, ltb, leb};
 ghost use lib.ListN.{length, take};
 ghost use Rattle.local_format.specs.Field.{le};
@@ -10,7 +10,7 @@ ghost use Rattle.derivation.specs.Rule as derivation;
 ghost use Rattle.derivation.specs.Pass as of;
 ghost use Rattle.evr0_fields.specs.Maps.{checkedOut};
 ghost use Rattle.evr0_rules.specs.Maps.{ruleOut, rulesIn, RulesThere, Known};
-ghost use Rattle.evr0_pass.specs.View.{proofView, afterName, nameAt, TablesThere, RulesKnown, ProofDue};
+ghost use Rattle.evr0_pass.specs.View.{proofView, afterName, nameAt, WitnessesThere, TablesThere, RulesKnown, ProofDue};
 ghost use Rattle.evr0_pass.specs.Maps.{layoutOut, tablesIn, proofOut, depthOut, filled, Derives, suited};
 use evr0_fields::check::Checked;
 use evr0_fields::number::ProofNumber;
@@ -24,9 +24,10 @@ use local_format::field::u16_at;
 use local_format::field::u32_at;
 use local_format::refusal::Refusal;
 
-// The counts of the tables, and where those of the witnesses and of the parents start.
+// The counts of the tables, the size of a witness, and where the tables of the witnesses and of the parents start.
 pub struct Layout {
     pub counts: Counts,
+    pub witness_size: usize,
     pub witnesses_at: usize,
     pub parents_at: usize,
 }
@@ -166,9 +167,17 @@ fn suits(rule: Rule, own: PropositionIndex, found: PropositionIndex, polarity: u
     Checked::Passed
 }
 
+// Where a witness starts in a payload of this length.
+pub fn witness_start(len: usize, tables: Layout, witness: usize) -> usize
+    requires { ⌜ WitnessesThere len (layoutOut tables) × (witness < tables .counts .witnesses) ⌝ }
+    ensures { λ r. ⌜ (r ≡ tables .«witnesses_at» + tables .«witness_size» * witness) × (r + 76 ≤ len) ⌝ }
+{
+    tables.witnesses_at + tables.witness_size * witness
+}
+
 // The witnesses of `proof`.
 fn witnesses_from(payload: &[u8], tables: Layout, proof: SettledProof) -> Checked
-    requires { ⌜ tables .«witnesses_at» + 84 * tables .counts .witnesses ≤ length (now payload) ⌝ }
+    requires { ⌜ WitnessesThere (length (now payload)) (layoutOut tables) ⌝ }
     requires { ⌜ proof .«witness_first» .0 + proof .«witness_count» ≤ tables .counts .witnesses ⌝ }
     ensures { λ r. ⌜ ((rules : List derivation.Rule) (name starts : List ℕ) → checkedOut r
         ≡ of.witnessesFrom (tables .«parents_at») (tablesIn rules (now (payload .entry)) starts tables) (proofOut name proof) (proof .«witness_count»)
@@ -177,7 +186,7 @@ fn witnesses_from(payload: &[u8], tables: Layout, proof: SettledProof) -> Checke
     let mut witness = proof.witness_first.place();
     let end = witness + evr0_fields::number::wide(proof.witness_count);
     while witness < end {
-        let at = tables.witnesses_at + 84 * witness;
+        let at = witness_start(payload.len(), tables, witness);
         let rule = proof.rule;
         let own = proof.proposition_index;
         let found = PropositionIndex(u32_at(payload, at + 4));

@@ -1,40 +1,22 @@
 -- An accepted section by its two cursors: where its payload lies, and what the payload's tables are.
 use Prim.Native.Nat.{ℕ, zero, suc, _+_, _-_, _≤_}
 use mathlib.Core.Path.{_≡_, refl, ap, subst, _∙_}
-use mathlib.Core.Bool.{_&&_}
 use mathlib.Core.List.{List, [], _∷_, _++_}
 use native.Mathlib.Omega.{arith}
-use lib.Dec.{leb}
 use lib.ListN.{length, take, drop, length-append, length-map}
 use Rattle.local_format.specs.Out.{ok}
-use Rattle.local_format.specs.Field.{field}
 use Rattle.local_format.specs.Text.{bytesAt}
-use Rattle.local_format.specs.Tag.{tagAt, evr0}
-use Rattle.local_format.proofs.OutLaws.{ok-same, bind-ok, checked-ok, moved-ok}
-use Rattle.local_format.proofs.FieldLaws.{field-ok}
+use Rattle.local_format.proofs.OutLaws.{ok-same, bind-ok, moved-ok}
 use Rattle.derivation.specs.Rule.{Rule}
 use Rattle.derivation.specs.Section as derivation
 use Rattle.derivation.specs.Pass.{depthOf, depthsFrom, depths}
 use Rattle.evr0_section.specs.Head.{Room}
 use Rattle.evr0_section.specs.Proposition.{propositionRow}
 use Rattle.evr0_section.specs.Proof.{proofRow}
-use Rattle.evr0_section.specs.Section.{Frame, Section, frameAt, sectionOf, proofItem, tablesOf, sectionIn, sectionAt}
+use Rattle.evr0_section.specs.Section.{Section, frameAt, sectionOf, proofItem, tablesOf, sectionIn, sectionAt}
 use Rattle.evr0_section.proofs.RowsLaws.{trace, trace-length}
 use Rattle.evr0_section.proofs.CheckedTables.{Steps, steps}
-
--- ---- The frame
-
--- it starts 8 bytes after the cursor, and ends within the file
-pub frame-place : (s : List ℕ) (cursor : ℕ) {f : Frame} → frameAt s cursor ≡ ok f → (f .start ≡ cursor + 8) × (f .start + f .len ≤ length s)
-unfolding frameAt
-frame-place s cursor {f} e =
-    let t = checked-ok (tagAt evr0 s cursor) 1 cursor _ e in
-    let size = bind-ok (field 2 4 s (cursor + 4)) _ (t .1) in
-    let c = checked-ok (leb 1 (size .0 .value) && leb (size .0 .value) 4194304) 3 (cursor + 4) _ (size .2) in
-    let payload = bind-ok (field 4 (size .0 .value) s (size .0 .next)) _ (c .1) in
-    let next : size .0 .next ≡ cursor + 8 = omega (arith, field-ok 2 4 s (cursor + 4) (size .1) .0) in
-    let within : size .0 .next + size .0 .value ≤ length s = field-ok 4 (size .0 .value) s (size .0 .next) (payload .1) .1 in
-    subst (λ (x : Frame). (x .start ≡ cursor + 8) × (x .start + x .len ≤ length s)) (ok-same (payload .2)) (next, within)
+use Rattle.evr0_section.proofs.SectionSteps.{frame-place}
 
 -- ---- The depths are as many as the proofs
 depths-length : (cellsAt : ℕ) (s : derivation.Section) (n i : ℕ) (ds : List ℕ) {es : List ℕ} → depthsFrom cellsAt s n i ds ≡ ok es → length es

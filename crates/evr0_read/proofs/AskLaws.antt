@@ -41,7 +41,7 @@ module _ {E : Type 0} (table : Section → List (Entry E)) (k : ℕ) (which : Gi
     pub is : sectionAt rules (roomOf before) bytes cursor ≡ ok section
     pub at : numbered k (table section) ≡ ok entry
     pub asked : ask (decodeGiven which before bytes cursor) ≡ ok (record { decoded = section; value = entry })
-    pub by : place ≡ placeBy (section .cursor) (section .tables .head .counts) (entry .start)
+    pub by : place ≡ placeBy (section .tables .head .schema) (section .cursor) (section .tables .head .counts) (entry .start)
 
   pub there : {place : Place} → found ≡ ok place → There place
   there e =
@@ -58,13 +58,16 @@ module _ {E : Type 0} (table : Section → List (Entry E)) (k : ℕ) (which : Gi
         at = at;
         asked = asked ∙ sym same;
         by = sym (ok-same by)
-            ∙ ap (λ (c : Chosen Section (Entry E)). placeBy (c .decoded .cursor) (c .decoded .tables .head .counts) (c .value .start)) (sym (ok-same same));
+            ∙ ap (λ (c : Chosen Section (Entry E)).
+            placeBy (c .decoded .tables .head .schema) (c .decoded .cursor) (c .decoded .tables .head .counts) (c .value .start)) (sym (ok-same same));
       }
 
-  pub read-there : {X A B : Type 0} (read : List ℕ → Out X) (place : ℕ → X → A) (show : ℕ → E → A) (give : Out (Entry A) → B)
+  -- the record at the place, read by the section's schema
+  pub read-there : {X A B : Type 0} (read : ℕ → List ℕ → Out X) (place : ℕ → X → A) (show : ℕ → E → A) (give : Out (Entry A) → B)
       → ((rules : List Rule) (d : Section) → sectionAt rules (roomOf before) bytes cursor ≡ ok d → (k : ℕ) (e : Entry E) → numbered k (table d) ≡ ok e
-      → recordAt read place (payloadOf bytes cursor d) (e .start) ≡ ok (shown show e))
-      → {at : Place} → found ≡ ok at → {q : List ℕ} → q ≡ payloadTo bytes cursor (at .end) → {r : B} → r ≡ give (recordAt read place q (at .start))
+      → recordAt (read (d .tables .head .schema)) place (payloadOf bytes cursor d) (e .start) ≡ ok (shown show e))
+      → {at : Place} → found ≡ ok at → {q : List ℕ} → q ≡ payloadTo bytes cursor (at .end) → {r : B}
+      → r ≡ give (recordAt (read (at .schema)) place q (at .start))
       → AnswersBy which ask (λ y. give (telling (λ c. shown show (c .value)) y)) bytes cursor before after r
   read-there read place show give each e g h =
       let t = there e in

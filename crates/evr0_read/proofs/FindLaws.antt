@@ -37,9 +37,10 @@ answer-refused cursor (refused q) e = ap refused (refused-same e)
 
 -- the section that was accepted
 pub answer-accepted : (cursor : ℕ) (x : Out Section) {a : answer.Accepted} → answerOf cursor x .outcome ≡ ok a
-    → (d : Section) × (x ≡ ok d) × (answerOf cursor x .cursor ≡ d .cursor) × (a .counts ≡ d .tables .head .counts)
+    → (d : Section) × (x ≡ ok d) × (answerOf cursor x .cursor ≡ d .cursor) × (a .schema ≡ d .tables .head .schema) × (a .counts ≡ d .tables .head .counts)
 answer-accepted cursor (refused r) f = absurd (never f)
-answer-accepted cursor (ok d) f = (d, refl, refl, sym (ap (λ (a : answer.Accepted). a .counts) (ok-same f)))
+answer-accepted cursor (ok d) f =
+    let e = sym (ok-same f) in (d, refl, refl, ap (λ (a : answer.Accepted). a .schema) e, ap (λ (a : answer.Accepted). a .counts) e)
 
 -- ---- Entries of a table
 -- a lent table has the start of an entry at its number
@@ -82,14 +83,17 @@ module _ {E : Type 0} (table : Section → List (Entry E)) (k : ℕ) (which : Gi
 
   module _ {d : Section} (is : x ≡ ok d) {count start : ℕ} (long : length (table d) ≡ count)
       (at : k < count → (e : Entry E) → numbered k (table d) ≡ ok e → start ≡ e .start) where
-    placed : (t : Bool) → ltb k count ≡ t → among k count (placeBy (d .cursor) (d .tables .head .counts) start) ≡ placeTold (ask (ok d))
+    abbrev place : Place
+    place = placeBy (d .tables .head .schema) (d .cursor) (d .tables .head .counts) start
+
+    placed : (t : Bool) → ltb k count ≡ t → among k count place ≡ placeTold (ask (ok d))
     placed true e = let l = ltb-true k count e in
         let n = is-there k (table d) (omega (arith, long)) in
         rw (e, n .1, at l (n .0) (n .1))
     placed false e = rw (e, not-there k (table d) (omega (arith, ltb-false k count e, long)))
 
     there : {found : Out Place} {mid after : Lent} → Filled x before mid → Long before mid
-        → found ≡ among k count (placeBy (d .cursor) (d .tables .head .counts) start) → after ≡ settled found mid
+        → found ≡ among k count place → after ≡ settled found mid
         → AnswersBy which ask placeTold bytes cursor before after found
     there {mid = mid} f l h g =
         let same = h ∙ placed (ltb k count) refl ∙ ap (λ (y : Out Section). placeTold (ask y)) (sym is) in
@@ -112,8 +116,9 @@ module _ (which : Given) (bytes : List ℕ) (cursor : ℕ) (before : Lent) {afte
 
   module _ {d : Section} (is : decodeGiven which before bytes cursor ≡ ok d) {mid : Lent} (filled : Filled (decodeGiven which before bytes cursor) before mid)
       (long : Long before mid) {found : Out Place} (settles : after ≡ settled found mid) where
-    finds : (w : Wanted) → found ≡ sought w (length (payloadOf bytes cursor d)) (placeBy (d .cursor) (d .tables .head .counts)) (d .tables .head .counts)
-        (mid .propositions) (mid .proofs) → Finds which w bytes cursor before after found
+    finds : (w : Wanted) → found ≡ sought w (d .tables .head .schema) (length (payloadOf bytes cursor d))
+        (placeBy (d .tables .head .schema) (d .cursor) (d .tables .head .counts)) (d .tables .head .counts) (mid .propositions) (mid .proofs)
+        → Finds which w bytes cursor before after found
     finds (wanted.Proposition n) h =
         let (rules, given, read) = by-given which (roomOf before) bytes cursor is in
         there _ (n .0) which bytes cursor before is (facts rules _ bytes cursor d read .propositions)
@@ -134,7 +139,8 @@ module _ (which : Given) (bytes : List ℕ) (cursor : ℕ) (before : Lent) {afte
         there _ n which bytes cursor before is (parent-count rules _ bytes cursor d read)
         (λ l e h. parent-start rules _ bytes cursor d read n l h) filled long h settles
 
-    pub finds-by : (w : Wanted) {q : List ℕ} {end : ℕ} {counts : Counts} → q ≡ payloadTo bytes cursor end → end ≡ d .cursor
-        → counts ≡ d .tables .head .counts → found ≡ sought w (length q) (placeBy end counts) counts (mid .propositions) (mid .proofs)
+    pub finds-by : (w : Wanted) {q : List ℕ} {schema end : ℕ} {counts : Counts} → q ≡ payloadTo bytes cursor end → end ≡ d .cursor
+        → schema ≡ d .tables .head .schema → counts ≡ d .tables .head .counts
+        → found ≡ sought w schema (length q) (placeBy schema end counts) counts (mid .propositions) (mid .proofs)
         → Finds which w bytes cursor before after found
-    finds-by w e f g h = finds w (h ∙ rw (e, f, g))
+    finds-by w e f s g h = finds w (h ∙ rw (e, f, s, g))

@@ -9,7 +9,7 @@ use Rattle.local_format.specs.Out.{Out, ok}
 use Rattle.local_format.specs.Number.{numbered, choose}
 use Rattle.local_format.proofs.NumberLaws.{is-there}
 use Rattle.evr0_section.specs.Rows.{Entry}
-use Rattle.evr0_section.specs.Head.{Counts, Room}
+use Rattle.evr0_section.specs.Head.{Counts, Room, spanWidth}
 use Rattle.evr0_section.specs.Section.{Section, decodeSection}
 use Rattle.evr0_read.specs.Asked.{telling}
 use Rattle.evr0_read.specs.Entry.{recordAt, shown}
@@ -60,7 +60,8 @@ module _ (room : Room) (bytes : List ℕ) (cursor : ℕ) (d : Section) (decodes 
             (λ e h. lent-start (room .proofs) k (d .tables .proofs .entries) refl (omega (arith, f .proofs)) h) l;
         witness = λ k l. listed d (λ s. s .tables .witnesses .entries) _ _ _ p k (witness-count _ room bytes cursor d decodes)
             (witness-read _ room bytes cursor d decodes k)
-            (λ e h. ap (λ (n : ℕ). witnessPlace n (counts .witnesses) (counts .parents) k) (sym size) ∙ witness-start _ room bytes cursor d decodes k l h) l;
+            (λ e h. ap (λ (n : ℕ). witnessPlace n (spanWidth (d .tables .head .schema)) (counts .witnesses) (counts .parents) k) (sym size)
+            ∙ witness-start _ room bytes cursor d decodes k l h) l;
         parent = λ k l. listed d (λ s. s .tables .parents .entries) _ _ _ p k (parent-count _ room bytes cursor d decodes)
             (parent-read _ room bytes cursor d decodes k)
             (λ e h. ap (λ (n : ℕ). parentPlace n (counts .parents) k) (sym size) ∙ parent-start _ room bytes cursor d decodes k l h) l;

@@ -10,7 +10,7 @@ use Rattle.local_format.specs.Number.{numbered}
 use Rattle.local_format.proofs.OutLaws.{bind-ok, checked-ok, ok-same}
 use Rattle.derivation.specs.Rule.{Rule}
 use Rattle.evr0_section.specs.Rows.{Sized, Row, Entry}
-use Rattle.evr0_section.specs.Head.{Counts, Room}
+use Rattle.evr0_section.specs.Head.{Counts, Room, spanWidth, witnessSize}
 use Rattle.evr0_section.specs.Proposition.{Proposition, Before, keyOf, rises, propositionOf, propositionRow}
 use Rattle.evr0_section.specs.Proof.{Settled, proofOf, proofRow}
 use Rattle.evr0_section.specs.Witness.{WitnessRecord, witnessOf, witnessRow, parentRow}
@@ -34,7 +34,7 @@ use Rattle.evr0_read.specs.Listing.{payloadOf}
 use Rattle.evr0_read.proofs.AcceptedLaws.{Accepted, accepted}
 use Rattle.evr0_read.proofs.FoundLaws.{trace-found, fixed-size, fixed-start}
 use Rattle.evr0_read.proofs.EntryLaws.{record-found}
-use Rattle.evr0_read.proofs.PlaceLaws.{witness-there, parent-there}
+use Rattle.evr0_read.proofs.PlaceLaws.{from-end, witness-there, parent-there}
 
 module _ {A S X B : Type 0} (row : S → List ℕ → Out (Row A S)) (read : List ℕ → Out X) (place : ℕ → X → B) (f : ℕ → A → B)
     (behind : (u : S) (s : List ℕ) (r : Row A S) → row u s ≡ ok r → (x : X) × (read s ≡ ok x) × ((start : ℕ) → place start x ≡ f start (r .item)))
@@ -53,10 +53,11 @@ proposition-behind before s r e =
     let c = checked-ok (rises before (keyOf s (x .0 .item))) 16 0 _ (x .2) in
     (x .0, x .1, λ start. ap (λ (y : Row Proposition Before). shownProposition start (y .item)) (ok-same (c .1)))
 
-witness-size : (counts : Counts) (w : ℕ) (s : List ℕ) (r : Row WitnessRecord ℕ) → witnessRow 4 counts w s ≡ ok r → r .size ≡ 84
-witness-size counts w s r e =
-    let (x, read, item, size) = witness-behind 4 counts w s r e in
-    size ∙ witness-lies s 0 4 x read .size
+witness-size : (width : ℕ) (counts : Counts) (w : ℕ) (s : List ℕ) (r : Row WitnessRecord ℕ) → witnessRow width counts w s ≡ ok r
+    → r .size ≡ witnessSize width
+witness-size width counts w s r e =
+    let (x, read, item, size) = witness-behind width counts w s r e in
+    size ∙ witness-lies s 0 width x read .size
 
 parent-size : (u : Unit {0}) (s : List ℕ) (r : Row ℕ (Unit {0})) → parentRow u s ≡ ok r → r .size ≡ 4
 parent-size u s r e = parent-lies s 0 u r e .1
@@ -71,6 +72,9 @@ module _ (rules : List Rule) (room : Room) (bytes : List ℕ) (cursor : ℕ) (d 
   abbrev counts : Counts
   counts = d .tables .head .counts
 
+  abbrev width : ℕ
+  width = spanWidth (d .tables .head .schema)
+
   pub proposition-read : (k : ℕ) (e : Entry Proposition) → numbered k (d .tables .propositions .entries) ≡ ok e
       → recordAt propositionOf placedProposition p (e .start) ≡ ok (shown shownProposition e)
   proposition-read =
@@ -84,15 +88,15 @@ module _ (rules : List Rule) (room : Room) (bytes : List ℕ) (cursor : ℕ) (d 
       (λ u s r e. let b = proof-behind rules counts u s r e in (b .proof, b .read, λ start. ap (shownProof start) (sym (b .item)))) p
       (trace (proofRow rules counts) p _ _ _ (d .tables .proofs) (facts .tables .proofs))
 
-  witnesses : Trace (witnessRow 4 counts) p (counts .witnesses) 0 (d .tables .proofs .next) (d .tables .witnesses .entries)
+  witnesses : Trace (witnessRow width counts) p (counts .witnesses) 0 (d .tables .proofs .next) (d .tables .witnesses .entries)
       (d .tables .witnesses .state) (d .tables .witnesses .next)
-  witnesses = trace (witnessRow 4 counts) p _ _ _ (d .tables .witnesses) (facts .tables .witnesses)
+  witnesses = trace (witnessRow width counts) p _ _ _ (d .tables .witnesses) (facts .tables .witnesses)
 
   pub witness-read : (k : ℕ) (e : Entry WitnessRecord) → numbered k (d .tables .witnesses .entries) ≡ ok e
-      → recordAt (witnessOf 4) placedWitness p (e .start) ≡ ok e
+      → recordAt (witnessOf width) placedWitness p (e .start) ≡ ok e
   witness-read =
       record-read _ _ _ (λ start w. w)
-      (λ u s r e. let (x, read, item, size) = witness-behind 4 counts u s r e in (x, read, λ start. sym item)) p witnesses
+      (λ u s r e. let (x, read, item, size) = witness-behind width counts u s r e in (x, read, λ start. sym item)) p witnesses
 
   parents : Trace parentRow p (counts .parents) tt (d .tables .witnesses .next) (d .tables .parents .entries) tt (d .tables .parents .next)
   parents = trace parentRow p _ _ _ (d .tables .parents) (facts .tables .parents)
@@ -102,7 +106,7 @@ module _ (rules : List Rule) (room : Room) (bytes : List ℕ) (cursor : ℕ) (d 
   parent-read = record-read parentRow (parentRow tt) placedParent (λ start c. c) (λ u s r e. (r, e, λ start. refl)) p parents
 
   pub witness-count : length (d .tables .witnesses .entries) ≡ counts .witnesses
-  witness-count = trace-length (witnessRow 4 counts) p witnesses
+  witness-count = trace-length (witnessRow width counts) p witnesses
 
   pub parent-count : length (d .tables .parents .entries) ≡ counts .parents
   parent-count = trace-length parentRow p parents
@@ -112,15 +116,16 @@ module _ (rules : List Rule) (room : Room) (bytes : List ℕ) (cursor : ℕ) (d 
   parents-at = sym (fixed-size parentRow p 4 parent-size parents) ∙ facts .tables .whole
 
   -- and the witnesses those before them
-  pub witnesses-at : d .tables .proofs .next + 84 * counts .witnesses ≡ d .tables .witnesses .next
-  witnesses-at = sym (fixed-size (witnessRow 4 counts) p 84 (witness-size counts) witnesses)
+  pub witnesses-at : d .tables .proofs .next + witnessSize width * counts .witnesses ≡ d .tables .witnesses .next
+  witnesses-at = sym (fixed-size (witnessRow width counts) p (witnessSize width) (witness-size width counts) witnesses)
 
   pub parent-start : (k : ℕ) {e : Entry ℕ} → k < counts .parents → numbered k (d .tables .parents .entries) ≡ ok e
       → parentPlace (length p) (counts .parents) k ≡ e .start
   parent-start k l h = sym (parent-there (length p) (counts .parents) k l (omega (arith, fixed-start parentRow p 4 parent-size parents k h, parents-at)))
 
   pub witness-start : (k : ℕ) {e : Entry WitnessRecord} → k < counts .witnesses → numbered k (d .tables .witnesses .entries) ≡ ok e
-      → witnessPlace (length p) (counts .witnesses) (counts .parents) k ≡ e .start
+      → witnessPlace (length p) width (counts .witnesses) (counts .parents) k ≡ e .start
   witness-start k l h =
-      sym (witness-there (length p) (counts .witnesses) (counts .parents) k l
-      (omega (arith, fixed-start (witnessRow 4 counts) p 84 (witness-size counts) witnesses k h, witnesses-at, parents-at)))
+      let e = fixed-start (witnessRow width counts) p (witnessSize width) (witness-size width counts) witnesses k h in
+      let b = from-end (witnessSize width) (counts .witnesses) k (d .tables .proofs .next) l (sym witnesses-at) in
+      sym (witness-there (length p) width (counts .witnesses) (counts .parents) k l (omega (arith, e, b, parents-at)))

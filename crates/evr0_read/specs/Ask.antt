@@ -35,14 +35,15 @@ proofTold = telling (λ c. shown shownSettled (c .value))
 abbrev pub entryTold : {E : Type 0} → Out (Chosen Section (Entry E)) → Out (Entry E)
 entryTold = telling (λ c. c .value)
 
--- told by its place: the cursor after the section, the section's counts, and where the record starts in the payload
+-- told by its place: the section's schema, the cursor after it, its counts, and where the record starts in the payload
 pub record Place : Type 0 where
+  pub schema : ℕ
   pub end : ℕ
   pub counts : Counts
   pub start : ℕ
 
-abbrev pub placeBy : ℕ → Counts → ℕ → Place
-placeBy end counts start = record { end = end; counts = counts; start = start }
+abbrev pub placeBy : ℕ → ℕ → Counts → ℕ → Place
+placeBy schema end counts start = record { schema = schema; end = end; counts = counts; start = start }
 
 abbrev pub placeTold : {E : Type 0} → Out (Chosen Section (Entry E)) → Out Place
-placeTold = telling (λ c. placeBy (c .decoded .cursor) (c .decoded .tables .head .counts) (c .value .start))
+placeTold = telling (λ c. let h = c .decoded .tables .head in placeBy (h .schema) (c .decoded .cursor) (h .counts) (c .value .start))

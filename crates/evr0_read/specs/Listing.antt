@@ -1,5 +1,5 @@
 -- What whoever lists all records of an accepted section relies on. The section is decoded once. Then a proposition or a proof is read at the
--- entry of the lent table with its number, a witness or a parent cell at the place that follows from the counts and the two cursors, and
+-- entry of the lent table with its number, a witness or a parent cell at the place that follows from schema, counts and the two cursors, and
 -- what is read is what asking for that number gives.
 use Prim.Native.Nat.{ℕ, _+_, _-_, _<_}
 use mathlib.Core.Path.{_≡_}
@@ -7,7 +7,7 @@ use mathlib.Core.List.{List}
 use lib.ListN.{length, getD, take, drop}
 use Rattle.local_format.specs.Out.{ok}
 use Rattle.lent_table.specs.Lent.{lent}
-use Rattle.evr0_section.specs.Head.{Room}
+use Rattle.evr0_section.specs.Head.{Room, spanWidth}
 use Rattle.evr0_section.specs.Proposition.{propositionOf}
 use Rattle.evr0_section.specs.Proof.{proofOf}
 use Rattle.evr0_section.specs.Witness.{witnessOf, parentRow}
@@ -34,8 +34,8 @@ pub record Listed (room : Room) (bytes : List ℕ) (cursor : ℕ) (d : Section) 
       → recordAt proofOf placedProof (payloadOf bytes cursor d) (getD (lent (room .proofs) (proofStarts (ok d))) k 0)
       ≡ proofTold (proofNumber k (ok d))
   pub witness : (k : ℕ) → k < d .tables .head .counts .witnesses
-      → recordAt (witnessOf 4) placedWitness (payloadOf bytes cursor d)
-      (witnessPlace (d .cursor - (cursor + 8)) (d .tables .head .counts .witnesses) (d .tables .head .counts .parents) k)
+      → recordAt (witnessOf (spanWidth (d .tables .head .schema))) placedWitness (payloadOf bytes cursor d)
+      (witnessPlace (d .cursor - (cursor + 8)) (spanWidth (d .tables .head .schema)) (d .tables .head .counts .witnesses) (d .tables .head .counts .parents) k)
       ≡ entryTold (witnessNumber k (ok d))
   pub parent : (k : ℕ) → k < d .tables .head .counts .parents
       → recordAt (parentRow tt) placedParent (payloadOf bytes cursor d) (parentPlace (d .cursor - (cursor + 8)) (d .tables .head .counts .parents) k)

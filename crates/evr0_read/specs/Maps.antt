@@ -8,7 +8,7 @@ use Rattle.local_format.specs.Out.{Out, ok, refused}
 use Rattle.local_format.specs.Maps.{refusalOut}
 use Rattle.local_format.specs.Number.{Chosen, notInTable}
 use Rattle.lent_table.specs.Lent.{lent}
-use Rattle.evr0_section.specs.Head.{Counts}
+use Rattle.evr0_section.specs.Head.{Counts, spanWidth}
 use Rattle.evr0_section.specs.Rows.{Entry}
 use Rattle.evr0_section.specs.Proposition.{Proposition}
 use Rattle.evr0_section.specs.Proof.{ProofRecord}
@@ -66,7 +66,7 @@ parentEntryOut (parents.Refused r) = refused (refusalOut r)
 -- ---- Places
 
 abbrev pub foundOut : Found → Out Place
-foundOut (found.At end counts start) = ok (record { end = end; counts = countsOut counts; start = start })
+foundOut (found.At schema end counts start) = ok (record { schema = schema; end = end; counts = countsOut counts; start = start })
 foundOut (found.Refused r) = refused (refusalOut r)
 
 -- the place of the record that is wanted
@@ -80,12 +80,13 @@ Finds given (wanted.Parent n) = AnswersBy given (parentNumber n) placeTold
 abbrev pub among : ℕ → ℕ → Place → Out Place
 among n count place = cond (ltb n count) (ok place) notInTable
 
--- the place by the lent tables of starts, and by a payload of `len` bytes
-abbrev pub sought : Wanted → ℕ → (ℕ → Place) → Counts → List ℕ → List ℕ → Out Place
-sought (wanted.Proposition n) len at counts ps qs = among (n .0) (counts .propositions) (at (getD ps (n .0) 0))
-sought (wanted.Proof n) len at counts ps qs = among (n .0) (counts .proofs) (at (getD qs (n .0) 0))
-sought (wanted.Witness n) len at counts ps qs = among (n .0) (counts .witnesses) (at (witnessPlace len (counts .witnesses) (counts .parents) (n .0)))
-sought (wanted.Parent n) len at counts ps qs = among n (counts .parents) (at (parentPlace len (counts .parents) n))
+-- the place by the lent tables of starts, and by a payload of this schema and of `len` bytes
+abbrev pub sought : Wanted → ℕ → ℕ → (ℕ → Place) → Counts → List ℕ → List ℕ → Out Place
+sought (wanted.Proposition n) schema len at counts ps qs = among (n .0) (counts .propositions) (at (getD ps (n .0) 0))
+sought (wanted.Proof n) schema len at counts ps qs = among (n .0) (counts .proofs) (at (getD qs (n .0) 0))
+sought (wanted.Witness n) schema len at counts ps qs =
+    among (n .0) (counts .witnesses) (at (witnessPlace len (spanWidth schema) (counts .witnesses) (counts .parents) (n .0)))
+sought (wanted.Parent n) schema len at counts ps qs = among n (counts .parents) (at (parentPlace len (counts .parents) n))
 
 -- the tables after an answer: zeros where it is a refusal
 abbrev pub settled : Out Place → Lent → Lent

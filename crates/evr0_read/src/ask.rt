@@ -44,6 +44,7 @@ pub fn proposition_number_given(
     );
     match found {
         Found::At {
+            schema: _,
             end,
             counts: _,
             start,
@@ -103,6 +104,7 @@ pub fn proof_number_given(
     );
     match found {
         Found::At {
+            schema: _,
             end,
             counts: _,
             start,
@@ -163,10 +165,11 @@ pub fn witness_number_given(
     );
     match found {
         Found::At {
+            schema,
             end,
             counts: _,
             start,
-        } => crate::cell::witness_at(payload_of(bytes, cursor, end), start),
+        } => crate::cell::witness_at(payload_of(bytes, cursor, end), schema, start),
         Found::Refused(refusal) => crate::cell::no_witness(refusal),
     }
 }
@@ -222,6 +225,7 @@ pub fn parent_number_given(
     );
     match found {
         Found::At {
+            schema: _,
             end,
             counts: _,
             start,

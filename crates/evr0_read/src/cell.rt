@@ -1,14 +1,16 @@
 // Witnesses and parents of a payload, at a place and by number: they are as many bytes each, and stand at its end.
 ghost use mathlib.Core.Path.{_≡_};
-ghost use Prim.Native.Nat.{_-_, _*_};
+ghost use Prim.Native.Nat.{_-_, _*_, _≤_};
 ghost use Rattle.local_format.specs.Out.{refused};
 ghost use Rattle.local_format.specs.Maps.{refusalOut};
+ghost use Rattle.evr0_section.specs.Head.{spanWidth, witnessSize};
 ghost use Rattle.evr0_section.specs.Witness.{witnessOf, parentRow};
 ghost use Rattle.evr0_read.specs.Entry.{placedWitness, placedParent, recordAt};
 ghost use Rattle.evr0_read.specs.Place.{witnessPlace, parentPlace};
 ghost use Rattle.evr0_read.specs.Maps.{witnessEntryOut, witnessBeside, parentEntryOut};
 use evr0_fields::number::ProofNumber;
 use evr0_fields::number::WitnessNumber;
+use evr0_fields::schema::witness_size;
 use evr0_head::counts::Counts;
 use evr0_records::parent::Parent;
 use evr0_records::witness::Witness;
@@ -32,35 +34,44 @@ pub enum ParentEntry {
     Refused(Refusal),
 }
 
-// Where so many witnesses that end at a place start; 0 where they do not fit.
-pub fn before_witnesses(end: usize, count: usize) -> usize
-    ensures { λ r. ⌜ r ≡ end - 84 * count ⌝ }
+// Where so many records of a size that end at a place start; 0 where they do not fit.
+fn back(end: usize, size: usize, count: usize) -> usize
+    requires { ⌜ 1 ≤ size ⌝ }
+    ensures { λ r. ⌜ r ≡ end - size * count ⌝ }
 {
-    if end / 84 < count {
+    if end / size < count {
         return 0;
     }
-    end - 84 * count
+    end - size * count
+}
+
+// Where so many witnesses that end at a place start; 0 where they do not fit.
+pub fn before_witnesses(end: usize, schema: u16, count: usize) -> usize
+    ensures { λ r. ⌜ r ≡ end - witnessSize (spanWidth schema) * count ⌝ }
+{
+    back(end, witness_size(schema), count)
 }
 
 // Where so many parents that end at a place start; 0 where they do not fit.
 pub fn before_parents(end: usize, count: usize) -> usize
     ensures { λ r. ⌜ r ≡ end - 4 * count ⌝ }
 {
-    if end / 4 < count {
-        return 0;
-    }
-    end - 4 * count
+    back(end, 4, count)
 }
 
 // Where a witness starts in a payload of `len` bytes; 0 where there is none with the number.
-pub fn witness_place(len: usize, counts: Counts, number: WitnessNumber) -> usize
-    ensures { λ r. ⌜ r ≡ witnessPlace len (counts .witnesses) (counts .parents) (number .0) ⌝ }
+pub fn witness_place(len: usize, schema: u16, counts: Counts, number: WitnessNumber) -> usize
+    ensures { λ r. ⌜ r ≡ witnessPlace len (spanWidth schema) (counts .witnesses) (counts .parents) (number .0) ⌝ }
 {
     let i = number.place();
     if counts.witnesses <= i {
         return 0;
     }
-    before_witnesses(before_parents(len, counts.parents), counts.witnesses - i)
+    before_witnesses(
+        before_parents(len, counts.parents),
+        schema,
+        counts.witnesses - i,
+    )
 }
 
 // Where a parent cell starts in a payload of `len` bytes; 0 where there is none with the number.
@@ -85,10 +96,10 @@ pub fn no_witness(refusal: Refusal) -> WitnessEntry
 }
 
 // The witness that starts at a place.
-pub fn witness_at(payload: &[u8], at: usize) -> WitnessEntry
-    ensures { λ r. ⌜ witnessEntryOut r ≡ witnessBeside (recordAt (witnessOf 4) placedWitness (now (payload .entry)) at) ⌝ }
+pub fn witness_at(payload: &[u8], schema: u16, at: usize) -> WitnessEntry
+    ensures { λ r. ⌜ witnessEntryOut r ≡ witnessBeside (recordAt (witnessOf (spanWidth schema)) placedWitness (now (payload .entry)) at) ⌝ }
 {
-    let read = evr0_records::witness::read_witness(local_format::part::tail(payload, at));
+    let read = evr0_records::witness::read_witness(local_format::part::tail(payload, at), schema);
     let file_digest = read.file_digest;
     let origin_digest = read.origin_digest;
     let answer = read.answer;

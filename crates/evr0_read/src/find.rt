@@ -28,9 +28,10 @@ pub enum Wanted {
     Parent(u32),
 }
 
-// The cursor after the section, its counts, and where the record starts in the payload.
+// The section's schema, the cursor after it, its counts, and where the record starts in the payload.
 pub enum Found {
     At {
+        schema: u16,
         end: usize,
         counts: Counts,
         start: usize,
@@ -39,11 +40,23 @@ pub enum Found {
 }
 
 // A place, if the number is one of `count`.
-fn among(number: usize, count: usize, end: usize, counts: Counts, start: usize) -> Found
-    ensures { λ r. ⌜ foundOut r ≡ among number count (placeBy end (countsOut counts) start) ⌝ }
+fn among(
+    number: usize,
+    count: usize,
+    schema: u16,
+    end: usize,
+    counts: Counts,
+    start: usize,
+) -> Found
+    ensures { λ r. ⌜ foundOut r ≡ among number count (placeBy schema end (countsOut counts) start) ⌝ }
 {
     if number < count {
-        return Found::At { end, counts, start };
+        return Found::At {
+            schema,
+            end,
+            counts,
+            start,
+        };
     }
     Found::Refused(local_format::refusal::refuse(62, 0))
 }
@@ -51,18 +64,21 @@ fn among(number: usize, count: usize, end: usize, counts: Counts, start: usize) 
 // The place in a payload of `len` bytes, by the starts of propositions and proofs.
 fn seek(
     wanted: Wanted,
+    schema: u16,
     len: usize,
     end: usize,
     counts: Counts,
     propositions: &[u64],
     proofs: &[u64],
 ) -> Found
-    ensures { λ r. ⌜ foundOut r ≡ sought wanted len (placeBy end (countsOut counts)) (countsOut counts) (now (propositions .entry)) (now (proofs .entry)) ⌝ }
+    ensures { λ r. ⌜ foundOut r ≡ sought wanted schema len (placeBy schema end (countsOut counts)) (countsOut counts) (now (propositions .entry))
+        (now (proofs .entry)) ⌝ }
 {
     match wanted {
         Wanted::Proposition(n) => among(
             n.place(),
             counts.propositions,
+            schema,
             end,
             counts,
             start_at(propositions, n.place()),
@@ -70,6 +86,7 @@ fn seek(
         Wanted::Proof(n) => among(
             n.place(),
             counts.proofs,
+            schema,
             end,
             counts,
             start_at(proofs, n.place()),
@@ -77,13 +94,15 @@ fn seek(
         Wanted::Witness(n) => among(
             n.place(),
             counts.witnesses,
+            schema,
             end,
             counts,
-            witness_place(len, counts, n),
+            witness_place(len, schema, counts, n),
         ),
         Wanted::Parent(n) => among(
             wide(n),
             counts.parents,
+            schema,
             end,
             counts,
             parent_place(len, counts, n),
@@ -103,6 +122,7 @@ fn settle(found: Found, propositions: &mut [u64], proofs: &mut [u64], depths: &m
             clear(depths);
         }
         Found::At {
+            schema: _,
             end: _,
             counts: _,
             start: _,
@@ -132,7 +152,15 @@ pub fn find(
         Outcome::Accepted(accepted) => {
             let counts = accepted.counts;
             let len = payload_of(bytes, cursor, end).len();
-            let found = seek(wanted, len, end, counts, propositions, proofs);
+            let found = seek(
+                wanted,
+                accepted.schema,
+                len,
+                end,
+                counts,
+                propositions,
+                proofs,
+            );
             settle(found, propositions, proofs, depths);
             found
         }

@@ -3,7 +3,9 @@ ghost use mathlib.Core.Path.{_≡_};
 ghost use mathlib.Core.List.{List};
 ghost use Prim.Native.Nat.{ℕ};
 ghost use Rattle.local_format.specs.Out.{refused};
-ghost use Rattle.local_format.specs.Maps.{refusalOut};
+ghost use Rattle.local_format.specs.Field.{fieldAt};
+ghost use Rattle.local_format.specs.Maps.{refusalOut, u64Out};
+ghost use Rattle.evr0_section.specs.Head.{spanWidth};
 ghost use Rattle.evr0_section.specs.Witness.{witnessOf, checkWitness};
 ghost use Rattle.evr0_fields.specs.Maps.{checkedOut};
 ghost use Rattle.evr0_head.specs.Maps.{countsOut};
@@ -16,14 +18,15 @@ use evr0_fields::place::Place;
 use evr0_head::counts::Counts;
 use local_format::field::U8;
 use local_format::field::U32;
+use local_format::field::U64;
 use local_format::refusal::Refusal;
 
 pub struct Witness {
     pub witness_id: WitnessNumber,
     pub proposition_index: PropositionIndex,
     pub polarity: u8,
-    pub source_start: u32,
-    pub source_end: u32,
+    pub source_start: u64,
+    pub source_end: u64,
 }
 
 pub enum WitnessAnswer {
@@ -48,9 +51,26 @@ fn refused_witness(refusal: Refusal) -> WitnessRead
     }
 }
 
+// The start or the end of a span.
+fn read_span(tail: &[u8], at: usize, schema: u16) -> U64
+    ensures { λ r. ⌜ u64Out r ≡ fieldAt (spanWidth schema) (now (tail .entry)) at ⌝ }
+{
+    if schema == 2 {
+        return local_format::field::read_u64_le(tail, at);
+    }
+    let narrow = local_format::field::read_u32_le(tail, at);
+    let U32::Value { value, next } = narrow else {
+        return U64::Cut;
+    };
+    U64::Value {
+        value: value as u64,
+        next,
+    }
+}
+
 // The witness at the front of `tail`.
-pub fn read_witness(tail: &[u8]) -> WitnessRead
-    ensures { λ r. ⌜ witnessOut r ≡ witnessBeside (witnessOf 4 (now (tail .entry))) ⌝ }
+pub fn read_witness(tail: &[u8], schema: u16) -> WitnessRead
+    ensures { λ r. ⌜ witnessOut r ≡ witnessBeside (witnessOf (spanWidth schema) (now (tail .entry))) ⌝ }
 {
     let number = local_format::field::read_u32_le(tail, 0);
     let U32::Value {
@@ -85,16 +105,16 @@ pub fn read_witness(tail: &[u8]) -> WitnessRead
     let Place::Next(start_at) = file_place else {
         return refused_witness(evr0_fields::place::place_refusal(file_place));
     };
-    let start = local_format::field::read_u32_le(tail, start_at);
-    let U32::Value {
+    let start = read_span(tail, start_at, schema);
+    let U64::Value {
         value: source_start,
         next: end_at,
     } = start
     else {
         return refused_witness(local_format::refusal::refuse(5, start_at));
     };
-    let end = local_format::field::read_u32_le(tail, end_at);
-    let U32::Value {
+    let end = read_span(tail, end_at, schema);
+    let U64::Value {
         value: source_end,
         next: origin_at,
     } = end

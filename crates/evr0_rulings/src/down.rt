@@ -100,6 +100,7 @@ pub fn way_down_given(
     );
     match found {
         Found::At {
+            schema: _,
             end,
             counts,
             start: _,

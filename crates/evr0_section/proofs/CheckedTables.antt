@@ -15,7 +15,7 @@ use Rattle.derivation.specs.Section.{Section, Proof, Witness, noProof, noWitnes
 use Rattle.derivation.proofs.Tests.{both}
 use Rattle.derivation.proofs.Owners.{sum-mono}
 use Rattle.evr0_section.specs.Rows.{rows}
-use Rattle.evr0_section.specs.Head.{Room, Head, Counts, headOf, checkCounts, checkedHead}
+use Rattle.evr0_section.specs.Head.{Room, Head, Counts, spanWidth, headOf, checkCounts, checkedHead}
 use Rattle.evr0_section.specs.Proposition.{first, propositionRow}
 use Rattle.evr0_section.specs.Proof.{Unowned, noneOwned, proofRow}
 use Rattle.evr0_section.specs.Witness.{witnessRow, parentRow}
@@ -26,44 +26,45 @@ use Rattle.evr0_section.proofs.RowChecks.{afterProof, GoodProof, proof-
 
 -- ---- The steps that read the tables of a payload
 
-pub record RestSteps (counts : Counts) (p : List ℕ) (at : ℕ) (r : Rest) : Type 0 where
-  pub witnesses : rows (witnessRow 4 counts) (counts .witnesses) 0 p at ≡ ok (r .witnesses)
+pub record RestSteps (width : ℕ) (counts : Counts) (p : List ℕ) (at : ℕ) (r : Rest) : Type 0 where
+  pub witnesses : rows (witnessRow width counts) (counts .witnesses) 0 p at ≡ ok (r .witnesses)
   pub parents : rows parentRow (counts .parents) tt p (r .witnesses .next) ≡ ok (r .parents)
   pub whole : r .parents .next ≡ length p
 
-rest-steps : (counts : Counts) (p : List ℕ) (at : ℕ) (r : Rest) → restAfter counts p at ≡ ok r → RestSteps counts p at r
+rest-steps : (width : ℕ) (counts : Counts) (p : List ℕ) (at : ℕ) (r : Rest) → restAfter width counts p at ≡ ok r → RestSteps width counts p at r
 unfolding restAfter
-rest-steps counts p at r e =
-    let a = bind-ok (rows (witnessRow 4 counts) (counts .witnesses) 0 p at) _ e in
+rest-steps width counts p at r e =
+    let a = bind-ok (rows (witnessRow width counts) (counts .witnesses) 0 p at) _ e in
     let b = bind-ok (rows parentRow (counts .parents) tt p (a .0 .next)) _ (a .2) in
     let c = checked-ok (eqb (b .0 .next) (length p)) 24 (b .0 .next) _ (b .2) in
-    subst (RestSteps counts p at) (ok-same (c .1)) (record { witnesses = a .1; parents = b .1; whole = eqb-true _ _ (c .0) })
+    subst (RestSteps width counts p at) (ok-same (c .1)) (record { witnesses = a .1; parents = b .1; whole = eqb-true _ _ (c .0) })
 
-pub record FourSteps (rules : List Rule) (counts : Counts) (p : List ℕ) (at : ℕ) (f : Four) : Type 0 where
+pub record FourSteps (rules : List Rule) (width : ℕ) (counts : Counts) (p : List ℕ) (at : ℕ) (f : Four) : Type 0 where
   pub propositions : rows propositionRow (counts .propositions) first p at ≡ ok (f .propositions)
   pub proofs : rows (proofRow rules counts) (counts .proofs) noneOwned p (f .propositions .next) ≡ ok (f .proofs)
   pub witnessesOwned : f .proofs .state .witness ≡ counts .witnesses
   pub parentsOwned : f .proofs .state .parent ≡ counts .parents
-  pub rest : RestSteps counts p (f .proofs .next) (f .rest)
+  pub rest : RestSteps width counts p (f .proofs .next) (f .rest)
 
-pub four-steps : (rules : List Rule) (counts : Counts) (p : List ℕ) (at : ℕ) (f : Four) → tablesAfter rules counts p at ≡ ok f → FourSteps rules counts p at f
+pub four-steps : (rules : List Rule) (width : ℕ) (counts : Counts) (p : List ℕ) (at : ℕ) (f : Four) → tablesAfter rules width counts p at ≡ ok f
+    → FourSteps rules width counts p at f
 unfolding tablesAfter
-four-steps rules counts p at f e =
+four-steps rules width counts p at f e =
     let a = bind-ok (rows propositionRow (counts .propositions) first p at) _ e in
     let b = bind-ok (rows (proofRow rules counts) (counts .proofs) noneOwned p (a .0 .next)) _ (a .2) in
     let c = checked-ok (eqb (b .0 .state .witness) (counts .witnesses) && eqb (b .0 .state .parent) (counts .parents)) 22 (b .0 .next) _ (b .2) in
     let owned = both (eqb (b .0 .state .witness) (counts .witnesses)) (eqb (b .0 .state .parent) (counts .parents)) (c .0) in
-    let d = bind-ok (restAfter counts p (b .0 .next)) _ (c .1) in
-    subst (FourSteps rules counts p at) (ok-same (d .2))
+    let d = bind-ok (restAfter width counts p (b .0 .next)) _ (c .1) in
+    subst (FourSteps rules width counts p at) (ok-same (d .2))
     (record {
       propositions = a .1;
       proofs = b .1;
       witnessesOwned = eqb-true _ _ (owned .0);
       parentsOwned = eqb-true _ _ (owned .1);
-      rest = rest-steps counts p _ (d .0) (d .1);
+      rest = rest-steps width counts p _ (d .0) (d .1);
     })
 
-head-steps : (room : Room) (p : List ℕ) (h : Head) → checkedHead room p ≡ ok h → (headOf p ≡ ok h) × (checkCounts room p h ≡ ok tt)
+pub head-steps : (room : Room) (p : List ℕ) (h : Head) → checkedHead room p ≡ ok h → (headOf p ≡ ok h) × (checkCounts room p h ≡ ok tt)
 unfolding checkedHead
 head-steps room p h e =
     let a = bind-ok (headOf p) _ e in
@@ -77,7 +78,8 @@ pub record Steps (rules : List Rule) (room : Room) (p : List ℕ) (t : Tables) :
   pub proofs : rows (proofRow rules (t .head .counts)) (t .head .counts .proofs) noneOwned p (t .propositions .next) ≡ ok (t .proofs)
   pub witnessesOwned : t .proofs .state .witness ≡ t .head .counts .witnesses
   pub parentsOwned : t .proofs .state .parent ≡ t .head .counts .parents
-  pub witnesses : rows (witnessRow 4 (t .head .counts)) (t .head .counts .witnesses) 0 p (t .proofs .next) ≡ ok (t .witnesses)
+  pub witnesses : rows (witnessRow (spanWidth (t .head .schema)) (t .head .counts)) (t .head .counts .witnesses) 0 p (t .proofs .next)
+      ≡ ok (t .witnesses)
   pub parents : rows parentRow (t .head .counts .parents) tt p (t .witnesses .next) ≡ ok (t .parents)
   pub whole : t .parents .next ≡ length p
 
@@ -86,9 +88,10 @@ module _ (rules : List Rule) (room : Room) (p : List ℕ) (t : Tables) (read : t
   unfolding tablesOf
   steps =
       let a = bind-ok (checkedHead room p) _ read in
-      let b = bind-ok (tablesAfter rules (a .0 .counts) p (a .0 .next)) _ (a .2) in
+      let width : ℕ = spanWidth (a .0 .schema) in
+      let b = bind-ok (tablesAfter rules width (a .0 .counts) p (a .0 .next)) _ (a .2) in
       let h = head-steps room p (a .0) (a .1) in
-      let f : FourSteps rules (a .0 .counts) p (a .0 .next) (b .0) = four-steps rules (a .0 .counts) p (a .0 .next) (b .0) (b .1) in
+      let f : FourSteps rules width (a .0 .counts) p (a .0 .next) (b .0) = four-steps rules width (a .0 .counts) p (a .0 .next) (b .0) (b .1) in
       subst (Steps rules room p) (ok-same (b .2))
       (record {
         head = h .0;
@@ -106,9 +109,12 @@ module _ (rules : List Rule) (room : Room) (p : List ℕ) (t : Tables) (read : t
       (map proofItem (t .proofs .entries))
   proofs-read = rows-read proofItem afterProof _ _ (proof-known rules (t .head .counts)) p _ _ _ (t .proofs) (steps .proofs)
 
-  witnesses-read : Read witnessItem (λ w x. suc w) (GoodWitness 4 (t .head .counts)) (t .head .counts .witnesses) 0 (t .witnesses .state)
+  abbrev width : ℕ
+  width = spanWidth (t .head .schema)
+
+  witnesses-read : Read witnessItem (λ w x. suc w) (GoodWitness width (t .head .counts)) (t .head .counts .witnesses) 0 (t .witnesses .state)
       (map witnessItem (t .witnesses .entries))
-  witnesses-read = rows-read witnessItem (λ w x. suc w) _ _ (witness-known 4 (t .head .counts)) p _ _ _ (t .witnesses) (steps .witnesses)
+  witnesses-read = rows-read witnessItem (λ w x. suc w) _ _ (witness-known width (t .head .counts)) p _ _ _ (t .witnesses) (steps .witnesses)
 
   abbrev s : Section
   s = sectionOf t
@@ -137,13 +143,13 @@ module _ (rules : List Rule) (room : Room) (p : List ℕ) (t : Tables) (read : t
   unfolding sectionOf proofAt before
   good-proof i l = proofs-read .good noProof i (omega (arith, proof-total))
 
-  good-witness : (w : ℕ) → w < witnessTotal s → GoodWitness 4 (t .head .counts) w (witnessAt s w)
+  good-witness : (w : ℕ) → w < witnessTotal s → GoodWitness width (t .head .counts) w (witnessAt s w)
   unfolding sectionOf witnessAt witnessTotal
   good-witness w l =
       let ws : List Witness = map witnessItem (t .witnesses .entries) in
       let n : stateAt witnessItem (λ w x. suc w) 0 ws w ≡ w =
       omega (arith, state-sum witnessItem (λ w x. suc w) (λ w. w) (λ x. 1) (λ w x. omega arith) noWitness ws 0 w (omega arith), sum-ones w) in
-      subst (λ (v : ℕ). GoodWitness 4 (t .head .counts) v (witnessAt s w)) n (witnesses-read .good noWitness w (omega (arith, witness-total)))
+      subst (λ (v : ℕ). GoodWitness width (t .head .counts) v (witnessAt s w)) n (witnesses-read .good noWitness w (omega (arith, witness-total)))
 
   -- what each proof adds to a number of the state
   sums : (f : Unowned → ℕ) (g : Proof → ℕ) → ((u : Unowned) (q : Proof) → f (afterProof u q) ≡ f u + g q) → f noneOwned ≡ 0

@@ -13,7 +13,7 @@ use Rattle.local_format.proofs.Each.{Each, answers, refuses, always, each, each
 use Rattle.local_format.proofs.CharacterLaws.{text-characters}
 use Rattle.derivation.specs.Rule.{Rule}
 use Rattle.evr0_section.specs.Rows.{Row}
-use Rattle.evr0_section.specs.Head.{Counts, Room, digestAt, countsAt, headOf}
+use Rattle.evr0_section.specs.Head.{Counts, Room, digestAt, countsAt, isSchema, headOf}
 use Rattle.evr0_section.specs.Proposition.{Before, keyOf, rises, propositionOf, propositionRow}
 use Rattle.evr0_section.specs.Proof.{Settled, Unowned, zerosAt, proofOf, proofRow}
 use Rattle.evr0_section.specs.Section.{Frame, Tables, frameAt, tablesOf, tablesAt}
@@ -34,7 +34,7 @@ head-counted : (p : List ℕ) → Each (λ h. Characters p (h .policy) × Charac
 unfolding headOf
 head-counted p =
     on (any (sectionField 2 p 0)) (λ schema a.
-    on-check (eqb (schema .value) 1) 10 (schema .next) _ tt
+    on-check (isSchema (schema .value)) 10 (schema .next) _ tt
     (on (any (sectionField 2 p (schema .next))) (λ flags b.
     on-check (eqb (flags .value) 0) 11 (flags .next) _ tt
     (on (any (digestAt p (flags .next))) (λ source c.

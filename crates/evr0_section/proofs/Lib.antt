@@ -13,3 +13,4 @@ pub mod Counted
 pub mod Settled
 pub mod Neighbours
 pub mod Marks
+pub mod Schemas

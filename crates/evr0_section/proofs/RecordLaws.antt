@@ -11,7 +11,7 @@ use Rattle.local_format.specs.Text.{bytesAt, textAt}
 use Rattle.local_format.proofs.FieldLaws.{le-drop}
 use Rattle.local_format.proofs.Each.{Each, each-ok, always, steps}
 use Rattle.evr0_section.specs.Rows.{Sized, Row}
-use Rattle.evr0_section.specs.Head.{digestAt}
+use Rattle.evr0_section.specs.Head.{digestAt, witnessSize}
 use Rattle.evr0_section.specs.Proof.{ProofRecord, zerosAt, proofOf}
 use Rattle.evr0_section.specs.Witness.{WitnessRecord, witnessOf, parentRow}
 
@@ -105,7 +105,7 @@ module _ (p : List ℕ) (at : ℕ) where
 
   -- over the width of a span's ends
   pub record WitnessLies (width : ℕ) (x : Sized WitnessRecord) : Type 0 where
-    pub size : x .size ≡ 76 + (width + width)
+    pub size : x .size ≡ witnessSize width
     pub number : x .item .number ≡ le 4 p at
     pub proposition : x .item .proposition ≡ le 4 p (at + 4)
     pub polarity : x .item .polarity ≡ le 1 p (at + 8)

@@ -1,7 +1,7 @@
 -- The head of a payload: schema, flags, two digests, epoch, two namespaces and four counts, and the checks that follow the counts.
 use Prim.Native.Nat.{ℕ, _+_, _-_, _*_}
 use mathlib.Core.List.{List, [], _∷_}
-use mathlib.Core.Bool.{Bool, _&&_}
+use mathlib.Core.Bool.{Bool, cond, _&&_, _||_}
 use lib.ListN.{length}
 use lib.Dec.{leb, eqb}
 use Rattle.local_format.specs.Out.{Out, ok, check, _>>=_, _>>_}
@@ -42,10 +42,29 @@ countsAt p at = do
     next = parents .next;
   })
 
+-- ---- What the schema decides (document 02, Slip 12)
+
+-- the schemas that are read
+abbrev pub isSchema : ℕ → Bool
+isSchema schema = eqb schema 1 || eqb schema 2
+
+-- the width of a span's start and of its end
+unfoldable pub spanWidth : ℕ → ℕ
+spanWidth schema = cond (eqb schema 2) 8 4
+
+-- the size of a witness whose span's ends have this width: 84 or 92
+abbrev pub witnessSize : ℕ → ℕ
+witnessSize width = 76 + 2 * width
+
+-- what 14 counts for a witness
+unfoldable pub witnessMemory : ℕ → ℕ
+witnessMemory schema = cond (eqb schema 2) 96 84
+
 -- ---- The head
 
 -- the two namespaces as texts, and the places of their lengths; the place of the first count, and the place after the counts
 pub record Head : Type 0 where
+  pub schema : ℕ
   pub sourceSet : List ℕ
   pub compilerContract : List ℕ
   pub epoch : ℕ
@@ -60,7 +79,7 @@ pub record Head : Type 0 where
 unfoldable pub headOf : List ℕ → Out Head
 headOf p = do
   schema ← sectionField 2 p 0
-  check (eqb (schema .value) 1) 10 (schema .next)
+  check (isSchema (schema .value)) 10 (schema .next)
   flags ← sectionField 2 p (schema .next)
   check (eqb (flags .value) 0) 11 (flags .next)
   sourceSet ← digestAt p (flags .next)
@@ -70,6 +89,7 @@ headOf p = do
   issuer ← textAt p (policy .next)
   counted ← countsAt p (issuer .next)
   ok (record {
+    schema = schema .value;
     sourceSet = sourceSet .bytes;
     compilerContract = compilerContract .bytes;
     epoch = epoch .value;
@@ -115,8 +135,8 @@ hasRoom room c = leb (c .propositions) (room .propositions) && (leb (c .proofs) 
 unfoldable pub checkCounts : Room → List ℕ → Head → Out (Unit {0})
 checkCounts room p h = do
   withinLimits (listed (h .counts)) countLimits (h .countsAt)
-  check (leb (sizes (h .counts) 15 35 84 4) (length p - h .next)) 13 (h .next)
-  check (leb (length p + sizes (h .counts) 40 64 84 4) 16777216) 14 (h .next)
+  check (leb (sizes (h .counts) 15 35 (witnessSize (spanWidth (h .schema))) 4) (length p - h .next)) 13 (h .next)
+  check (leb (length p + sizes (h .counts) 40 64 (witnessMemory (h .schema)) 4) 16777216) 14 (h .next)
   check (leb (length p + sizes (h .counts) 1 1 1 1) 8388608) 15 (h .next)
   check (hasRoom room (h .counts)) 61 (h .next)
 

@@ -8,3 +8,4 @@ pub mod Demand
 pub mod Characters
 pub mod Neighbours
 pub mod Marks
+pub mod Older

@@ -12,7 +12,7 @@ use Rattle.derivation.specs.Rule.{Rule, fourRules}
 use Rattle.derivation.specs.Section as derivation
 use Rattle.derivation.specs.Pass.{depths}
 use Rattle.evr0_section.specs.Rows.{Entry, Rows, rows}
-use Rattle.evr0_section.specs.Head.{Counts, Head, Room, checkedHead}
+use Rattle.evr0_section.specs.Head.{Counts, Head, Room, spanWidth, checkedHead}
 use Rattle.evr0_section.specs.Proposition.{Proposition, Before, first, propositionRow}
 use Rattle.evr0_section.specs.Proof.{Settled, Unowned, noneOwned, proofRow}
 use Rattle.evr0_section.specs.Witness.{WitnessRecord, witnessRow, parentRow}
@@ -39,10 +39,10 @@ pub record Rest : Type 0 where
   pub witnesses : Rows WitnessRecord ℕ
   pub parents : Rows ℕ (Unit {0})
 
--- from a place on, up to the payload's end
-unfoldable pub restAfter : Counts → List ℕ → ℕ → Out Rest
-restAfter counts p at = do
-  witnesses ← rows (witnessRow 4 counts) (counts .witnesses) 0 p at
+-- from a place on, up to the payload's end, with spans whose ends have this width
+unfoldable pub restAfter : ℕ → Counts → List ℕ → ℕ → Out Rest
+restAfter width counts p at = do
+  witnesses ← rows (witnessRow width counts) (counts .witnesses) 0 p at
   parents ← rows parentRow (counts .parents) tt p (witnesses .next)
   check (eqb (parents .next) (length p)) 24 (parents .next)
   ok (record { witnesses = witnesses; parents = parents })
@@ -53,12 +53,12 @@ pub record Four : Type 0 where
   pub rest : Rest
 
 -- the four tables, from the place after the head
-unfoldable pub tablesAfter : List Rule → Counts → List ℕ → ℕ → Out Four
-tablesAfter rules counts p at = do
+unfoldable pub tablesAfter : List Rule → ℕ → Counts → List ℕ → ℕ → Out Four
+tablesAfter rules width counts p at = do
   propositions ← rows propositionRow (counts .propositions) first p at
   proofs ← rows (proofRow rules counts) (counts .proofs) noneOwned p (propositions .next)
   check (eqb (proofs .state .witness) (counts .witnesses) && eqb (proofs .state .parent) (counts .parents)) 22 (proofs .next)
-  rest ← restAfter counts p (proofs .next)
+  rest ← restAfter width counts p (proofs .next)
   ok (record { propositions = propositions; proofs = proofs; rest = rest })
 
 pub record Tables : Type 0 where
@@ -119,7 +119,7 @@ module _ (rules : List Rule) (room : Room) where
   unfoldable pub tablesOf : List ℕ → Out Tables
   tablesOf p = do
     head ← checkedHead room p
-    tables ← tablesAfter rules (head .counts) p (head .next)
+    tables ← tablesAfter rules (spanWidth (head .schema)) (head .counts) p (head .next)
     ok (whole head tables)
 
   -- the tables of the section at a cursor. They *all read and pass their own checks*, with no byte left over, where this is no refusal

@@ -41,14 +41,14 @@ owned-next (ok t) e = ap (λ (o : Owned). ok (o .next)) (ok-same e)
 owned-next (refused r) e = absurd (never e)
 
 -- ---- The answer, step by step
-module _ (counts : Counts) (p : List ℕ) (at : ℕ) where
+module _ (width : ℕ) (counts : Counts) (p : List ℕ) (at : ℕ) where
   abbrev ends : ℕ → ℕ → Out ℕ
   ends w e = check (eqb e (length p)) 24 e >> ok w
 
-  pub rest-kept : parentsIn (restAfter counts p at)
-      ≡ (nextIn (rows (witnessRow 4 counts) (counts .witnesses) 0 p at) >>= λ w. nextIn (rows parentRow (counts .parents) tt p w) >>= λ e. ends w e)
+  pub rest-kept : parentsIn (restAfter width counts p at)
+      ≡ (nextIn (rows (witnessRow width counts) (counts .witnesses) 0 p at) >>= λ w. nextIn (rows parentRow (counts .parents) tt p w) >>= λ e. ends w e)
   unfolding restAfter
-  rest-kept = by-witnesses (rows (witnessRow 4 counts) (counts .witnesses) 0 p at)
+  rest-kept = by-witnesses (rows (witnessRow width counts) (counts .witnesses) 0 p at)
     where
       by-end : (w : Rows WitnessRecord ℕ) (q : Rows ℕ (Unit {0})) (t : Bool)
           → parentsIn (check t 24 (q .next) >> ok (record { witnesses = w; parents = q })) ≡ (check t 24 (q .next) >> ok (w .next))
@@ -68,20 +68,20 @@ module _ (counts : Counts) (p : List ℕ) (at : ℕ) where
       by-witnesses (ok w) = by-parents w (rows parentRow (counts .parents) tt p (w .next))
       by-witnesses (refused r) = refl
 
-module _ (rules : List Rule) (counts : Counts) (p : List ℕ) (at : ℕ) where
+module _ (rules : List Rule) (width : ℕ) (counts : Counts) (p : List ℕ) (at : ℕ) where
   abbrev owned : Unowned → Bool
   owned u = eqb (u .witness) (counts .witnesses) && eqb (u .parent) (counts .parents)
 
   abbrev four : Rows Proposition Before → Rows Settled Unowned → Out Four
-  four a b = restAfter counts p (b .next) >>= λ r. ok (record { propositions = a; proofs = b; rest = r })
+  four a b = restAfter width counts p (b .next) >>= λ r. ok (record { propositions = a; proofs = b; rest = r })
 
   abbrev afterProofs : Owned → Out Places
-  afterProofs o = check (owned (o .unowned)) 22 (o .next) >> (parentsIn (restAfter counts p (o .next)) >>= λ q. ok (record {
+  afterProofs o = check (owned (o .unowned)) 22 (o .next) >> (parentsIn (restAfter width counts p (o .next)) >>= λ q. ok (record {
     witnessesAt = o .next;
     parentsAt = q;
   }))
 
-  pub tables-kept : placesIn (tablesAfter rules counts p at)
+  pub tables-kept : placesIn (tablesAfter rules width counts p at)
       ≡ (nextIn (rows propositionRow (counts .propositions) first p at) >>= λ n.
       ownedIn (rows (proofRow rules counts) (counts .proofs) noneOwned p n) >>= λ o. afterProofs o)
   unfolding tablesAfter
@@ -95,8 +95,8 @@ module _ (rules : List Rule) (counts : Counts) (p : List ℕ) (at : ℕ) where
 
       by-owned : (a : Rows Proposition Before) (b : Rows Settled Unowned) (t : Bool)
           → placesIn (check t 22 (b .next) >> four a b)
-          ≡ (check t 22 (b .next) >> (parentsIn (restAfter counts p (b .next)) >>= λ q. ok (record { witnessesAt = b .next; parentsAt = q })))
-      by-owned a b true = by-rest a b (restAfter counts p (b .next))
+          ≡ (check t 22 (b .next) >> (parentsIn (restAfter width counts p (b .next)) >>= λ q. ok (record { witnessesAt = b .next; parentsAt = q })))
+      by-owned a b true = by-rest a b (restAfter width counts p (b .next))
       by-owned a b false = refl
 
       by-proofs : (a : Rows Proposition Before) (x : Out (Rows Settled Unowned))
@@ -113,7 +113,7 @@ module _ (rules : List Rule) (counts : Counts) (p : List ℕ) (at : ℕ) where
 
   -- ---- The lent tables
   abbrev x : Out Four
-  x = tablesAfter rules counts p at
+  x = tablesAfter rules width counts p at
 
   -- begun by the propositions and the proofs that were read
   pub both-begun : {g : Places} {n : ℕ} {ps qs : List ℕ} → placesIn x ≡ ok g
@@ -122,7 +122,7 @@ module _ (rules : List Rule) (counts : Counts) (p : List ℕ) (at : ℕ) where
       → Front (startsIn (rows (proofRow rules counts) (counts .proofs) noneOwned p n)) qs → Begins x ps qs (ok g)
   both-begun {g} {n} {ps} {qs} e m h k =
       let a = bind-ok x _ e in
-      let f = four-steps rules counts p at (a .0) (a .1) in
+      let f = four-steps rules width counts p at (a .0) (a .1) in
       let l : n ≡ a .0 .propositions .next = ok-same (m ∙ ap nextIn (f .propositions)) in
       let k′ : Front (startsIn (rows (proofRow rules counts) (counts .proofs) noneOwned p (a .0 .propositions .next))) qs = rw l at k in
       record { answer = sym e; propositions = rw (a .1) (rw (f .propositions) at h); proofs = rw (a .1) (rw (f .proofs) at k′) }
@@ -134,7 +134,7 @@ module _ (rules : List Rule) (counts : Counts) (p : List ℕ) (at : ℕ) where
       → Reads x propositions proofs ps′ qs′ (ok g)
   cleared-past {g} {ps} {qs} {ps′} {qs′} propositions proofs b lp lq ep eq =
       let a = bind-ok x _ (sym (b .answer)) in
-      let f = four-steps rules counts p at (a .0) (a .1) in
+      let f = four-steps rules width counts p at (a .0) (a .1) in
       let np : length (startsOf (a .0 .propositions .entries)) ≡ counts .propositions =
       length-map (a .0 .propositions .entries) _ ∙ trace-length propositionRow p (trace propositionRow p _ _ _ (a .0 .propositions) (f .propositions)) in
       let nq : length (startsOf (a .0 .proofs .entries)) ≡ counts .proofs =

@@ -4,6 +4,7 @@ ghost use Prim.Native.Nat.{_≤_};
 ghost use lib.ListN.{length};
 ghost use mathlib.Core.Bool.{_&&_};
 ghost use lib.Dec.{eqb};
+ghost use Rattle.evr0_section.specs.Head.{spanWidth};
 ghost use Rattle.evr0_section.specs.Section.{restAfter, tablesAfter};
 ghost use Rattle.evr0_head.specs.Maps.{countsOut};
 ghost use Rattle.evr0_rules.specs.Maps.{rulesIn, RulesThere};
@@ -36,11 +37,11 @@ fn all_owned(unowned: Unowned, counts: Counts) -> bool
 }
 
 // The witnesses and the parents, from `at` to the payload's end: where the parents start.
-fn read_rest(payload: &[u8], counts: Counts, at: usize) -> Table
+fn read_rest(payload: &[u8], schema: u16, counts: Counts, at: usize) -> Table
     requires { ⌜ (counts .parents ≤ 262144) × (at ≤ length (now payload)) ⌝ }
-    ensures { λ r. ⌜ tableOut r ≡ parentsIn (restAfter (countsOut counts) (now (payload .entry)) at) ⌝ }
+    ensures { λ r. ⌜ tableOut r ≡ parentsIn (restAfter (spanWidth schema) (countsOut counts) (now (payload .entry)) at) ⌝ }
 {
-    let witnesses = crate::tables::read_witnesses(payload, counts, at);
+    let witnesses = crate::tables::read_witnesses(payload, schema, counts, at);
     let Table::Read { next: parents_at } = witnesses else {
         return witnesses;
     };
@@ -60,6 +61,7 @@ fn read_four(
     table: &[u8],
     places: &[u64],
     payload: &[u8],
+    schema: u16,
     counts: Counts,
     at: usize,
     propositions: &mut [u64],
@@ -67,8 +69,8 @@ fn read_four(
 ) -> Places
     requires { ⌜ (counts .propositions ≤ length (now propositions)) × (counts .proofs ≤ length (now proofs)) ⌝ }
     requires { ⌜ (counts .parents ≤ 262144) × (at ≤ length (now payload)) × RulesThere (now table) (now places) ⌝ }
-    ensures { λ r. ⌜ Begins (tablesAfter (rulesIn rules (now (table .entry)) (now (places .entry))) (countsOut counts) (now (payload .entry)) at)
-        (now (propositions .exit)) (now (proofs .exit)) (placesOut r) ⌝ }
+    ensures { λ r. ⌜ Begins (tablesAfter (rulesIn rules (now (table .entry)) (now (places .entry))) (spanWidth schema) (countsOut counts)
+        (now (payload .entry)) at) (now (propositions .exit)) (now (proofs .exit)) (placesOut r) ⌝ }
 {
     let first = crate::tables::read_propositions(payload, counts.propositions, at, propositions);
     match first {
@@ -92,7 +94,7 @@ fn read_four(
                     if !all_owned(unowned, counts) {
                         return Places::Refused(local_format::refusal::refuse(22, witnesses_at));
                     }
-                    let rest = read_rest(payload, counts, witnesses_at);
+                    let rest = read_rest(payload, schema, counts, witnesses_at);
                     match rest {
                         Table::Refused(refusal) => Places::Refused(refusal),
                         Table::Read { next: parents_at } => Places::Read {
@@ -112,6 +114,7 @@ pub fn read_tables(
     table: &[u8],
     places: &[u64],
     payload: &[u8],
+    schema: u16,
     counts: Counts,
     at: usize,
     propositions: &mut [u64],
@@ -119,14 +122,15 @@ pub fn read_tables(
 ) -> Places
     requires { ⌜ (counts .propositions ≤ length (now propositions)) × (counts .proofs ≤ length (now proofs)) ⌝ }
     requires { ⌜ (counts .parents ≤ 262144) × (at ≤ length (now payload)) × RulesThere (now table) (now places) ⌝ }
-    ensures { λ r. ⌜ Reads (tablesAfter (rulesIn rules (now (table .entry)) (now (places .entry))) (countsOut counts) (now (payload .entry)) at)
-        (now (propositions .entry)) (now (proofs .entry)) (now (propositions .exit)) (now (proofs .exit)) (placesOut r) ⌝ }
+    ensures { λ r. ⌜ Reads (tablesAfter (rulesIn rules (now (table .entry)) (now (places .entry))) (spanWidth schema) (countsOut counts)
+        (now (payload .entry)) at) (now (propositions .entry)) (now (proofs .entry)) (now (propositions .exit)) (now (proofs .exit)) (placesOut r) ⌝ }
 {
     let read = read_four(
         rules,
         table,
         places,
         payload,
+        schema,
         counts,
         at,
         propositions,

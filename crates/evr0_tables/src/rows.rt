@@ -1,6 +1,7 @@
 // The next record of a table, with its checks.
 ghost use mathlib.Core.Path.{_≡_};
 ghost use lib.ListN.{drop};
+ghost use Rattle.evr0_section.specs.Head.{spanWidth};
 ghost use Rattle.evr0_section.specs.Proposition.{propositionRow, rises, keyOf};
 ghost use Rattle.evr0_section.specs.Proof.{proofRow};
 ghost use Rattle.evr0_section.specs.Witness.{witnessRow};
@@ -126,10 +127,10 @@ pub enum Size {
 }
 
 // The size of the witness at `at`, which is to be the next one.
-pub fn next_witness(payload: &[u8], at: usize, counts: Counts, number: usize) -> Size
-    ensures { λ r. ⌜ sizeOut r ≡ sizeIn (witnessRow 4 (countsOut counts) number (drop at (now (payload .entry)))) ⌝ }
+pub fn next_witness(payload: &[u8], at: usize, schema: u16, counts: Counts, number: usize) -> Size
+    ensures { λ r. ⌜ sizeOut r ≡ sizeIn (witnessRow (spanWidth schema) (countsOut counts) number (drop at (now (payload .entry)))) ⌝ }
 {
-    let read = evr0_records::witness::read_witness(local_format::part::tail(payload, at));
+    let read = evr0_records::witness::read_witness(local_format::part::tail(payload, at), schema);
     let answer = read.answer;
     match answer {
         WitnessAnswer::Refused(r) => Size::Refused(r),

@@ -4,6 +4,7 @@ ghost use Prim.Native.Nat.{_≤_};
 ghost use lib.ListN.{length};
 ghost use Rattle.lent_table.specs.Lent.{Front};
 ghost use Rattle.evr0_section.specs.Rows.{rows};
+ghost use Rattle.evr0_section.specs.Head.{spanWidth};
 ghost use Rattle.evr0_section.specs.Proposition.{first, propositionRow};
 ghost use Rattle.evr0_section.specs.Proof.{noneOwned, proofRow};
 ghost use Rattle.evr0_section.specs.Witness.{witnessRow, parentRow};
@@ -106,15 +107,15 @@ pub fn read_proofs(
     }
 }
 
-pub fn read_witnesses(payload: &[u8], counts: Counts, at: usize) -> Table
+pub fn read_witnesses(payload: &[u8], schema: u16, counts: Counts, at: usize) -> Table
     requires { ⌜ at ≤ length (now payload) ⌝ }
-    ensures { λ r. ⌜ tableOut r ≡ nextIn (rows (witnessRow 4 (countsOut counts)) (counts .witnesses) 0 (now (payload .entry)) at) ⌝ }
+    ensures { λ r. ⌜ tableOut r ≡ nextIn (rows (witnessRow (spanWidth schema) (countsOut counts)) (counts .witnesses) 0 (now (payload .entry)) at) ⌝ }
 {
     let count = counts.witnesses;
     let mut place = at;
     let mut i: usize = 0;
     while i < count {
-        let row = crate::rows::next_witness(payload, place, counts, i);
+        let row = crate::rows::next_witness(payload, place, schema, counts, i);
         match row {
             Size::Bytes(size) => {
                 place += size;

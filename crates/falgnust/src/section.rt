@@ -15,8 +15,8 @@ use evr0_marks::section::decode_evr0_section;
 use evr0_marks::section::decode_evr0_section_by;
 use evr0_rules::settle::Rules;
 
-// The digests, the epoch, the places in the payload of both namespaces' lengths, how many characters each has, and the counts; or a
-// refusal, with zeros beside it. The cursor is the one that was brought where the section is refused.
+// The digests, the epoch, the schema, the places in the payload of both namespaces' lengths, how many characters each has, and the counts;
+// or a refusal, with zeros beside it. The cursor is the one that was brought where the section is refused.
 #[repr(C)]
 pub struct Section {
     pub accepted: bool,
@@ -24,6 +24,7 @@ pub struct Section {
     pub source_set: [u8; 32],
     pub compiler_contract: [u8; 32],
     pub epoch: u16,
+    pub schema: u16,
     pub policy_at: usize,
     pub issuer_at: usize,
     pub policy_chars: usize,
@@ -49,6 +50,7 @@ pub fn flat_section(decoded: DecodedEvr0) -> Section
             source_set,
             compiler_contract,
             epoch: given.epoch,
+            schema: given.schema,
             policy_at: given.policy_namespace,
             issuer_at: given.issuer_namespace,
             policy_chars: given.policy_chars,
@@ -65,6 +67,7 @@ pub fn flat_section(decoded: DecodedEvr0) -> Section
             source_set,
             compiler_contract,
             epoch: 0,
+            schema: 0,
             policy_at: 0,
             issuer_at: 0,
             policy_chars: 0,

@@ -1,5 +1,6 @@
 // A witness of a section by number, for which the section is decoded anew, and at a place of its payload.
 ghost use mathlib.Core.Path.{_≡_};
+ghost use Rattle.evr0_section.specs.Head.{spanWidth};
 ghost use Rattle.evr0_section.specs.Witness.{witnessOf};
 ghost use Rattle.rule_table.specs.ByTable.{table};
 ghost use Rattle.evr0.specs.Answer.{lentOf};
@@ -33,8 +34,8 @@ pub struct Witness {
     pub witness_id: u32,
     pub proposition_index: u32,
     pub polarity: u8,
-    pub source_start: u32,
-    pub source_end: u32,
+    pub source_start: u64,
+    pub source_end: u64,
 }
 
 fn flat_witness(entry: WitnessEntry) -> Witness
@@ -123,22 +124,24 @@ pub extern "C" fn falgnust_witness_number_by_rules(
     flat_witness(entry)
 }
 
+// The witness at a place of a payload of this schema. A schema other than 2 means spans whose ends have 4 bytes.
 #[no_mangle]
-pub extern "C" fn falgnust_read_witness(payload: &[u8], at: usize) -> Witness
-    ensures { λ r. ⌜ r ≡ flatWitness (witnessBeside (recordAt (witnessOf 4) placedWitness (now (payload .entry)) at)) ⌝ }
+pub extern "C" fn falgnust_read_witness(payload: &[u8], schema: u16, at: usize) -> Witness
+    ensures { λ r. ⌜ r ≡ flatWitness (witnessBeside (recordAt (witnessOf (spanWidth schema)) placedWitness (now (payload .entry)) at)) ⌝ }
 {
-    flat_witness(witness_at(payload, at))
+    flat_witness(witness_at(payload, schema, at))
 }
 
-// Where the witness with a number starts in the payload, of `len` bytes, of an accepted section with these counts.
+// Where the witness with a number starts in the payload, of `len` bytes, of an accepted section with this schema and these counts.
 #[no_mangle]
 pub extern "C" fn falgnust_witness_place(
     len: usize,
+    schema: u16,
     witnesses: usize,
     parents: usize,
     number: u32,
 ) -> usize
-    ensures { λ r. ⌜ r ≡ witnessPlace len witnesses parents number ⌝ }
+    ensures { λ r. ⌜ r ≡ witnessPlace len (spanWidth schema) witnesses parents number ⌝ }
 {
     let counts = Counts {
         propositions: 0,
@@ -146,5 +149,5 @@ pub extern "C" fn falgnust_witness_place(
         witnesses,
         parents,
     };
-    witness_place(len, counts, WitnessNumber(number))
+    witness_place(len, schema, counts, WitnessNumber(number))
 }

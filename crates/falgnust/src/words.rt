@@ -1,4 +1,5 @@
 // The fields of records that start at given places, as words of a lent table: true where each record is there and all words fit; else zeros.
+ghost use Rattle.evr0_section.specs.Head.{spanWidth};
 ghost use Rattle.record_words.specs.Words.{textWhole, textWords, witnessWhole, witnessWords, Fills, Runs};
 
 // Of a proposition 5 words: the place and the length of its kind, owner, scope, type.
@@ -25,13 +26,18 @@ pub extern "C" fn falgnust_proof_words(payload: &[u8], starts: &[u64], words: &m
 }
 
 // Of a witness 7 words: number, proposition, polarity, the place of its first digest, where its span starts and ends, the place of its second
-// digest.
+// digest. A schema other than 2 means spans whose ends have 4 bytes.
 #[no_mangle]
-pub extern "C" fn falgnust_witness_words(payload: &[u8], starts: &[u64], words: &mut [u64]) -> bool
-    ensures { λ r. ⌜ Fills (witnessWhole (now (payload .entry))) (witnessWords (now (payload .entry))) (now (starts .entry))
-        (now (words .entry)) (now (words .exit)) r ⌝ }
+pub extern "C" fn falgnust_witness_words(
+    payload: &[u8],
+    schema: u16,
+    starts: &[u64],
+    words: &mut [u64],
+) -> bool
+    ensures { λ r. ⌜ Fills (witnessWhole (spanWidth schema) (now (payload .entry))) (witnessWords (spanWidth schema) (now (payload .entry)))
+        (now (starts .entry)) (now (words .entry)) (now (words .exit)) r ⌝ }
 {
-    record_words::read_witnesses(payload, starts, words)
+    record_words::read_witnesses(payload, schema, starts, words)
 }
 
 // The parent cells from a place on, a word each, as many as there are words.

@@ -13,6 +13,8 @@ use Rattle.local_format.specs.declared.field.U16.{U16}
 use Rattle.local_format.specs.declared.field.U16.the-variants as u16
 use Rattle.local_format.specs.declared.field.U32.{U32}
 use Rattle.local_format.specs.declared.field.U32.the-variants as u32
+use Rattle.local_format.specs.declared.field.U64.{U64}
+use Rattle.local_format.specs.declared.field.U64.the-variants as u64
 use Rattle.local_format.specs.declared.text.Text.{Text}
 use Rattle.local_format.specs.declared.text.Text.the-variants as text
 
@@ -48,6 +50,10 @@ u16Out u16.Cut = cut
 abbrev pub u32Out : U32 → Field
 u32Out (u32.Value v n) = whole (record { value = v; next = n })
 u32Out u32.Cut = cut
+
+abbrev pub u64Out : U64 → Field
+u64Out (u64.Value v n) = whole (record { value = v; next = n })
+u64Out u64.Cut = cut
 
 -- ---- Texts
 abbrev pub textOut : Text → Out Span

@@ -3,7 +3,7 @@ ghost use mathlib.Core.Path.{_≡_};
 ghost use Prim.Native.Nat.{_+_, _-_, _*_, _≤_};
 ghost use lib.ListN.{length};
 ghost use Rattle.local_format.specs.Field.{le, fieldAt};
-ghost use Rattle.local_format.specs.Maps.{u8Out, u16Out, u32Out};
+ghost use Rattle.local_format.specs.Maps.{u8Out, u16Out, u32Out, u64Out};
 
 pub enum U8 {
     Value { value: u8, next: usize },
@@ -17,6 +17,11 @@ pub enum U16 {
 
 pub enum U32 {
     Value { value: u32, next: usize },
+    Cut,
+}
+
+pub enum U64 {
+    Value { value: u64, next: usize },
     Cut,
 }
 
@@ -103,5 +108,17 @@ pub fn read_u32_le(bytes: &[u8], at: usize) -> U32
     U32::Value {
         value: u32_at(bytes, at),
         next: at + 4,
+    }
+}
+
+pub fn read_u64_le(bytes: &[u8], at: usize) -> U64
+    ensures { λ r. ⌜ u64Out r ≡ fieldAt 8 (now (bytes .entry)) at ⌝ }
+{
+    if left(bytes.len(), at) < 8 {
+        return U64::Cut;
+    }
+    U64::Value {
+        value: u64_at(bytes, at),
+        next: at + 8,
     }
 }

@@ -12,6 +12,7 @@ use lib.Seq.{take-suc-set, length-take-le, drop-cons, drop-length, take-all}
 use Rattle.local_format.specs.Field.{le}
 use borrow.Author.Tests.{le-leb, lt-leb, leb-true}
 use Rattle.lent_table.specs.Lent.{lent}
+use Rattle.evr0_section.specs.Head.{witnessSize}
 use Rattle.record_words.specs.Words.{
   fields,
   afterText,
@@ -19,6 +20,7 @@ use Rattle.record_words.specs.Words.{
   textWords,
   witnessWhole,
   witnessWords,
+  spanWords,
   Puts,
   allWhole,
   allWords,
@@ -118,25 +120,36 @@ module _ (front back : ℕ) (s : List ℕ) (at : ℕ) where
 
 -- ---- A witness
 
-module _ (s : List ℕ) (at : ℕ) where
-  pub witness-size : length (witnessWords s at) ≡ 7
-  unfolding witnessWords
+module _ (width : ℕ) (s : List ℕ) (at : ℕ) where
+  pub span-puts : {a b c : List ℕ} {to v w : ℕ} → v ≡ le width s at → w ≡ le width s (at + width) → Puts (v ∷ []) to a b → Puts (w ∷ []) (to + 1) b c
+      → Puts (spanWords width s at) to a c
+  unfolding spanWords
+  span-puts {to = to} e f p q = puts-then (to + 1) refl (rw e at p) (rw f at q)
+
+  pub witness-size : length (witnessWords width s at) ≡ 7
+  unfolding witnessWords spanWords
   witness-size = simp (length-append, length-fields)
 
-  pub puts-witness : {a b c d e : List ℕ} {to : ℕ} → Puts (fields 3 s at) to a b → Puts ((at + 12) ∷ []) (to + 3) b c → Puts (fields 2 s (at + 44)) (to + 4) c d
-      → Puts ((at + 52) ∷ []) (to + 6) d e → Puts (witnessWords s at) to a e
-  unfolding witnessWords
-  puts-witness {to = to} p q r t =
+  pub puts-witness : {a b c d e : List ℕ} {to origin : ℕ} → Puts (fields 3 s at) to a b → Puts ((at + 12) ∷ []) (to + 3) b c
+      → Puts (spanWords width s (at + 44)) (to + 4) c d → origin ≡ at + 44 + 2 * width → Puts (origin ∷ []) (to + 6) d e
+      → Puts (witnessWords width s at) to a e
+  unfolding witnessWords spanWords
+  puts-witness {to = to} p q r h t =
       puts-then (to + 3) (rw (length-fields 3 s at)) p
-      (puts-then (to + 4) (omega arith) q (puts-then (to + 6) (rw (length-fields 2 s (at + 44)) (omega arith)) r t))
+      (puts-then (to + 4) (omega arith) q (puts-then (to + 6) (omega arith) r (rw h at t)))
 
-  pub witness-cut : length s < at + 84 → witnessWhole s at ≡ false
+  pub witness-cut : length s < at + witnessSize width → witnessWhole width s at ≡ false
   unfolding witnessWhole
-  witness-cut h = lt-leb (at + 84) (length s) h
+  witness-cut h = lt-leb (at + witnessSize width) (length s) h
 
-  pub witness-there : at + 84 ≤ length s → witnessWhole s at ≡ true
+  pub witness-there : at + witnessSize width ≤ length s → witnessWhole width s at ≡ true
   unfolding witnessWhole
-  witness-there h = le-leb (at + 84) (length s) h
+  witness-there h = le-leb (at + witnessSize width) (length s) h
+
+-- fields of 4 bytes are a span's ends
+pub narrow-span : (s : List ℕ) (at : ℕ) → fields 2 s at ≡ spanWords 4 s at
+unfolding fields spanWords
+narrow-span s at = refl
 
 -- ---- Records one after the other
 

@@ -18,12 +18,12 @@ use Rattle.local_format.proofs.OutLaws.{never, ok-same, bind-ok, checked-ok}
 use Rattle.local_format.proofs.FieldLaws.{field-ok, le-drop}
 use Rattle.local_format.proofs.Each.{Each, refuses, each-ok, always, steps}
 use Rattle.evr0_section.specs.Rows.{Sized, Row}
-use Rattle.evr0_section.specs.Head.{digestAt}
+use Rattle.evr0_section.specs.Head.{digestAt, witnessSize}
 use Rattle.evr0_section.specs.Proposition.{Proposition, propositionOf}
 use Rattle.evr0_section.specs.Proof.{ProofRecord, zerosAt, proofOf}
 use Rattle.evr0_section.specs.Witness.{WitnessRecord, witnessOf, parentRow}
 use Rattle.evr0_section.proofs.RecordLaws.{proof-lies, witness-lies, parent-lies}
-use Rattle.record_words.specs.Words.{fields, textWhole, textWords, witnessWhole, witnessWords}
+use Rattle.record_words.specs.Words.{fields, textWhole, textWords, witnessWhole, spanWords, witnessWords}
 use Rattle.record_words.specs.Fields.{Is, propositionFields, proofFields, textFields, IsWitness}
 
 -- ---- Reserved bytes
@@ -64,18 +64,19 @@ unfolding proofOf textAt
 proof-ends s = search (steps, on-zeros, ends) depth 60 fits 4000
 
 -- those between a witness's polarity and its first digest
-record After (s : List ℕ) (w : WitnessRecord) : Type 0 where
+record After (width : ℕ) (s : List ℕ) (w : WitnessRecord) : Type 0 where
   zeros : le 3 s 9 ≡ 0
   file : w .fileDigest ≡ bytesAt s 12 32
-  origin : w .originDigest ≡ bytesAt s 52 32
-  inside : 84 ≤ length s
+  origin : w .originDigest ≡ bytesAt s (44 + width + width) 32
+  inside : 44 + width + width + 32 ≤ length s
 
-after : (s : List ℕ) (w : WitnessRecord) → le 3 s 9 ≡ 0 → w .fileDigest ≡ bytesAt s 12 32 → w .originDigest ≡ bytesAt s 52 32 → 84 ≤ length s → After s w
-after s w z f o h = record { zeros = z; file = f; origin = o; inside = h }
+after : (width : ℕ) (s : List ℕ) (w : WitnessRecord) → le 3 s 9 ≡ 0 → w .fileDigest ≡ bytesAt s 12 32
+    → w .originDigest ≡ bytesAt s (44 + width + width) 32 → 44 + width + width + 32 ≤ length s → After width s w
+after width s w z f o h = record { zeros = z; file = f; origin = o; inside = h }
 
-witness-after : (s : List ℕ) → Each (λ x. After s (x .item)) always (witnessOf 4 s)
+witness-after : (width : ℕ) (s : List ℕ) → Each (λ x. After width s (x .item)) always (witnessOf width s)
 unfolding witnessOf digestAt
-witness-after s = search (steps, on-zeros, after) depth 60 fits 4000
+witness-after width s = search (steps, on-zeros, after) depth 60 fits 4000
 
 -- a proposition
 record Lies (s : List ℕ) (x : Sized Proposition) : Type 0 where
@@ -185,23 +186,24 @@ module _ (p : List ℕ) (at : ℕ) where
 
   -- ---- A witness and a parent cell
 
-  pub witness-words : (x : Sized WitnessRecord) → witnessOf 4 (drop at p) ≡ ok x → IsWitness p at (x .item)
-  unfolding witnessWhole witnessWords fields
-  witness-words x e =
-      let l = witness-lies p at 4 x e in
-      let a = each-ok (witness-after (drop at p)) e in
+  pub witness-words : (width : ℕ) (x : Sized WitnessRecord) → witnessOf width (drop at p) ≡ ok x → IsWitness width p at (x .item)
+  unfolding witnessWhole witnessWords spanWords fields
+  witness-words width x e =
+      let l = witness-lies p at width x e in
+      let a = each-ok (witness-after width (drop at p)) e in
       let long = length-drop at p in
       let inside = a .inside in
       let z : le 3 p (at + 8 + 1) ≡ 0 = sym (behind 3 9 (at + 8 + 1) (omega arith)) ∙ a .zeros in
+      let place : at + (44 + width + width) ≡ at + 44 + 2 * width = omega arith in
       record {
-        whole = le-leb (at + 84) (length p) (omega arith);
+        whole = le-leb (at + witnessSize width) (length p) (omega arith);
         words = ap₂ _∷_ (sym (l .number))
             (ap₂ _∷_ (sym (l .proposition))
             (ap₂ _∷_ (lie _ (at + 8) (l .polarity ∙ sym (with-zeros p (at + 8) z)) (omega arith))
             (ap (λ (ys : List ℕ). (at + 12) ∷ ys)
             (ap₂ _∷_ (sym (l .spanStart)) (ap₂ _∷_ (sym (l .spanEnd)) refl)))));
         file = a .file ∙ ap (take 32) (drop-drop 12 at p);
-        origin = a .origin ∙ ap (take 32) (drop-drop 52 at p);
+        origin = a .origin ∙ ap (take 32) (drop-drop (44 + width + width) at p ∙ ap (λ (n : ℕ). drop n p) place);
       }
 
   pub parent-words : (u : Unit {0}) (r : Row ℕ (Unit {0})) → parentRow u (drop at p) ≡ ok r → fields 1 p at ≡ r .item ∷ []

@@ -1,5 +1,5 @@
 -- What the words of a record are, where the record was read: its fields, with a text or a digest at its place in the payload.
-use Prim.Native.Nat.{ℕ, _+_}
+use Prim.Native.Nat.{ℕ, _+_, _*_}
 use mathlib.Core.Path.{_≡_}
 use mathlib.Core.Bool.{true}
 use mathlib.Core.List.{List, [], _∷_}
@@ -26,8 +26,8 @@ abbrev pub textFields : Span → List ℕ
 textFields t = t .start ∷ t .len ∷ []
 
 -- a witness that starts at a place, each digest being the 32 bytes at its word
-pub record IsWitness (p : List ℕ) (at : ℕ) (w : WitnessRecord) : Type 0 where
-  pub whole : witnessWhole p at ≡ true
-  pub words : witnessWords p at ≡ w .number ∷ w .proposition ∷ w .polarity ∷ (at + 12) ∷ w .spanStart ∷ w .spanEnd ∷ (at + 52) ∷ []
+pub record IsWitness (width : ℕ) (p : List ℕ) (at : ℕ) (w : WitnessRecord) : Type 0 where
+  pub whole : witnessWhole width p at ≡ true
+  pub words : witnessWords width p at ≡ w .number ∷ w .proposition ∷ w .polarity ∷ (at + 12) ∷ w .spanStart ∷ w .spanEnd ∷ (at + 44 + 2 * width) ∷ []
   pub file : w .fileDigest ≡ bytesAt p (at + 12) 32
-  pub origin : w .originDigest ≡ bytesAt p (at + 52) 32
+  pub origin : w .originDigest ≡ bytesAt p (at + 44 + 2 * width) 32

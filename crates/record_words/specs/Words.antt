@@ -1,4 +1,4 @@
--- The fields of records as words: each field of 4 bytes is a word, and a text or a digest stands there by its place. Where a record starts is
+-- The fields of records as words: each field is a word, and a text or a digest stands there by its place. Where a record starts is
 -- given, and nothing is asked of it but that it is whole. proofs/Read.antt: the words of a record that was read are its fields.
 use Prim.Native.Nat.{ℕ, zero, suc, _+_, _-_, _*_}
 use mathlib.Core.Path.{_≡_}
@@ -8,6 +8,7 @@ use lib.Dec.{leb}
 use lib.ListN.{length, take}
 use Rattle.local_format.specs.Field.{le}
 use Rattle.lent_table.specs.Lent.{lent}
+use Rattle.evr0_section.specs.Head.{witnessSize}
 
 -- n fields of 4 bytes, one after the other
 unfoldable pub fields : ℕ → List ℕ → ℕ → List ℕ
@@ -28,13 +29,16 @@ unfoldable pub textWords : ℕ → ℕ → List ℕ → ℕ → List ℕ
 textWords front back s at =
     fields front s at ++ ((at + 4 * front + 2) ∷ le 2 s (at + 4 * front) ∷ fields back s (afterText front s at))
 
--- ---- A witness: 84 bytes, each digest as the place of its bytes
+-- ---- A witness whose span's ends have a width, each digest as the place of its bytes
 
-unfoldable pub witnessWhole : List ℕ → ℕ → Bool
-witnessWhole s at = leb (at + 84) (length s)
+unfoldable pub witnessWhole : ℕ → List ℕ → ℕ → Bool
+witnessWhole width s at = leb (at + witnessSize width) (length s)
 
-unfoldable pub witnessWords : List ℕ → ℕ → List ℕ
-witnessWords s at = fields 3 s at ++ ((at + 12) ∷ (fields 2 s (at + 44) ++ ((at + 52) ∷ [])))
+unfoldable pub spanWords : ℕ → List ℕ → ℕ → List ℕ
+spanWords width s at = le width s at ∷ le width s (at + width) ∷ []
+
+unfoldable pub witnessWords : ℕ → List ℕ → ℕ → List ℕ
+witnessWords width s at = fields 3 s at ++ ((at + 12) ∷ (spanWords width s (at + 44) ++ ((at + 44 + 2 * width) ∷ [])))
 
 -- ---- Records that start at given places
 

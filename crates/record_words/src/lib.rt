@@ -12,14 +12,18 @@ ghost use Rattle.record_words.specs.Words.{
   textWords,
   witnessWhole,
   witnessWords,
+  spanWords,
   Puts,
   Fills,
   Runs,
 };
+ghost use Rattle.evr0_section.specs.Head.{spanWidth, witnessSize};
+use evr0_fields::schema::witness_size;
 use lent_table::clear;
 use lent_table::clear_from;
 use local_format::field::u16_at;
 use local_format::field::u32_at;
+use local_format::field::u64_at;
 
 // How many of `len` bytes stand from a place on.
 fn left(len: usize, at: usize) -> usize
@@ -145,27 +149,41 @@ pub fn read_strings(bytes: &[u8], starts: &[u64], words: &mut [u64]) -> bool
 
 // ---- Witnesses and parents
 
+// The start and the end of a span.
+fn put_span(bytes: &[u8], at: usize, schema: u16, words: &mut [u64], to: usize)
+    requires { ⌜ (at + 2 * spanWidth schema ≤ length (now bytes)) × (to + 2 ≤ length (now words)) ⌝ }
+    ensures { λ r. ⌜ Puts (spanWords (spanWidth schema) (now (bytes .entry)) at) to (now (words .entry)) (now (words .exit)) ⌝ }
+{
+    if schema == 2 {
+        put_word(words, to, u64_at(bytes, at) as usize);
+        put_word(words, to + 1, u64_at(bytes, at + 8) as usize);
+        return;
+    }
+    put_fields(bytes, at, 2, words, to);
+}
+
 // The words of the witness at `at`.
-fn put_witness(bytes: &[u8], at: usize, words: &mut [u64], to: usize)
-    requires { ⌜ (at + 84 ≤ length (now bytes)) × (to + 7 ≤ length (now words)) ⌝ }
-    ensures { λ r. ⌜ Puts (witnessWords (now (bytes .entry)) at) to (now (words .entry)) (now (words .exit)) ⌝ }
+fn put_witness(bytes: &[u8], at: usize, schema: u16, words: &mut [u64], to: usize)
+    requires { ⌜ (at + witnessSize (spanWidth schema) ≤ length (now bytes)) × (to + 7 ≤ length (now words)) ⌝ }
+    ensures { λ r. ⌜ Puts (witnessWords (spanWidth schema) (now (bytes .entry)) at) to (now (words .entry)) (now (words .exit)) ⌝ }
 {
     put_fields(bytes, at, 3, words, to);
     put_word(words, to + 3, at + 12);
-    put_fields(bytes, at + 44, 2, words, to + 4);
-    put_word(words, to + 6, at + 52);
+    put_span(bytes, at + 44, schema, words, to + 4);
+    put_word(words, to + 6, at + (witness_size(schema) - 32)); // the second digest
 }
 
 // Witnesses: number, proposition, polarity, the place of the first digest, start, end, the place of the second digest.
-pub fn read_witnesses(payload: &[u8], starts: &[u64], words: &mut [u64]) -> bool
-    ensures { λ r. ⌜ Fills (witnessWhole (now (payload .entry))) (witnessWords (now (payload .entry))) (now (starts .entry))
-        (now (words .entry)) (now (words .exit)) r ⌝ }
+pub fn read_witnesses(payload: &[u8], schema: u16, starts: &[u64], words: &mut [u64]) -> bool
+    ensures { λ r. ⌜ Fills (witnessWhole (spanWidth schema) (now (payload .entry))) (witnessWords (spanWidth schema) (now (payload .entry)))
+        (now (starts .entry)) (now (words .entry)) (now (words .exit)) r ⌝ }
 {
+    let size = witness_size(schema);
     let mut to: usize = 0;
     let mut i: usize = 0;
     while i < starts.len() {
         let at = starts[i] as usize;
-        if left(payload.len(), at) < 84 {
+        if left(payload.len(), at) < size {
             clear(words);
             return false;
         }
@@ -173,7 +191,7 @@ pub fn read_witnesses(payload: &[u8], starts: &[u64], words: &mut [u64]) -> bool
             clear(words);
             return false;
         }
-        put_witness(payload, at, words, to);
+        put_witness(payload, at, schema, words, to);
         to += 7;
         i += 1;
     }

@@ -15,11 +15,12 @@ use Rattle.derivation.specs.Section.{Checked, proofAt}
 use Rattle.derivation.proofs.Rules.{four-shaped}
 use Rattle.derivation.proofs.Friendly as of
 use Rattle.evr0_section.specs.Rows.{Row, Entry, rows}
-use Rattle.evr0_section.specs.Head.{Counts, Room, checkedHead}
+use Rattle.evr0_section.specs.Head.{Counts, Room, spanWidth, checkedHead}
 use Rattle.evr0_section.specs.Proposition.{first, propositionRow}
 use Rattle.evr0_section.specs.Proof.{Settled, Unowned, noneOwned, proofOf, checkProof, proofRow}
 use Rattle.evr0_section.specs.Section.{Frame, frameAt, Tables, sectionOf, tablesAfter, tablesOf, tablesAt, sectionIn, sectionAt, decodeSection}
 use Rattle.evr0_section.proofs.SectionSteps.{section-parts}
+use Rattle.evr0_section.proofs.Schemas.{on-known}
 use Rattle.evr0_section.proofs.Demand.{rules-read, checked, demand-by-rules}
 use Rattle.evr0_section.proofs.Marks.{marks-read}
 use Rattle.evr0_section.proofs.Settled.{ruleText, settled-by}
@@ -30,36 +31,32 @@ use Rattle.rule_table.proofs.Names.{loaded-named, any-order, four-disti
 
 -- ---- The rules count by their names alone
 
-on-same : {A B : Type 0} (x : Out A) (f g : A → Out B) → ((a : A) → f a ≡ g a) → (x >>= f) ≡ (x >>= g)
-on-same (ok a) f g h = h a
-on-same (refused r) f g h = refl
-
 rows-same : {A S : Type 0} (row other : S → List ℕ → Out (Row A S)) → ((u : S) (s : List ℕ) → row u s ≡ other u s)
     → (n : ℕ) (u : S) (p : List ℕ) (at : ℕ) → rows row n u p at ≡ rows other n u p at
 unfolding rows
 rows-same row other same zero u p at = refl
 rows-same row other same (suc n) u p at =
-    rw (same u (drop at p)) (on-same (moved at (other u (drop at p))) _ _ λ r. rw (rows-same row other same n (r .state) p (at + r .size)))
+    rw (same u (drop at p)) (on-known (moved at (other u (drop at p))) _ _ λ r e. rw (rows-same row other same n (r .state) p (at + r .size)))
 
 module _ (rules others : List Rule) (same : (name : List ℕ) → ruleNamed rules name ≡ ruleNamed others name) where
   proof-same : (counts : Counts) (u : Unowned) (s : List ℕ) → proofRow rules counts u s ≡ proofRow others counts u s
   unfolding proofRow checkProof
-  proof-same counts u s = on-same (proofOf s) _ _ λ r. simp same
+  proof-same counts u s = on-known (proofOf s) _ _ λ r e. simp same
 
-  after-same : (counts : Counts) (p : List ℕ) (at : ℕ) → tablesAfter rules counts p at ≡ tablesAfter others counts p at
+  after-same : (width : ℕ) (counts : Counts) (p : List ℕ) (at : ℕ) → tablesAfter rules width counts p at ≡ tablesAfter others width counts p at
   unfolding tablesAfter
-  after-same counts p at =
-      on-same (rows propositionRow (counts .propositions) first p at) _ _ λ propositions.
+  after-same width counts p at =
+      on-known (rows propositionRow (counts .propositions) first p at) _ _ λ propositions e.
       rw (rows-same (proofRow rules counts) (proofRow others counts) (proof-same counts) (counts .proofs) noneOwned p (propositions .next))
 
   module _ (room : Room) where
     tables-same : (p : List ℕ) → tablesOf rules room p ≡ tablesOf others room p
     unfolding tablesOf
-    tables-same p = on-same (checkedHead room p) _ _ λ head. rw (after-same (head .counts) p (head .next))
+    tables-same p = on-known (checkedHead room p) _ _ λ head e. rw (after-same (spanWidth (head .schema)) (head .counts) p (head .next))
 
     pub by-names : (s : List ℕ) (cursor : ℕ) → sectionAt rules room s cursor ≡ sectionAt others room s cursor
     unfolding sectionAt sectionIn
-    by-names s cursor = on-same (frameAt s cursor) _ _ λ f. rw (tables-same (bytesAt s (f .start) (f .len)))
+    by-names s cursor = on-known (frameAt s cursor) _ _ λ f e. rw (tables-same (bytesAt s (f .start) (f .len)))
 
 -- ---- The rules of a call
 

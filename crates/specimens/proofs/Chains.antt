@@ -38,7 +38,7 @@ abbrev before : ℕ → List ℕ
 before n = take 107 (payloadOf n)
 
 abbrev between : ℕ → List ℕ
-between n = each (witnessBytes (all 0)) (chain n .witnesses)
+between n = each (witnessBytes 4 (all 0)) (chain n .witnesses)
 
 split : (n : ℕ) → payloadOf n ≡ bytes enough (before n) (between n) (chain n .proofs) (chain n .parents)
 unfolding decoded propositionsFrom chain

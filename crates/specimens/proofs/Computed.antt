@@ -10,8 +10,8 @@ use Rattle.utf8.specs.Utf8.{table, leadOf, laterOf, stepOf, decodeFrom, decode,
 use Rattle.derivation.specs.Pass.{agrees, parentsFrom, witnessesFrom, depthOf, depthsFrom, depths}
 use Rattle.derivation.specs.Rule.{polarityFits, ruleNamed, fourRules}
 use Rattle.derivation.specs.Section.{proofAt, witnessAt, parentAt, proofTotal, witnessTotal, parentTotal}
-use Rattle.specimens.specs.Build.{number, bytes, text, each, propositionBytes, proofBytes, witnessBytes, payload, framed}
-use Rattle.evr0_section.specs.Head.{Room, digestAt, countsAt, headOf, withinLimits, sizes, hasRoom, checkCounts, checkedHead}
+use Rattle.specimens.specs.Build.{number, bytes, text, each, propositionBytes, proofBytes, witnessBytes, payloadOf, framed}
+use Rattle.evr0_section.specs.Head.{Room, digestAt, countsAt, spanWidth, witnessMemory, headOf, withinLimits, sizes, hasRoom, checkCounts, checkedHead}
 use Rattle.evr0_section.specs.Proof.{zerosAt, proofOf, hasNumbers, checkProof, proofRow}
 use Rattle.evr0_section.specs.Proposition.{propositionOf, compare, compareBytes, compareKeys, rises, propositionRow}
 use Rattle.evr0_section.specs.Rows.{rows}
@@ -21,7 +21,7 @@ use Rattle.evr0_section.specs.Witness.{witnessOf, checkWitness, witnessRow, par
 unfoldable pub decoded : Room → List ℕ → Out Section
 unfolding le fieldAt among kindOf equal tagAt textAt table leadOf laterOf stepOf decodeFrom decode isControl anyControl agrees parentsFrom
     witnessesFrom depthOf depthsFrom depths polarityFits ruleNamed fourRules proofAt witnessAt parentAt proofTotal witnessTotal parentTotal number
-    bytes text each propositionBytes proofBytes witnessBytes payload framed digestAt countsAt headOf withinLimits sizes hasRoom checkCounts
-    checkedHead zerosAt proofOf hasNumbers checkProof proofRow propositionOf compare compareBytes compareKeys rises propositionRow rows frameAt
-    restAfter tablesAfter sectionOf tablesOf tablesAt sectionIn sectionAt decodeSection witnessOf checkWitness witnessRow parentRow
+    bytes text each propositionBytes proofBytes witnessBytes payloadOf framed digestAt countsAt spanWidth witnessMemory headOf withinLimits sizes
+    hasRoom checkCounts checkedHead zerosAt proofOf hasNumbers checkProof proofRow propositionOf compare compareBytes compareKeys rises propositionRow
+    rows frameAt restAfter tablesAfter sectionOf tablesOf tablesAt sectionIn sectionAt decodeSection witnessOf checkWitness witnessRow parentRow
 decoded room s = decodeSection room s 0

@@ -15,7 +15,7 @@ use Rattle.derivation.specs.Rule.{fourRules}
 use Rattle.derivation.specs.Section.{Proof}
 use Rattle.derivation.proofs.Tests.{both}
 use Rattle.evr0_section.specs.Rows.{Row, Rows, rows}
-use Rattle.evr0_section.specs.Head.{Room, Counts, checkedHead}
+use Rattle.evr0_section.specs.Head.{Room, Counts, spanWidth, checkedHead}
 use Rattle.evr0_section.specs.Proposition.{first, propositionRow}
 use Rattle.evr0_section.specs.Proof.{Settled, Unowned, noneOwned, proofRow}
 use Rattle.evr0_section.specs.Witness.{witnessRow, parentRow}
@@ -70,27 +70,27 @@ module _ (room : Room) (before between : List ℕ) (ps : List Proof) (cs : List 
   uptoParents = before ++ (each proofBytes ps ++ between)
 
   -- as `restAfter`, `tablesAfter` and `tablesOf`, but the proofs and the parents each by itself
-  unfoldable pub restEach : Counts → ℕ → Out Rest
-  restEach counts at = do
-    witnesses ← rows (witnessRow 4 counts) (counts .witnesses) 0 bytes at
+  unfoldable pub restEach : ℕ → Counts → ℕ → Out Rest
+  restEach width counts at = do
+    witnesses ← rows (witnessRow width counts) (counts .witnesses) 0 bytes at
     check (eqb (length cs) (counts .parents) && eqb (length uptoParents) (witnesses .next)) 0 0
     parents ← readEach parentRow (number 4) tt (witnesses .next) cs
     check (eqb (parents .next) (length bytes)) 24 (parents .next)
     ok (record { witnesses = witnesses; parents = parents })
 
-  unfoldable pub fourEach : Counts → ℕ → Out Four
-  fourEach counts at = do
+  unfoldable pub fourEach : ℕ → Counts → ℕ → Out Four
+  fourEach width counts at = do
     propositions ← rows propositionRow (counts .propositions) first bytes at
     check (eqb (length ps) (counts .proofs) && eqb (length before) (propositions .next)) 0 0
     proofs ← readEach (proofRow fourRules counts) proofBytes noneOwned (propositions .next) ps
     check (eqb (proofs .state .witness) (counts .witnesses) && eqb (proofs .state .parent) (counts .parents)) 22 (proofs .next)
-    rest ← restEach counts (proofs .next)
+    rest ← restEach width counts (proofs .next)
     ok (record { propositions = propositions; proofs = proofs; rest = rest })
 
   unfoldable pub tablesEach : Out Tables
   tablesEach = do
     head ← checkedHead room bytes
-    tables ← fourEach (head .counts) (head .next)
+    tables ← fourEach (spanWidth (head .schema)) (head .counts) (head .next)
     ok (whole head tables)
 
   parents-last : bytes ≡ uptoParents ++ (each (number 4) cs ++ [])
@@ -112,31 +112,32 @@ module _ (room : Room) (before between : List ℕ) (ps : List Proof) (cs : List 
       rw (← eqb-true (length cs) n (a .0), parents-last)
       (rows-each parentRow (number 4) (λ u s t. parent-front s t u) cs tt at uptoParents [] out (eqb-true (length uptoParents) at (a .1)) e)
 
-  rest-each : (counts : Counts) (at : ℕ) (r : Rest) → restEach counts at ≡ ok r → restAfter counts bytes at ≡ ok r
+  rest-each : (width : ℕ) (counts : Counts) (at : ℕ) (r : Rest) → restEach width counts at ≡ ok r → restAfter width counts bytes at ≡ ok r
   unfolding restEach restAfter
-  rest-each counts at r e =
-      same-bind (rows (witnessRow 4 counts) (counts .witnesses) 0 bytes at) _ _ e λ witnesses e.
+  rest-each width counts at r e =
+      same-bind (rows (witnessRow width counts) (counts .witnesses) 0 bytes at) _ _ e λ witnesses e.
       let a = checked-ok (eqb (length cs) (counts .parents) && eqb (length uptoParents) (witnesses .next)) 0 0 _ e in
       let b = bind-ok (readEach parentRow (number 4) tt (witnesses .next) cs) _ (a .1) in
       on-ok _ (parents-each (counts .parents) (witnesses .next) (b .0) (a .0) (b .1)) ∙ b .2
 
-  four-each : (counts : Counts) (at : ℕ) (f : Four) → fourEach counts at ≡ ok f → tablesAfter fourRules counts bytes at ≡ ok f
+  four-each : (width : ℕ) (counts : Counts) (at : ℕ) (f : Four) → fourEach width counts at ≡ ok f → tablesAfter fourRules width counts bytes at ≡ ok f
   unfolding fourEach tablesAfter
-  four-each counts at f e =
+  four-each width counts at f e =
       same-bind (rows propositionRow (counts .propositions) first bytes at) _ _ e λ propositions e.
       let a = checked-ok (eqb (length ps) (counts .proofs) && eqb (length before) (propositions .next)) 0 0 _ e in
       let b = bind-ok (readEach (proofRow fourRules counts) proofBytes noneOwned (propositions .next) ps) _ (a .1) in
       let c = checked-ok (eqb (b .0 .state .witness) (counts .witnesses) && eqb (b .0 .state .parent) (counts .parents)) 22 (b .0 .next) _ (b .2) in
-      let d = bind-ok (restEach counts (b .0 .next)) _ (c .1) in
+      let d = bind-ok (restEach width counts (b .0 .next)) _ (c .1) in
       on-ok _ (proofs-each counts (propositions .next) (b .0) (a .0) (b .1))
-      ∙ rw (c .0, rest-each counts (b .0 .next) (d .0) (d .1)) (d .2)
+      ∙ rw (c .0, rest-each width counts (b .0 .next) (d .0) (d .1)) (d .2)
 
   tables-each : (t : Tables) → tablesEach ≡ ok t → tablesOf fourRules room bytes ≡ ok t
   unfolding tablesEach tablesOf
   tables-each t e =
       same-bind (checkedHead room bytes) _ _ e λ head e.
-      let a = bind-ok (fourEach (head .counts) (head .next)) _ e in
-      on-ok _ (four-each (head .counts) (head .next) (a .0) (a .1)) ∙ a .2
+      let width : ℕ = spanWidth (head .schema) in
+      let a = bind-ok (fourEach width (head .counts) (head .next)) _ e in
+      on-ok _ (four-each width (head .counts) (head .next) (a .0) (a .1)) ∙ a .2
 
 -- ---- The section
 payload-there : (p : List ℕ) → bytesAt (framed p) 8 (length p) ≡ p

@@ -1,5 +1,6 @@
 pub mod Computed
 pub mod Specimens
+pub mod LongScans
 pub mod Printed
 pub mod Shown
 pub mod Small

@@ -5,6 +5,7 @@ use lib.ListN.{length}
 use Rattle.local_format.specs.Tag.{evr0}
 use Rattle.derivation.specs.Rule.{Rule, joinSameP1, opTOnly1}
 use Rattle.derivation.specs.Section.{Proof, Witness}
+use Rattle.evr0_section.specs.Head.{spanWidth}
 
 -- ---- Fields and texts
 
@@ -47,20 +48,26 @@ proofBytes p =
     (number 4 (p .firstWitness) ++ (number 4 (p .witnessCount) ++ (number 4 (p .firstParent) ++ (number 4 (p .parentCount) ++
     (number 1 (p .operation) ++ number 3 0))))))))
 
-unfoldable pub witnessBytes : Free → Witness → List ℕ
-witnessBytes free w =
+-- with a span whose ends have `width` bytes
+unfoldable pub witnessBytes : ℕ → Free → Witness → List ℕ
+witnessBytes width free w =
     number 4 (w .number) ++ (number 4 (w .proposition) ++ (number 1 (w .polarity) ++ (number 3 0 ++ (bytes (free .fileDigest) 32 0 ++
-    (number 4 (w .spanStart) ++ (number 4 (w .spanEnd) ++ bytes (free .originDigest) 32 0))))))
+    (number width (w .spanStart) ++ (number width (w .spanEnd) ++ bytes (free .originDigest) 32 0))))))
 
 -- ---- Sections
 
--- policy "a", issuer "b", and the tables; the propositions as bytes
-unfoldable pub payload : Free → List (List ℕ) → List Proof → List Witness → List ℕ → List ℕ
-payload free propositions proofs witnesses parents =
-    number 2 1 ++ (number 2 0 ++ (bytes (free .sourceSet) 32 0 ++ (bytes (free .compilerContract) 32 0 ++ (bytes (free .epoch) 2 0 ++
+-- of a schema: policy "a", issuer "b", and the tables; the propositions as bytes
+unfoldable pub payloadOf : ℕ → Free → List (List ℕ) → List Proof → List Witness → List ℕ → List ℕ
+payloadOf schema free propositions proofs witnesses parents =
+    number 2 schema ++ (number 2 0 ++ (bytes (free .sourceSet) 32 0 ++ (bytes (free .compilerContract) 32 0 ++ (bytes (free .epoch) 2 0 ++
     (text (0x61 ∷ []) ++ (text (0x62 ∷ []) ++
     (number 4 (length propositions) ++ (number 4 (length proofs) ++ (number 4 (length witnesses) ++ (number 4 (length parents) ++
-    (each (λ p. p) propositions ++ (each proofBytes proofs ++ (each (witnessBytes free) witnesses ++ each (number 4) parents)))))))))))))
+    (each (λ p. p) propositions ++ (each proofBytes proofs ++ (each (witnessBytes (spanWidth schema) free) witnesses ++
+    each (number 4) parents)))))))))))))
+
+-- of schema 1
+abbrev pub payload : Free → List (List ℕ) → List Proof → List Witness → List ℕ → List ℕ
+payload = payloadOf 1
 
 unfoldable pub framed : List ℕ → List ℕ
 framed p = evr0 ++ (number 4 (length p) ++ p)

@@ -1,4 +1,5 @@
--- Specimens 1 to 8 of document 01, at cursor 0. What they leave free is any bytes; spans are empty, and the lent tables have two entries each.
+-- Specimens 1 to 8 of document 01, at cursor 0; 7 carries schema 3 (document 02, Slip 12). What they leave free is any bytes; spans are empty,
+-- and the lent tables have two entries each.
 use Prim.Native.Nat.{ℕ}
 use mathlib.Core.List.{List, [], _∷_, _++_, map}
 use lib.ListN.{drop}
@@ -92,6 +93,6 @@ module _ (free : Free) where
       -- 6
       record { bytes = framed (both 0 8); answer = refuse 26 291 } ∷
       -- 7
-      record { bytes = framed (number 2 2 ++ drop 2 none); answer = refuse 10 10 } ∷
+      record { bytes = framed (number 2 3 ++ drop 2 none); answer = refuse 10 10 } ∷
       -- 8
       record { bytes = framed (none ++ (byte ∷ [])); answer = refuse 24 100 } ∷ []

@@ -5,4 +5,5 @@ pub mod Specimens
 pub mod Runs
 pub mod Written
 pub mod Examples
+pub mod LongScans
 pub mod Needed

@@ -4,7 +4,7 @@ use mathlib.Core.List.{List, [], _∷_, _++_}
 use lib.ListN.{length, take}
 use lib.Dec.{leb}
 use Rattle.local_format.specs.Out.{Out, check, _>>=_}
-use Rattle.evr0_section.specs.Head.{headOf, sizes}
+use Rattle.evr0_section.specs.Head.{headOf, sizes, witnessMemory}
 use Rattle.specimens.specs.Build.{number, each, framed}
 use Rattle.specimens.specs.EvidenceSpecimens.{none}
 use Rattle.specimens.specs.Written.{all}
@@ -24,7 +24,7 @@ counted propositions proofs witnesses parents = take 76 (none (all 0)) ++ each (
 unfoldable pub ask14 : List ℕ → Out (Unit {0})
 ask14 p = do
   h ← headOf p
-  check (leb (length p + sizes (h .counts) 40 64 84 4) 16777216) 14 (h .next)
+  check (leb (length p + sizes (h .counts) 40 64 (witnessMemory (h .schema)) 4) 16777216) 14 (h .next)
 
 unfoldable pub ask15 : List ℕ → Out (Unit {0})
 ask15 p = do

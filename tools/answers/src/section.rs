@@ -12,6 +12,7 @@ pub struct Head {
     pub source_set: [u8; 32],
     pub compiler_contract: [u8; 32],
     pub epoch: u16,
+    pub schema: u16,
     /// The places of both namespaces' lengths.
     pub policy: usize,
     pub issuer: usize,

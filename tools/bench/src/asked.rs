@@ -39,7 +39,7 @@ pub fn rows() -> Vec<Plan> {
             "asked, the first witness of 40,000 proofs",
             OPS,
             |s| u64::from(s.witnesses[0].source_end),
-            |bytes, lent| u64::from(port::witness_number(bytes, 0, 0, lent).source_end),
+            |bytes, lent| port::witness_number(bytes, 0, 0, lent).source_end,
         ),
         asked(
             "asked, the first parent of 40,000 proofs, joins",

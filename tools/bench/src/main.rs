@@ -12,6 +12,7 @@ mod rules;
 mod rust_crate;
 mod sections;
 mod texts;
+mod wide;
 
 use measure::{Measured, measure};
 use rows::{Row, Side};

@@ -55,6 +55,7 @@ pub fn all() -> Vec<Plan> {
     rows.extend(crate::locks::rows());
     rows.extend(crate::rules::rows());
     rows.extend(crate::compare::rows());
+    rows.extend(crate::wide::rows());
     rows.extend(crate::asked::rows());
     rows.extend(crate::rust_crate::rows());
     rows

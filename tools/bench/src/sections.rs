@@ -85,7 +85,7 @@ fn one(name: &str, rooms: [usize; 3], make: Make) -> Plan {
 
 /// Refused at its first field.
 fn early(mut section: Section) -> Section {
-    section.schema = 2;
+    section.schema = 3;
     section
 }
 

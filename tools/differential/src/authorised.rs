@@ -15,8 +15,8 @@ use inputs::cases::SectionCase;
 use inputs::marked;
 use inputs::random::Random;
 use inputs::section_conditions::counts;
-use oracle::evr0::DecodedEvr0;
 use oracle::marks;
+use oracle::records::DecodedEvr0;
 
 /// One section for so many of the count.
 const SHARE: usize = 10;

@@ -18,7 +18,7 @@ pub const AUTHORISED: &str = "authorised of every proposition";
 pub fn compare(tally: &mut Tally, pair: &Pair, by: By, section: &Answer<Known>) {
     let at = pair.second();
     let (file, cursor) = at;
-    let due = rust_told(by.rust(file, &mut cursor.clone()));
+    let due = rust_told(by.of(file, cursor).rust(file, &mut cursor.clone()));
     let due = due.map(|_| section.as_ref().expect("a section").authorised.clone());
     let port = told(by.crate_authorised_table(file, cursor));
     tally.same(&due, &port, || {

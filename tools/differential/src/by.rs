@@ -1,18 +1,19 @@
-//! By which rules a section is decoded, on both sides: by the four, or by those of a table that the port is given with each call.
+//! By which rules a section is decoded, on both sides: by the four, or by those of a table that the port is given with each call; and what it is
+//! held to.
 
 use falgnust::calls::{self, Lent, SectionTables};
 use falgnust::evr0::{self, RuleTable};
 use falgnust::raw;
-use oracle::evr0::{DecodedEvr0, Evr0Error};
-use oracle::evr0_ruled;
+use oracle::evr0::Evr0Error;
+use oracle::records::DecodedEvr0;
 use oracle::rules::Rule;
-use oracle::section::{section, section_by};
+use oracle::section::Judge;
 
-/// The table that the port is given, or none, where it has the four; and the rules of the model, or none, where the Rust is asked.
+/// The table that the port is given, or none, where it has the four; and the Rust or a model.
 #[derive(Clone, Copy)]
 pub struct By<'a> {
     table: Option<&'a RuleTable>,
-    model: Option<&'a [Rule]>,
+    judge: Judge<'a>,
 }
 
 type Found<T> = Result<Option<T>, evr0::Evr0Error>;
@@ -39,14 +40,14 @@ macro_rules! crate_call {
 impl<'a> By<'a> {
     pub const FOUR: By<'static> = By {
         table: None,
-        model: None,
+        judge: Judge::Rust,
     };
 
     /// By a table that holds the four, against the Rust.
     pub fn four_loaded(table: &'a RuleTable) -> Self {
         By {
             table: Some(table),
-            model: None,
+            judge: Judge::Rust,
         }
     }
 
@@ -54,7 +55,23 @@ impl<'a> By<'a> {
     pub fn table(table: &'a RuleTable, rules: &'a [Rule]) -> Self {
         By {
             table: Some(table),
-            model: Some(rules),
+            judge: Judge::Ruled(rules),
+        }
+    }
+
+    /// The same against the model for schema 2.
+    pub fn wide(self) -> Self {
+        By {
+            judge: self.judge.wide(),
+            ..self
+        }
+    }
+
+    /// The same against the model for schema 2 where the section has that.
+    pub fn of(self, file: &[u8], cursor: usize) -> Self {
+        By {
+            judge: self.judge.of(file, cursor),
+            ..self
         }
     }
 
@@ -73,17 +90,16 @@ impl<'a> By<'a> {
         file: &[u8],
         cursor: usize,
     ) -> answers::Answer<(answers::section::Section, DecodedEvr0)> {
-        match self.model {
-            None => section(file, cursor),
-            Some(rules) => section_by(rules, file, cursor),
-        }
+        self.judge.section(file, cursor)
     }
 
     pub fn rust(&self, file: &[u8], cursor: &mut usize) -> Result<DecodedEvr0, Evr0Error> {
-        match self.model {
-            None => oracle::evr0::decode_evr0_section(file, cursor),
-            Some(rules) => evr0_ruled::decode_evr0_section(rules, file, cursor),
-        }
+        self.judge.decode(file, cursor)
+    }
+
+    /// The schema of the sections that it accepts.
+    pub fn schema(&self) -> u16 {
+        self.judge.schema()
     }
 
     // ---- The port, through C

@@ -10,8 +10,8 @@ use falgnust::calls::{Lent, SectionTables};
 use falgnust::raw;
 use inputs::cases::SectionCase;
 use oracle::compare::{self, List, Whose};
-use oracle::evr0::DecodedEvr0;
 use oracle::marks;
+use oracle::records::DecodedEvr0;
 
 /// Two sections, each in its bytes at its cursor; one part of bytes may serve as both.
 pub struct Pair {
@@ -109,7 +109,8 @@ pub struct Known {
 }
 
 pub fn known(by: By, (file, cursor): At) -> Answer<Known> {
-    by.expected(file, cursor).map(|(section, decoded)| {
+    let found = by.of(file, cursor).expected(file, cursor);
+    found.map(|(section, decoded)| {
         let marks = marks::marks(&decoded);
         Known {
             authorised: compare::authorised(&decoded, &marks),

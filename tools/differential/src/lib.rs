@@ -29,3 +29,4 @@ pub mod sections;
 pub mod tally;
 pub mod texts;
 pub mod utf8;
+pub mod wide;

@@ -3,7 +3,7 @@
 use differential::tally::{LEAST, Tally};
 use differential::{
     authorised, blocks, compare, fields, four, functions, locks, marks, neighbours, rules,
-    sections, texts, utf8,
+    sections, texts, utf8, wide,
 };
 use inputs::random::Random;
 
@@ -15,7 +15,7 @@ const USAGE: &str = "usage: differential [--seed N] [--count N] [--part NAME]";
 /// The parts of a run: a name, and what tries so many random inputs.
 type Part = (&'static str, fn(&mut Random, usize) -> Tally);
 
-const PARTS: [Part; 13] = [
+const PARTS: [Part; 14] = [
     ("fields", |r, _| fields::run(r)),
     ("utf8", |_, _| utf8::run()),
     ("texts", texts::run),
@@ -26,6 +26,7 @@ const PARTS: [Part; 13] = [
     ("four", four::run),
     ("rules", rules::run),
     ("compare", compare::run),
+    ("wide", wide::run),
     ("blocks", blocks::run),
     ("functions", functions::run),
     ("locks", locks::run),
@@ -65,7 +66,8 @@ const NOT_GIVEN: &str = "14 and 15 are never given: evr0_section/Stages.never-14
 61 and 62 have no Rust side: they are compared with document 01.
 Marks and what they authorise have none either, nor have locks: they are compared with plain lines from document 02 over the Rust's records.
 Tables of rules have none either: they are compared with plain lines, and sections by other rules than the four with a model.
-Two sections held against each other have none either: they are compared with plain lines by two ordered maps.";
+Two sections held against each other have none either: they are compared with plain lines by two ordered maps.
+Schema 2 has none either: it is compared with a model, and where a section has a twin of schema 1 with the Rust's answer to that.";
 
 /// Whether every condition that can be reached was met often enough, and a tenth of the sections, of the blocks and of the files was accepted.
 fn enough(tallies: &[Tally]) -> bool {

@@ -1,9 +1,10 @@
 //! The marks of a section's proofs, which the Rust does not have: held to plain lines over the Rust's records (tools/oracle/plain/marks.rs).
 //! Each section is lent a table of bytes that is exact, longer, one short and empty, with the other tables long enough; what the call answers
-//! and leaves in all four is compared.
+//! and leaves in all four is compared. Those of schema 2 are left to wide.rs.
 
+use crate::by::By;
 use crate::section_binding::{rust_told, told};
-use crate::section_compare::{Rooms, call_marked, expected, rooms, what};
+use crate::section_compare::{Rooms, call_marked, expected, is_wide, rooms, what};
 use crate::tally::{Outcome, Tally};
 use answers::Answer;
 use answers::refusal::{Kind, Refusal};
@@ -14,8 +15,8 @@ use inputs::marked;
 use inputs::random::Random;
 use inputs::section_conditions::counts_passed;
 use inputs::shapes;
-use oracle::evr0::{DecodedEvr0, decode_evr0_section};
 use oracle::marks;
+use oracle::records::DecodedEvr0;
 
 /// One section for so many of the count.
 const SHARE: usize = 5;
@@ -82,13 +83,16 @@ pub fn run(r: &mut Random, count: usize) -> Tally {
             break;
         }
         let case = any(r);
+        if is_wide(&case) {
+            continue;
+        }
         let rust = oracle::section::section(&case.file, case.cursor);
         let outcome = match &rust {
             Ok((_, decoded)) => (0, kinds(&marks::marks(decoded))),
             Err(refusal) => (refusal.number, ZEROS),
         };
         if tally.lacks(outcome) {
-            compare(&mut tally, &case, &rust);
+            compare(&mut tally, &case, By::FOUR, &rust);
         }
         tally.progress();
     }
@@ -126,16 +130,24 @@ fn at_start(file: Vec<u8>) -> SectionCase {
 }
 
 fn ask(tally: &mut Tally, case: &SectionCase) {
-    let rust = oracle::section::section(&case.file, case.cursor);
-    compare(tally, case, &rust);
+    if !is_wide(case) {
+        let rust = oracle::section::section(&case.file, case.cursor);
+        compare(tally, case, By::FOUR, &rust);
+    }
 }
 
-pub fn compare(tally: &mut Tally, case: &SectionCase, rust: &Answer<(Section, DecodedEvr0)>) {
+/// By the four.
+pub fn compare(
+    tally: &mut Tally,
+    case: &SectionCase,
+    by: By,
+    rust: &Answer<(Section, DecodedEvr0)>,
+) {
     let marks = match rust {
         Ok((_, decoded)) => marks_of(tally, case, decoded),
         Err(_) => vec![],
     };
-    through_crate(tally, case, &marks);
+    through_crate(tally, case, by, &marks);
     let rust = rust.as_ref().map(|(s, _)| s.clone()).map_err(|r| *r);
     let rooms = rooms(case);
     let outcome = match &rust {
@@ -205,8 +217,8 @@ fn same(
 }
 
 /// What the crate answers: the marks, or the Rust's error.
-fn through_crate(tally: &mut Tally, case: &SectionCase, marks: &[u8]) {
-    let rust = decode_evr0_section(&case.file, &mut case.cursor.clone());
+fn through_crate(tally: &mut Tally, case: &SectionCase, by: By, marks: &[u8]) {
+    let rust = by.rust(&case.file, &mut case.cursor.clone());
     let rust = rust_told(rust.map(|_| marks.to_vec()));
     let port = told(evr0::marks(&case.file, case.cursor));
     tally.same(&rust, &port, || format!("the binding, {}", what(case)));

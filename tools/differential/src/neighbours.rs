@@ -1,11 +1,12 @@
 //! Pairs of files that hold the same section at one cursor, whole in both, with other bytes before the cursor and behind the payload, and of
-//! other lengths: the port answers both alike, with the same tables and the same records. The Rust is not asked.
+//! other lengths: the port answers both alike, with the same tables and the same records. Half are of schema 2. The Rust is not asked.
 
 use crate::section_compare::{call_marked, rooms, what};
 use crate::tally::Tally;
 use falgnust::evr0;
-use inputs::cases::{self, SectionCase};
+use inputs::cases::{self, AS_IT_IS, Form, SectionCase};
 use inputs::random::Random;
+use inputs::wide::wide;
 
 /// One pair for so many of the count.
 const SHARE: usize = 5;
@@ -13,10 +14,11 @@ const SHARE: usize = 5;
 pub fn run(r: &mut Random, count: usize) -> Tally {
     let mut tally = Tally::alone("neighbours", &[]);
     while tally.inputs() < (count / SHARE) as u64 {
+        let form: Form = if r.one_in(2) { wide } else { AS_IT_IS };
         let case = if r.one_in(400) {
-            cases::large_section(r)
+            cases::large_section_in(r, form)
         } else {
-            cases::section(r)
+            cases::section_in(r, form)
         };
         if let Some(section) = whole(&case) {
             pair(&mut tally, r, section);

@@ -17,6 +17,7 @@ use inputs::section_conditions::counts_passed;
 use inputs::shapes;
 use inputs::text::{CONTROLS, ILL_FORMED};
 use oracle::rules;
+use oracle::section::Judge;
 
 /// Sections, and tables, at random for one of the count.
 const SECTIONS: usize = 4;
@@ -137,7 +138,8 @@ fn seldom(tally: &mut Tally, r: &mut Random, count: usize) {
         let (table, case) = ruled::section(r);
         let table = table.bytes();
         let loaded = rules::load(&table).expect("a table that loads");
-        let rust = oracle::section::section_by(&loaded, &case.file, case.cursor);
+        let judge = Judge::Ruled(&loaded).of(&case.file, case.cursor);
+        let rust = judge.section(&case.file, case.cursor);
         if tally.lacks(outcome(&case, loaded.len(), &rust)) {
             section(tally, &table, &case);
         }
@@ -371,7 +373,7 @@ fn both_numbers(tally: &mut Tally) {
 
 // ---- Sections by other rules
 
-fn section(tally: &mut Tally, table: &[u8], case: &SectionCase) {
+pub fn section(tally: &mut Tally, table: &[u8], case: &SectionCase) {
     let rules = rules::load(table).expect("a table that loads");
     let loaded = match RuleTable::load(table) {
         Ok(loaded) => loaded,
@@ -380,7 +382,7 @@ fn section(tally: &mut Tally, table: &[u8], case: &SectionCase) {
             return;
         }
     };
-    let by = By::table(&loaded, &rules);
+    let by = By::table(&loaded, &rules).of(&case.file, case.cursor);
     let rust = by.expected(&case.file, case.cursor);
     let of = outcome(case, rules.len(), &rust);
     compare_as(tally, case, by, rust, of);

@@ -4,14 +4,16 @@ use crate::by::By;
 use crate::tally::{Tally, hex};
 use falgnust::evr0;
 use inputs::cases::SectionCase;
-use oracle::evr0::{DecodedEvr0, Evr0Error, Evr0ErrorKind, Proof, Proposition, Witness};
+use oracle::evr0::{Evr0Error, Evr0ErrorKind};
+use oracle::records::{DecodedEvr0, Proof, Proposition, Witness};
 
 /// An answer in the Rust's own types, with document 01's number of an error.
 pub type Told<T> = Result<T, (Evr0Error, Option<u8>)>;
 
 pub fn compare(tally: &mut Tally, case: &SectionCase, by: By) {
     let (mut rust_cursor, mut port_cursor) = (case.cursor, case.cursor);
-    let rust = rust_told(by.rust(&case.file, &mut rust_cursor));
+    let rust = by.rust(&case.file, &mut rust_cursor);
+    let rust = rust_told(rust.map(|decoded| (by.schema(), decoded)));
     let port = by.crate_section(&case.file, &mut port_cursor);
     let port = told(port.map(section));
     tally.same(&(rust, rust_cursor), &(port, port_cursor), || {
@@ -48,11 +50,13 @@ pub fn told<T>(answer: Result<T, evr0::Evr0Error>) -> Told<T> {
     })
 }
 
-fn section(decoded: evr0::DecodedEvr0) -> DecodedEvr0 {
+/// The schema, and the records.
+pub fn section(decoded: evr0::DecodedEvr0) -> (u16, DecodedEvr0) {
     let evr0::DecodedEvr0 {
         source_set,
         compiler_contract,
         epoch,
+        schema,
         policy_namespace,
         issuer_namespace,
         propositions,
@@ -60,7 +64,7 @@ fn section(decoded: evr0::DecodedEvr0) -> DecodedEvr0 {
         witnesses,
         parents,
     } = decoded;
-    DecodedEvr0 {
+    let decoded = DecodedEvr0 {
         source_set,
         compiler_contract,
         epoch,
@@ -70,7 +74,8 @@ fn section(decoded: evr0::DecodedEvr0) -> DecodedEvr0 {
         proofs: proofs.into_iter().map(proof).collect(),
         witnesses: witnesses.into_iter().map(witness).collect(),
         parents,
-    }
+    };
+    (schema, decoded)
 }
 
 pub fn proposition(p: evr0::Proposition) -> Proposition {

@@ -12,14 +12,23 @@ use answers::section::{Head, Section};
 use falgnust::calls::SectionTables;
 use inputs::cases::SectionCase;
 use inputs::section_conditions::{condition, counts};
-use oracle::evr0::DecodedEvr0;
+use oracle::records::DecodedEvr0;
+use oracle::section::schema;
 use port::section::answer;
 
 /// Room for propositions, proofs and depths.
 pub type Rooms = [usize; 3];
 
+/// Of every schema but 2 with the Rust. Those of schema 2 are left to wide.rs.
 pub fn compare(tally: &mut Tally, case: &SectionCase) {
-    compare_by(tally, case, By::FOUR);
+    if !is_wide(case) {
+        compare_by(tally, case, By::FOUR);
+    }
+}
+
+/// Whether the Rust is not asked.
+pub fn is_wide(case: &SectionCase) -> bool {
+    schema(&case.file, case.cursor) == Some(2)
 }
 
 /// By these rules on both sides.

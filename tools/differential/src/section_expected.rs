@@ -2,7 +2,8 @@
 
 use answers::Answer;
 use falgnust::raw;
-use oracle::evr0::{DecodedEvr0, Proof, Proposition, Witness, characters};
+use oracle::evr0::characters;
+use oracle::records::{DecodedEvr0, Proof, Proposition, Witness};
 
 /// A record and its start in the payload.
 pub type Record<T> = (u64, T);
@@ -123,6 +124,19 @@ pub fn raw_witness(expected: Answer<Record<Witness>>) -> raw::Witness {
         source_end: w.source_end,
         ..rest
     }
+}
+
+/// The words of a witness at a place, by the width of a span.
+pub fn witness_words(start: u64, width: u64, w: &Witness) -> [u64; 7] {
+    [
+        w.witness_id.into(),
+        w.proposition_index.into(),
+        w.polarity.into(),
+        start + 12,
+        w.source_start,
+        w.source_end,
+        start + 44 + 2 * width,
+    ]
 }
 
 pub fn raw_parent(expected: Answer<Record<u32>>) -> raw::Parent {

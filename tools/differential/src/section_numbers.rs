@@ -12,9 +12,9 @@ use answers::Answer;
 use answers::refusal::{Kind, Refusal};
 use answers::section::Section;
 use falgnust::calls::{self, SectionTables};
-use falgnust::evr0;
+use falgnust::{evr0, raw};
 use inputs::cases::SectionCase;
-use oracle::evr0::DecodedEvr0;
+use oracle::records::{DecodedEvr0, Witness};
 use std::fmt::Debug;
 
 const NOT_THERE: Refusal = Refusal {
@@ -29,10 +29,6 @@ struct Asked<'a> {
     cursor: usize,
     rust: &'a Answer<(Section, DecodedEvr0)>,
     by: By<'a>,
-}
-
-pub fn compare(tally: &mut Tally, case: &SectionCase, rust: &Answer<(Section, DecodedEvr0)>) {
-    compare_by(tally, case, rust, By::FOUR);
 }
 
 /// By these rules on both sides.
@@ -135,19 +131,63 @@ impl Asked<'_> {
     fn witness(&self, tally: &mut Tally, number: u32) {
         let value = self.value(|section, decoded| {
             let record = decoded.witnesses.get(number as usize)?.clone();
-            let after = 84 * (decoded.witnesses.len() - number as usize);
+            let size = 76 + 2 * self.span();
+            let after = size * (decoded.witnesses.len() - number as usize);
             let payload = section.cursor - self.cursor - 8;
             let start = payload - 4 * decoded.parents.len() - after;
             Some((start as u64, record))
         });
         let name = "witness by number";
         let raw = expected::raw_witness(value.clone());
+        self.witness_at_its_place(tally, number, &value, raw);
         self.same(tally, name, &value, raw, |lent| {
             self.by.witness(self.file, self.cursor, number, lent)
         });
         let port = self.by.crate_witness(self.file, self.cursor, number);
         let port = port.map(|found| found.map(binding::witness));
         self.same_told(tally, name, value.map(record), port);
+    }
+
+    /// The bytes of a span's start, and of its end.
+    fn span(&self) -> usize {
+        if self.by.schema() == 2 { 8 } else { 4 }
+    }
+
+    /// Its place, and the witness and its words there. Every schema but 2 means spans of 4 bytes.
+    fn witness_at_its_place(
+        &self,
+        tally: &mut Tally,
+        number: u32,
+        value: &Answer<Record<Witness>>,
+        raw: raw::Witness,
+    ) {
+        let Ok((section, decoded)) = self.rust else {
+            return;
+        };
+        let schema = match self.by.schema() {
+            1 => [1, 0, 3, 258, 513, u16::MAX][number as usize % 6],
+            schema => schema,
+        };
+        let payload = &self.file[self.cursor + 8..section.cursor];
+        let (witnesses, parents) = (decoded.witnesses.len(), decoded.parents.len());
+        let place = calls::witness_place(payload.len(), schema, witnesses, parents, number);
+        let name = "witness at its place";
+        tally.input((0, name));
+        let Ok((start, witness)) = value else {
+            tally.same(&0, &place, || self.what("place of no witness"));
+            return;
+        };
+        tally.same(&(*start as usize), &place, || {
+            self.what("place of a witness")
+        });
+        let read = calls::read_witness(payload, schema, place);
+        tally.same(&raw, &read, || self.what(name));
+        let due = expected::witness_words(*start, self.span() as u64, witness);
+        let mut words = [OLD; 7];
+        let there = calls::witness_words(payload, schema, &[*start], &mut words);
+        tally.same(&(true, due), &(there, words), || {
+            self.what("words of a witness")
+        });
     }
 
     fn parent(&self, tally: &mut Tally, number: u32) {

@@ -1,52 +1,59 @@
-//! Sections: every length, schema and flags, every cut and byte change of small ones, faults one and two at once, limits, and large ones.
+//! Sections: every length, schema and flags, every cut and byte change of small ones, faults one and two at once, limits, and large ones. Those of
+//! schema 2 are left to wide.rs.
 
 use crate::section_compare;
 use crate::tally::{Outcome, Tally};
-use inputs::cases::{self, SectionCase};
+use inputs::cases::{self, AS_IT_IS, Form, SectionCase};
 use inputs::random::Random;
 use inputs::section::Section;
 use inputs::section_conditions::{REACHABLE, condition};
 use inputs::shapes;
+use oracle::section::Judge;
 
 /// How many more inputs are looked at for conditions that were met too seldom, for each one of the count.
 const TRIES: usize = 20;
 
 pub fn run(r: &mut Random, count: usize) -> Tally {
     let mut tally = Tally::of("sections", &REACHABLE);
-    each(&mut tally, r, count, section_compare::compare);
+    each(&mut tally, r, count, AS_IT_IS, section_compare::compare);
     tally
 }
 
 /// What compares one section.
 pub type Compare = fn(&mut Tally, &SectionCase);
 
-/// Every input of this part, with so many at random.
-pub fn each(tally: &mut Tally, r: &mut Random, count: usize, compare: Compare) {
-    exhaustive(tally, r, compare);
+/// Every input of this part in a form, with so many at random.
+pub fn each(tally: &mut Tally, r: &mut Random, count: usize, form: Form, compare: Compare) {
+    exhaustive(tally, r, form, compare);
     for shape in [shapes::one_proof, shapes::two_proofs, shapes::joined] {
-        let bytes = shape(r).bytes();
+        let bytes = made(r, form, shape).bytes();
         cuts(tally, &bytes, compare);
         byte_changes(tally, &bytes, compare);
     }
-    large(tally, r, compare);
+    large(tally, r, form, compare);
     for _ in 0..count {
-        let case = cases::section(r);
+        let case = cases::section_in(r, form);
         compare(tally, &case);
     }
     for _ in 0..count / 2000 {
-        let case = cases::large_section(r);
+        let case = cases::large_section_in(r, form);
         compare(tally, &case);
     }
-    seldom(tally, r, count, compare);
+    seldom(tally, r, count, form, compare);
+}
+
+fn made(r: &mut Random, form: Form, shape: fn(&mut Random) -> Section) -> Section {
+    let section = shape(r);
+    form(r, section)
 }
 
 /// More of the conditions that were met too seldom.
-fn seldom(tally: &mut Tally, r: &mut Random, count: usize, compare: Compare) {
+fn seldom(tally: &mut Tally, r: &mut Random, count: usize, form: Form, compare: Compare) {
     for _ in 0..TRIES * count {
         if tally.too_few().is_empty() {
             return;
         }
-        let case = cases::section(r);
+        let case = cases::section_in(r, form);
         if tally.lacks(outcome(&case)) {
             compare(tally, &case);
         }
@@ -55,20 +62,21 @@ fn seldom(tally: &mut Tally, r: &mut Random, count: usize, compare: Compare) {
 }
 
 fn outcome(case: &SectionCase) -> Outcome {
-    match oracle::section::section(&case.file, case.cursor) {
+    let judge = Judge::Rust.of(&case.file, case.cursor);
+    match judge.section(&case.file, case.cursor) {
         Ok(_) => (0, ""),
         Err(refusal) => (refusal.number, condition(&case.file, case.cursor, &refusal)),
     }
 }
 
 /// A file that starts with its section.
-fn at_start(file: Vec<u8>) -> SectionCase {
+pub fn at_start(file: Vec<u8>) -> SectionCase {
     SectionCase { file, cursor: 0 }
 }
 
 /// Every payload length below 65,536, every schema and all flags, each on specimen 1.
-fn exhaustive(tally: &mut Tally, r: &mut Random, compare: Compare) {
-    let bytes = Section::empty(r).bytes();
+fn exhaustive(tally: &mut Tally, r: &mut Random, form: Form, compare: Compare) {
+    let bytes = made(r, form, Section::empty).bytes();
     for at in [4, 8, 10] {
         let mut changed = at_start(bytes.clone());
         for value in 0..=u16::MAX {
@@ -79,7 +87,7 @@ fn exhaustive(tally: &mut Tally, r: &mut Random, compare: Compare) {
 }
 
 /// Every cut, once with the payload length as it was and once with it repaired.
-fn cuts(tally: &mut Tally, bytes: &[u8], compare: Compare) {
+pub fn cuts(tally: &mut Tally, bytes: &[u8], compare: Compare) {
     for end in 0..=bytes.len() {
         let mut cut = at_start(bytes[..end].to_vec());
         compare(tally, &cut);
@@ -103,7 +111,7 @@ fn byte_changes(tally: &mut Tally, bytes: &[u8], compare: Compare) {
 }
 
 /// Limits at one below, at and one above, and the largest tables.
-fn large(tally: &mut Tally, r: &mut Random, compare: Compare) {
+fn large(tally: &mut Tally, r: &mut Random, form: Form, compare: Compare) {
     let mut all: Vec<Section> = Vec::new();
     for proofs in 255..=257 {
         all.push(shapes::chain(r, proofs));
@@ -119,15 +127,16 @@ fn large(tally: &mut Tally, r: &mut Random, compare: Compare) {
         all.push(shapes::many_propositions(r, count, 40));
     }
     for section in all {
+        let section = form(r, section);
         compare(tally, &at_start(section.bytes()));
     }
-    payload_limits(tally, r, compare);
-    count_limits(tally, r, compare);
+    payload_limits(tally, r, form, compare);
+    count_limits(tally, r, form, compare);
 }
 
 /// Payloads of 4,194,303 to 4,194,305 bytes.
-fn payload_limits(tally: &mut Tally, r: &mut Random, compare: Compare) {
-    let mut section = shapes::many_propositions(r, 65_536, 49);
+fn payload_limits(tally: &mut Tally, r: &mut Random, form: Form, compare: Compare) {
+    let mut section = made(r, form, |r| shapes::many_propositions(r, 65_536, 49));
     let short = 4_194_304 - (section.bytes().len() - 8);
     for more in [short - 1, short, short + 1] {
         section.policy.bytes = vec![b'p'; 1 + more];
@@ -136,10 +145,10 @@ fn payload_limits(tally: &mut Tally, r: &mut Random, compare: Compare) {
 }
 
 /// Each count at one below, at and one above its limit, over enough bytes for its records.
-fn count_limits(tally: &mut Tally, r: &mut Random, compare: Compare) {
+fn count_limits(tally: &mut Tally, r: &mut Random, form: Form, compare: Compare) {
     for (table, limit) in [65_536, 65_536, 262_144, 262_144].into_iter().enumerate() {
         for count in [limit - 1, limit, limit + 1] {
-            let mut section = Section::empty(r);
+            let mut section = made(r, form, Section::empty);
             section.counts[table] = Some(count);
             section.more = vec![0; 4_000_000];
             compare(tally, &at_start(section.bytes()));

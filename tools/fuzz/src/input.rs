@@ -6,8 +6,9 @@
 
 use differential::compare_call::Pair;
 use inputs::block::REVISIONS;
-use inputs::cases::{BlockCase, FileCase, SectionCase};
+use inputs::cases::{AS_IT_IS, BlockCase, FileCase, Form, SectionCase};
 use inputs::random::Random;
+use inputs::wide::wide;
 use inputs::{compared, ruled};
 
 pub enum Case {
@@ -122,7 +123,8 @@ fn joined(choice: [u8; 2], rest: &[u8]) -> Vec<u8> {
 
 /// A table, sometimes damaged, and a section by its rules.
 pub fn by_rules(r: &mut Random) -> Case {
-    let (mut table, case) = ruled::section(r);
+    let form: Form = if r.one_in(4) { wide } else { AS_IT_IS };
+    let (mut table, case) = ruled::section_in(r, form);
     if r.one_in(3) {
         table = ruled::damaged(r, table);
     }

@@ -31,10 +31,11 @@ fn compare(case: &Case) {
     let mut tally = Tally::new("fuzz");
     match case {
         Case::Section(case) => {
-            let rust = oracle::section::section(&case.file, case.cursor);
-            section_compare::compare(&mut tally, case);
-            section_numbers::compare(&mut tally, case, &rust);
-            marks::compare(&mut tally, case, &rust);
+            let by = By::FOUR.of(&case.file, case.cursor); // the Rust, or for schema 2 the model
+            let rust = by.expected(&case.file, case.cursor);
+            section_compare::compare_by(&mut tally, case, by);
+            section_numbers::compare_by(&mut tally, case, &rust, by);
+            marks::compare(&mut tally, case, by, &rust);
         }
         Case::Block(case) => {
             let rust = oracle::block::block(&case.code, case.base, case.revision);

@@ -4,6 +4,7 @@
 use crate::input::{Case, by_rules, bytes, of_one_pool};
 use inputs::cases;
 use inputs::random::Random;
+use inputs::wide::wide;
 
 unsafe extern "C" {
     fn LLVMFuzzerMutate(data: *mut u8, size: usize, max_size: usize) -> usize;
@@ -26,11 +27,12 @@ pub unsafe extern "C" fn LLVMFuzzerCustomMutator(
 ) -> usize {
     let mut r = Random::new(seed.into());
     if r.one_in(NEW) {
-        let case = match r.below(5) {
+        let case = match r.below(6) {
             0 => Case::Section(cases::section(&mut r)),
-            1 => Case::Block(cases::block(&mut r)),
-            2 => Case::Functions(cases::functions(&mut r)),
-            3 => by_rules(&mut r),
+            1 => Case::Section(cases::section_in(&mut r, wide)),
+            2 => Case::Block(cases::block(&mut r)),
+            3 => Case::Functions(cases::functions(&mut r)),
+            4 => by_rules(&mut r),
             _ => of_one_pool(&mut r),
         };
         let new = bytes(&case);

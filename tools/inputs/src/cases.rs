@@ -25,15 +25,33 @@ pub struct FileCase {
 /// Bases at which a sum is exact, reaches 2^64 - 1 or is held there.
 pub const BASES: [usize; 4] = [0, 1000, usize::MAX - 20, usize::MAX];
 
+/// What is made of a section before it is damaged.
+pub type Form = fn(&mut Random, Section) -> Section;
+
+/// The section as it is, of schema 1.
+pub const AS_IT_IS: Form = |_, section| section;
+
 /// A small section somewhere in a file.
 pub fn section(r: &mut Random) -> SectionCase {
+    section_in(r, AS_IT_IS)
+}
+
+/// The same in this form.
+pub fn section_in(r: &mut Random, form: Form) -> SectionCase {
     let section = shapes::small(r);
+    let section = form(r, section);
     in_file(r, section)
 }
 
 /// A section of some hundred records somewhere in a file.
 pub fn large_section(r: &mut Random) -> SectionCase {
+    large_section_in(r, AS_IT_IS)
+}
+
+/// The same in this form.
+pub fn large_section_in(r: &mut Random, form: Form) -> SectionCase {
     let section = shapes::many(r);
+    let section = form(r, section);
     in_file(r, section)
 }
 

@@ -4,8 +4,9 @@ use crate::random::Random;
 use crate::section::{Proposition, Section};
 use crate::shapes::{many_propositions, order, proposition};
 use crate::text::{text, well_formed};
+use crate::wide::wide;
 
-/// Two sections of one source set. Their other digest, epoch and namespaces are not the same.
+/// Two sections of one source set, of either schema. Their other digest, epoch and namespaces are not the same.
 pub fn pair(r: &mut Random) -> [Section; 2] {
     let pool = pool(r);
     let mut second = section(r, &pool);
@@ -18,7 +19,10 @@ pub fn pair(r: &mut Random) -> [Section; 2] {
         second.parents.clear();
         proofs(r, &mut second);
     }
-    [first, second]
+    [first, second].map(|section| match r.one_in(4) {
+        true => wide(r, section),
+        false => section,
+    })
 }
 
 /// Another source set, often by one bit.

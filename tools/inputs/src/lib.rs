@@ -18,3 +18,4 @@ pub mod section_conditions;
 pub mod section_faults;
 pub mod shapes;
 pub mod text;
+pub mod wide;

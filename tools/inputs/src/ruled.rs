@@ -1,6 +1,6 @@
 //! Tables of rules, valid or damaged, and sections by the rules of one.
 
-use crate::cases::{SectionCase, in_file};
+use crate::cases::{AS_IT_IS, Form, SectionCase, in_file};
 use crate::marked;
 use crate::random::Random;
 use crate::section::Section;
@@ -250,6 +250,11 @@ fn twice_and_outside(table: &mut Table, r: &mut Random) {
 
 /// A table and a section by its rules somewhere in a file, valid or damaged.
 pub fn section(r: &mut Random) -> (Table, SectionCase) {
+    section_in(r, AS_IT_IS)
+}
+
+/// The same in this form.
+pub fn section_in(r: &mut Random, form: Form) -> (Table, SectionCase) {
     let table = table(r);
     let proofs = r.within(255, 258) as u32;
     let section = match r.below(40) {
@@ -259,7 +264,8 @@ pub fn section(r: &mut Random) -> (Table, SectionCase) {
         17..=20 => marked::operations(r),
         _ => shapes::small(r),
     };
-    let mut section = by(r, &table, section);
+    let section = by(r, &table, section);
+    let mut section = form(r, section);
     if r.one_in(4) {
         misnamed(r, &table, &mut section);
     }

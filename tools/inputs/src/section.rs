@@ -31,8 +31,8 @@ pub struct Witness {
     pub polarity: u8,
     pub zeros: [u8; 3],
     pub file: [u8; 32],
-    pub start: u32,
-    pub end: u32,
+    pub start: u64,
+    pub end: u64,
     pub origin: [u8; 32],
 }
 
@@ -40,6 +40,8 @@ pub struct Witness {
 pub struct Section {
     pub tag: [u8; 4],
     pub schema: u16,
+    /// The bytes that a span's start takes, and its end: 8 under schema 2, and 4 under schema 1.
+    pub span: usize,
     pub flags: u16,
     pub source_set: [u8; 32],
     pub compiler_contract: [u8; 32],
@@ -142,7 +144,8 @@ impl Section {
             out.field(&[w.polarity]);
             out.field(&w.zeros);
             out.field(&w.file);
-            out.numbers(&[w.start, w.end]);
+            out.field(&w.start.to_le_bytes()[..self.span]);
+            out.field(&w.end.to_le_bytes()[..self.span]);
             out.field(&w.origin);
         }
         out.numbers(&self.parents);

@@ -98,15 +98,27 @@ pub const REACHABLE: [(u8, &str); 90] = [
     (29, ""),
 ];
 
+/// Further conditions of schema 2.
+pub const OF_SCHEMA_2: [(u8, &str); 4] =
+    [(5, START_CUT), (5, END_CUT), (13, BY_92), (23, BY_UPPER)];
+
+const START_CUT: &str = "span start, in its second half";
+const END_CUT: &str = "span end, in its second half";
+const BY_92: &str = "by 92, and not by 84";
+const BY_UPPER: &str = "start after end, by the upper halves alone";
+
 /// A section's records as they stand, unchecked, up to the first field that passes the payload's end.
 #[derive(Default)]
 struct Records<'a> {
+    schema: u32,
+    /// The bytes of the payload behind the counts.
+    rest: usize,
     texts: Vec<(&'static str, usize, usize)>,
     counts_at: usize,
     counts: [u32; 4],
     propositions: Vec<(usize, &'a [u8], [u32; 3])>,
     proofs: Vec<Proof>,
-    witnesses: Vec<(usize, [u32; 2], u8)>,
+    witnesses: Vec<(usize, [u32; 2], u8, [u64; 2])>,
     parents_at: usize,
     parents: Vec<u32>,
 }
@@ -141,6 +153,16 @@ impl<'a> Reader<'a> {
         Ok(bytes.iter().rev().fold(0, |n, &b| n << 8 | b as u32))
     }
 
+    /// A span's start or end, and the name of one that is cut after 4 bytes.
+    fn span(&mut self, name: Cut, second: Cut, width: usize) -> Result<u64, Cut> {
+        let first = self.number(name, 4)?;
+        let upper = match width {
+            8 => self.number(second, 4)?,
+            _ => 0,
+        };
+        Ok(u64::from(upper) << 32 | u64::from(first))
+    }
+
     fn text(
         &mut self,
         names: [Cut; 2],
@@ -156,7 +178,8 @@ impl<'a> Reader<'a> {
 impl<'a> Records<'a> {
     fn read(&mut self, payload: &'a [u8]) -> Result<(), Cut> {
         let r = &mut Reader { payload, at: 0 };
-        r.take("schema", 2)?;
+        self.schema = r.number("schema", 2)?;
+        let span = if self.schema == 2 { 8 } else { 4 };
         r.take("flags", 2)?;
         r.take("source set", 32)?;
         r.take("compiler contract", 32)?;
@@ -172,6 +195,7 @@ impl<'a> Records<'a> {
         ]) {
             *count = r.number(name, 4)?;
         }
+        self.rest = payload.len() - r.at;
         for _ in 0..self.counts[0] {
             let start = r.at;
             let kind = r.text(["kind length", "kind"], &mut self.texts)?;
@@ -195,10 +219,12 @@ impl<'a> Records<'a> {
             let polarity = r.number("polarity", 1)? as u8;
             r.take("witness's zeros", 3)?;
             r.take("file digest", 32)?;
-            r.take("span start", 4)?;
-            r.take("span end", 4)?;
+            let span = [
+                r.span("span start", START_CUT, span)?,
+                r.span("span end", END_CUT, span)?,
+            ];
             r.take("origin digest", 32)?;
-            self.witnesses.push((start, numbers, polarity));
+            self.witnesses.push((start, numbers, polarity, span));
         }
         self.parents_at = r.at;
         for _ in 0..self.counts[3] {
@@ -289,6 +315,7 @@ fn clause(s: &Records, number: u8, at: usize) -> &'static str {
             false => "proof",
         },
         12 => ["propositions", "proofs", "witnesses", "parents"][(at - s.counts_at) / 4],
+        13 if s.schema == 2 && least(s, 84) <= s.rest => BY_92,
         16 => order(s, at),
         17..=19 => proof_clause(s, number, at),
         22 => match s.proofs.iter().map(|p| p.witness_count as u64).sum::<u64>()
@@ -301,6 +328,12 @@ fn clause(s: &Records, number: u8, at: usize) -> &'static str {
         25 | 26 => parent_clause(s, number, (at - s.parents_at) / 4),
         _ => "",
     }
+}
+
+/// The least bytes of all records, with so many for a witness.
+fn least(s: &Records, witness: usize) -> usize {
+    let sizes = s.counts.iter().zip([15, 35, witness, 4]);
+    sizes.map(|(count, size)| *count as usize * size).sum()
 }
 
 fn order(s: &Records, at: usize) -> &'static str {
@@ -337,13 +370,15 @@ fn witness_clause(s: &Records, at: usize) -> &'static str {
     let Some(index) = s.witnesses.iter().position(|w| w.0 == at) else {
         return "?";
     };
-    let (_, [number, proposition], polarity) = s.witnesses[index];
+    let (_, [number, proposition], polarity, [start, end]) = s.witnesses[index];
     if number as usize != index {
         "number not its place"
     } else if proposition >= s.counts[0] {
         "no such proposition"
     } else if polarity > 1 {
         "polarity above 1"
+    } else if start as u32 <= end as u32 {
+        BY_UPPER
     } else {
         "start after end"
     }

@@ -7,7 +7,7 @@ use crate::text::{CONTROLS, ILL_FORMED, Text, encoded, put, text, well_formed};
 
 pub type Fault = fn(&mut Section, &mut Random);
 
-pub const FAULTS: [Fault; 39] = [
+pub const FAULTS: [Fault; 40] = [
     tag,
     length,
     cut,
@@ -22,6 +22,7 @@ pub const FAULTS: [Fault; 39] = [
     text_control,
     text_past_end,
     schema_or_flags,
+    span_width,
     count_above_limit,
     count_off,
     proposition_order,
@@ -200,10 +201,15 @@ fn text_past_end(s: &mut Section, r: &mut Random) {
 fn schema_or_flags(s: &mut Section, r: &mut Random) {
     let any = r.u16();
     if r.one_in(2) {
-        s.schema = r.pick(&[0, 2, 256, any]);
+        s.schema = r.pick(&[0, 1, 2, 3, 256, 258, 513, any]);
     } else {
         s.flags = r.pick(&[1, 256, any]);
     }
+}
+
+/// Spans as the other schema has them.
+fn span_width(s: &mut Section, _: &mut Random) {
+    s.span = 12 - s.span;
 }
 
 fn count_above_limit(s: &mut Section, r: &mut Random) {
@@ -333,14 +339,24 @@ fn witness_zeros(s: &mut Section, r: &mut Random) {
 
 fn witness_field(s: &mut Section, r: &mut Random) {
     let count = s.propositions.len() as u32;
+    let forms = if s.span == 8 { 5 } else { 4 };
     if let Some(w) = any_witness(s, r) {
-        match r.below(4) {
+        match r.below(forms) {
             0 => w.number = other(r, w.number),
             1 => w.proposition = r.pick(&[count, count + 1, u32::MAX]),
             2 => w.polarity = r.pick(&[2, 3, 128, 255]),
-            _ => (w.start, w.end) = (w.end.max(1), w.end.max(1) - 1),
+            3 => (w.start, w.end) = (w.end.max(1), w.end.max(1) - 1),
+            _ => (w.start, w.end) = upper_halves_fall(r),
         }
     }
+}
+
+/// A start after its end, whose lower half is below the end's, or is the same.
+fn upper_halves_fall(r: &mut Random) -> (u64, u64) {
+    let upper = u64::from(r.u32()).max(1);
+    let (lower, more) = (u64::from(r.u32() >> 1), u64::from(r.u32() >> 1));
+    let end = (upper - 1) << 32 | (lower + more * r.below(2) as u64);
+    (upper << 32 | lower, end)
 }
 
 fn witness_of_other(s: &mut Section, r: &mut Random) {

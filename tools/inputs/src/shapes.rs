@@ -15,6 +15,7 @@ impl Section {
         Section {
             tag: *b"EVR0",
             schema: 1,
+            span: 4,
             flags: 0,
             source_set: r.digest(),
             compiler_contract: r.digest(),
@@ -73,8 +74,8 @@ impl Section {
             polarity: positive as u8,
             zeros: [0; 3],
             file: r.digest(),
-            start,
-            end,
+            start: start.into(),
+            end: end.into(),
             origin: r.digest(),
         });
     }

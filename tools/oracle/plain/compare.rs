@@ -1,8 +1,8 @@
 //! Two sections held against each other, which the Rust does not have, in plain lines from the words of document 02's Slip 11: over the Rust's
 //! vectors, by two ordered maps.
 
-use crate::evr0::DecodedEvr0;
 use crate::marks;
+use crate::records::DecodedEvr0;
 use answers::Answer;
 use answers::refusal::{Kind, Refusal};
 use std::collections::{BTreeMap, BTreeSet};

@@ -1,7 +1,7 @@
 //! The marks of a section's proofs and what they authorise, which the Rust does not have, in plain lines from the words of document 02's Slips
 //! 5 and 6.
 
-use crate::evr0::DecodedEvr0;
+use crate::records::DecodedEvr0;
 
 /// Where walks down from a proof end: whether one does at a positive witness, and whether one does at a negative one.
 #[derive(Clone, Copy, Default)]

@@ -1,11 +1,11 @@
 //! Answers as lines of text.
 
 use crate::block::block;
-use crate::evr0::DecodedEvr0;
 use crate::functions::functions;
 use crate::marks::marks;
+use crate::records::DecodedEvr0;
 use crate::rules::load;
-use crate::section::{section, section_by};
+use crate::section::Judge;
 use answers::Answer;
 use answers::block::{Activation, Block, Component, Event, Execution, Path};
 use answers::refusal::{Kind, Refusal};
@@ -29,8 +29,9 @@ pub fn span_line(s: Span) -> String {
     )
 }
 
+/// From the Rust, and for schema 2 from the model.
 pub fn section_line(bytes: &[u8], cursor: usize) -> Answer<String> {
-    let (s, decoded) = section(bytes, cursor)?;
+    let (s, decoded) = Judge::Rust.of(bytes, cursor).section(bytes, cursor)?;
     Ok(section_fields(&s, &decoded))
 }
 
@@ -41,14 +42,15 @@ pub fn ruled_line(table: &[u8], bytes: &[u8], cursor: usize) -> Answer<String> {
         number,
         offset: 0,
     })?;
-    let (s, decoded) = section_by(&rules, bytes, cursor)?;
+    let judge = Judge::Ruled(&rules).of(bytes, cursor);
+    let (s, decoded) = judge.section(bytes, cursor)?;
     Ok(section_fields(&s, &decoded))
 }
 
 fn section_fields(s: &Section, decoded: &DecodedEvr0) -> String {
     format!(
         "cursor={} counts={} depths={} marks={} propositions={} proofs={} policy={} issuer={} policy_chars={} \
-         issuer_chars={} epoch={} \
+         issuer_chars={} epoch={} schema={} starts={} ends={} \
          source_set={} compiler_contract={}",
         s.cursor,
         list(s.head.counts),
@@ -61,6 +63,9 @@ fn section_fields(s: &Section, decoded: &DecodedEvr0) -> String {
         s.head.policy_chars,
         s.head.issuer_chars,
         s.head.epoch,
+        s.head.schema,
+        list(decoded.witnesses.iter().map(|w| w.source_start)),
+        list(decoded.witnesses.iter().map(|w| w.source_end)),
         hex(&s.head.source_set),
         hex(&s.head.compiler_contract),
     )

@@ -5,7 +5,7 @@ use oracle::messages;
 use oracle::text::{string, text};
 use std::io::Read;
 
-const USAGE: &str = "usage: oracle section HEX CURSOR
+const USAGE: &str = "usage: oracle section HEX CURSOR    of schema 2, which the Rust does not read, the model's answer
        oracle block HEX BASE REVISION
        oracle functions HEX CURSOR REVISION
        oracle text HEX AT      a text of a section

@@ -92,6 +92,7 @@ pub fn answer(s: raw::Section) -> (Answer<Head>, usize) {
         source_set: s.source_set,
         compiler_contract: s.compiler_contract,
         epoch: s.epoch,
+        schema: s.schema,
         policy: s.policy_at,
         issuer: s.issuer_at,
         policy_chars: s.policy_chars,

@@ -4,6 +4,7 @@ use inputs::block::each_form;
 use inputs::cases::{BASES, BlockCase, SectionCase};
 use inputs::random::Random;
 use inputs::shapes;
+use inputs::wide::wide;
 
 pub fn print() {
     let r = &mut Random::new(1);
@@ -15,16 +16,12 @@ pub fn print() {
         section_of_length.length = Some(length);
         section(section_of_length.bytes());
     }
-    let four = shapes::two_proofs(r).bytes();
-    for end in 0..=four.len() {
-        let mut cut = four[..end].to_vec();
-        section(cut.clone());
-        if end >= 8 {
-            cut[4..8].copy_from_slice(&(end as u32 - 8).to_le_bytes());
-            section(cut);
-        }
+    let four = shapes::two_proofs(r);
+    let long = wide(r, four.clone());
+    for four in [four.bytes(), long.bytes()] {
+        cut(&four);
+        changed(&four, section);
     }
-    changed(&four, section);
     for (number, revision) in [20, 21, 22].into_iter().enumerate() {
         let code = each_form(r, revision).bytes();
         let print = |code| block(code, BASES[number], revision);
@@ -32,6 +29,18 @@ pub fn print() {
             print(code[..end].to_vec());
         }
         changed(&code, print);
+    }
+}
+
+/// Each cut, with the payload length as it was and with it repaired.
+fn cut(bytes: &[u8]) {
+    for end in 0..=bytes.len() {
+        let mut cut = bytes[..end].to_vec();
+        section(cut.clone());
+        if end >= 8 {
+            cut[4..8].copy_from_slice(&(end as u32 - 8).to_le_bytes());
+            section(cut);
+        }
     }
 }
 

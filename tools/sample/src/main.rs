@@ -1,4 +1,4 @@
-//! Prints inputs with the Rust's answers, a line each:
+//! Prints inputs with the Rust's answers, and for sections of schema 2 with the model's, a line each:
 //!
 //!     section HEX CURSOR TAB ANSWER
 //!     block HEX BASE REVISION TAB ANSWER
@@ -12,16 +12,17 @@
 
 mod fixed;
 
-use inputs::cases::{self, BlockCase, FileCase, SectionCase};
+use inputs::cases::{self, AS_IT_IS, BlockCase, FileCase, Form, SectionCase};
 use inputs::random::Random;
+use inputs::wide::wide;
 use inputs::{block_conditions, compared, function_conditions, ruled, section_conditions};
 use oracle::compare::Whose;
 use oracle::lines::{block_line, functions_line, hex, ruled_line, section_line};
-use oracle::section::section_by;
+use oracle::section::{Judge, schema};
 use std::collections::BTreeMap;
 
 const USAGE: &str =
-    "usage: sample section|block|functions|ruled|compared SEED EACH LONGEST [ACCEPTED]
+    "usage: sample section|wide|block|functions|ruled|compared SEED EACH LONGEST [ACCEPTED]
        sample fixed
        sample given";
 
@@ -48,7 +49,8 @@ fn main() {
 
 fn random(form: &str, seed: usize, picked: Picked, longest: usize) {
     match form {
-        "section" => sections(seed, picked, longest),
+        "section" => sections(seed, picked, longest, 1),
+        "wide" => sections(seed, picked, longest, 2),
         "block" => blocks(seed, picked, longest),
         "functions" => files(seed, picked, longest),
         "ruled" => ruled(seed, picked, longest),
@@ -90,14 +92,18 @@ fn picked(each: usize, accepted: usize) -> Picked {
     }
 }
 
-fn sections(seed: usize, mut picked: Picked, longest: usize) {
+/// Of schema 2, or, where schema 1 is asked for, of every other.
+fn sections(seed: usize, mut picked: Picked, longest: usize, asked: u16) {
+    let form: Form = if asked == 2 { wide } else { AS_IT_IS };
     let mut r = Random::new(seed as u64);
     for _ in 0..TRIES {
-        let case = cases::section(&mut r);
-        if case.file.len() > longest {
+        let case = cases::section_in(&mut r, form);
+        let is_wide = schema(&case.file, case.cursor) == Some(2);
+        if case.file.len() > longest || is_wide != (asked == 2) {
             continue;
         }
-        let (number, condition) = match oracle::section::section(&case.file, case.cursor) {
+        let judge = Judge::Rust.of(&case.file, case.cursor);
+        let (number, condition) = match judge.section(&case.file, case.cursor) {
             Ok(_) => (0, ""),
             Err(refusal) => {
                 let condition = section_conditions::condition(&case.file, case.cursor, &refusal);
@@ -169,10 +175,13 @@ fn ruled(seed: usize, mut picked: Picked, longest: usize) {
         }
         let (number, condition) = match oracle::rules::load(&table) {
             Err(wrong) => wrong,
-            Ok(rules) => match section_by(&rules, &case.file, case.cursor) {
-                Ok(_) => (0, ""),
-                Err(refusal) => (refusal.number, ""),
-            },
+            Ok(rules) => {
+                let judge = Judge::Ruled(&rules).of(&case.file, case.cursor);
+                match judge.section(&case.file, case.cursor) {
+                    Ok(_) => (0, ""),
+                    Err(refusal) => (refusal.number, ""),
+                }
+            }
         };
         if picked.wants(number, condition) {
             let answer = ruled_line(&table, &case.file, case.cursor);
@@ -200,7 +209,8 @@ fn pairs(seed: usize, mut picked: Picked, longest: usize) {
         let cursor = r.below(4);
         let second = [&vec![0; cursor], &second[..]].concat();
         let sections = [(&first, 0), (&second, cursor)].map(|(file, cursor)| {
-            oracle::section::section(file, cursor).map(|(_, decoded)| decoded)
+            let judge = Judge::Rust.of(file, cursor);
+            judge.section(file, cursor).map(|(_, decoded)| decoded)
         });
         let room = r.below(10);
         let found = oracle::compare::compare(&sections[0], &sections[1], cursor, room);

@@ -16,6 +16,7 @@ impl Section<'_> {
             ("file", name.into()),
             ("at", self.at.into()),
             ("end", self.end.into()),
+            ("schema", records.schema.into()),
             ("source_set", hex(&records.source_set).into()),
             ("compiler_contract", hex(&records.compiler_contract).into()),
             ("epoch", records.epoch.into()),
@@ -73,13 +74,24 @@ fn way_json(way: WayDown) -> Json {
     })
 }
 
+/// The largest number up to which readers of JSON hold every number exactly, 2^53 - 1.
+const EXACT: u64 = 9_007_199_254_740_991;
+
+/// A number, or its digits as text where some readers of JSON, and the page, would round it.
+fn exact(number: u64) -> Json {
+    match number {
+        0..=EXACT => number.into(),
+        _ => number.to_string().into(),
+    }
+}
+
 pub fn witness_json(witness: &Witness) -> Json {
     Json::Object(vec![
         ("number", witness.witness_id.into()),
         ("proposition", witness.proposition_index.into()),
         ("polarity", witness.polarity.into()),
-        ("start", witness.source_start.into()),
-        ("end", witness.source_end.into()),
+        ("start", exact(witness.source_start)),
+        ("end", exact(witness.source_end)),
         ("file", hex(&witness.file_digest).into()),
         ("origin", hex(&witness.origin_digest).into()),
     ])

@@ -28,7 +28,8 @@ impl Section<'_> {
         let accepted = paint.text(Style::Green, "accepted");
         let (at, end) = (thousands(self.at), thousands(self.end));
         format!(
-            "{accepted}: {name:?}, bytes {at} to {end}\n  holds     {}\n  policy    {}\n  issuer    {}\n  epoch     {}\n  sources   {}\n  contract  {}\n",
+            "{accepted}: {name:?}, bytes {at} to {end}\n  schema    {}\n  holds     {}\n  policy    {}\n  issuer    {}\n  epoch     {}\n  sources   {}\n  contract  {}\n",
+            records.schema,
             counts.join(", "),
             shown(&records.policy_namespace),
             shown(&records.issuer_namespace),

@@ -23,6 +23,7 @@ pub fn section(
         source_set: section.source_set,
         compiler_contract: section.compiler_contract,
         epoch: section.epoch,
+        schema: section.schema,
         policy_namespace,
         issuer_namespace,
         propositions: self::propositions(payload, &propositions[..section.propositions], words),
@@ -88,9 +89,13 @@ fn namespaces(payload: &[u8], section: &Section, words: &mut Words) -> (String, 
 #[inline]
 fn witnesses(payload: &[u8], section: &Section, words: &mut Words) -> Vec<Witness> {
     let Section {
-        witnesses, parents, ..
+        schema,
+        witnesses,
+        parents,
+        ..
     } = *section;
-    let place = |number| calls::witness_place(payload.len(), witnesses, parents, number) as u64;
+    let len = payload.len();
+    let place = |number| calls::witness_place(len, schema, witnesses, parents, number) as u64;
     let mut read = Vec::with_capacity(witnesses);
     let (words, _) = words.as_chunks_mut();
     let mut starts = [0; 8];
@@ -102,6 +107,7 @@ fn witnesses(payload: &[u8], section: &Section, words: &mut Words) -> Vec<Witnes
         }
         whole(calls::witness_words(
             payload,
+            schema,
             starts,
             words.as_flattened_mut(),
         ));
@@ -118,8 +124,8 @@ fn witness_of(payload: &[u8], words: [u64; 7]) -> Witness {
         proposition_index: proposition as u32,
         polarity: polarity as u8,
         file_digest: digest(payload, file),
-        source_start: start as u32,
-        source_end: end as u32,
+        source_start: start,
+        source_end: end,
         origin_digest: digest(payload, origin),
     }
 }

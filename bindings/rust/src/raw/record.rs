@@ -86,10 +86,10 @@ pub struct Witness {
     pub proposition_index: u32,
     /// 1 positive, 0 negative.
     pub polarity: u8,
-    /// Where its span starts.
-    pub source_start: u32,
+    /// Where its span starts; 64 bits under either schema.
+    pub source_start: u64,
     /// Where its span ends.
-    pub source_end: u32,
+    pub source_end: u64,
 }
 
 /// A parent cell of a section.
@@ -115,13 +115,20 @@ unsafe extern "C" {
     ) -> Proposition;
     /// The proof at a place of the payload, as its start in the table is.
     pub fn falgnust_read_proof(payload: *const u8, payload_len: usize, at: usize) -> Proof;
-    /// The witness at a place of the payload, as `falgnust_witness_place` gives it.
-    pub fn falgnust_read_witness(payload: *const u8, payload_len: usize, at: usize) -> Witness;
+    /// The witness at a place of the payload, as `falgnust_witness_place` gives it. Under schema 2 its span's start and end take 8 bytes each,
+    /// under any other number 4.
+    pub fn falgnust_read_witness(
+        payload: *const u8,
+        payload_len: usize,
+        schema: u16,
+        at: usize,
+    ) -> Witness;
     /// The parent cell at a place of the payload, as `falgnust_parent_place` gives it.
     pub fn falgnust_read_parent(payload: *const u8, payload_len: usize, at: usize) -> Parent;
-    /// Where a witness stands in a payload of `len` bytes with so many witnesses and parents.
+    /// Where a witness stands in a payload of `len` bytes with so many witnesses, of 92 bytes under schema 2 and else of 84, and parents.
     pub fn falgnust_witness_place(
         len: usize,
+        schema: u16,
         witnesses: usize,
         parents: usize,
         number: u32,

@@ -16,6 +16,8 @@ pub struct Section {
     pub compiler_contract: [u8; 32],
     /// The epoch.
     pub epoch: u16,
+    /// The schema, 1 or 2: a span's start and end take 4 bytes each in the payload under 1, and 8 under 2.
+    pub schema: u16,
     /// The place in the payload of the policy's length.
     pub policy_at: usize,
     /// The place in the payload of the issuer's length.

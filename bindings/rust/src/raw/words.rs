@@ -36,12 +36,20 @@ of_starts! {
     /// 10 words of each proof: number, proposition, the place and the length of its rule's name, authority, first witness, how many witnesses,
     /// first parent, how many parents, operation.
     falgnust_proof_words -> bool;
-    /// 7 words of each witness: number, proposition, polarity, the place of its first digest, where its span starts and ends, the place of its
-    /// second digest.
-    falgnust_witness_words -> bool;
 }
 
 unsafe extern "C" {
+    /// 7 words of each witness: number, proposition, polarity, the place of its first digest, where its span starts and ends, the place of its
+    /// second digest. Under schema 2 a span's start and end take 8 bytes each, under any other number 4.
+    pub fn falgnust_witness_words(
+        payload: *const u8,
+        payload_len: usize,
+        schema: u16,
+        starts: *const u64,
+        starts_len: usize,
+        words: *mut u64,
+        words_len: usize,
+    ) -> bool;
     /// 2 words of each text of a section or string of a block: the place and the length of its bytes.
     pub fn falgnust_text_words(
         bytes: *const u8,

@@ -1,5 +1,5 @@
-//! The specimens of document 01, tables of rules, sections compared, files of functions and locks through the binding, the lengths of lent tables, and
-//! the words of records.
+//! The specimens of document 01, both schemas, tables of rules, sections compared, files of functions and locks through the binding, the lengths of lent
+//! tables, and the words of records.
 
 mod blocks;
 mod characters;
@@ -10,6 +10,7 @@ mod locks;
 mod marks;
 mod readme;
 mod rules;
+mod schemas;
 mod sections;
 mod words;
 mod written;

@@ -7,7 +7,7 @@ use falgnust::evr0::{
 };
 
 /// Number and offset of a refusal, which leaves the cursor.
-fn refused(file: &[u8]) -> (Option<u8>, usize) {
+pub fn refused(file: &[u8]) -> (Option<u8>, usize) {
     let mut cursor = 0;
     let error = decode_evr0_section(file, &mut cursor).unwrap_err();
     assert_eq!(cursor, 0);
@@ -21,7 +21,7 @@ fn specimen_1() {
     assert_eq!(cursor, 100);
     assert_eq!(decoded.source_set, [7; 32]);
     assert_eq!(decoded.compiler_contract, [8; 32]);
-    assert_eq!(decoded.epoch, 9);
+    assert_eq!((decoded.epoch, decoded.schema), (9, 1));
     assert_eq!(decoded.policy_namespace, "a");
     assert_eq!(decoded.issuer_namespace, "b");
     assert!(decoded.propositions.is_empty() && decoded.proofs.is_empty());
@@ -138,7 +138,7 @@ fn specimen_6() {
 #[test]
 fn specimen_7() {
     let mut file = section(&[]);
-    file[8] = 2;
+    file[8] = 3;
     assert_eq!(refused(&file), (Some(10), 10));
 }
 

@@ -10,6 +10,11 @@ pub struct Proof {
 
 /// A section with policy "a" and issuer "b", and one proposition "k" where there are proofs.
 pub fn section(proofs: &[Proof]) -> Vec<u8> {
+    section_of(1, [5, 6], proofs)
+}
+
+/// The same under a schema, with this span for each witness: 8 bytes each for its start and its end under schema 2, else 4.
+pub fn section_of(schema: u16, span: [u64; 2], proofs: &[Proof]) -> Vec<u8> {
     let witnesses: Vec<(u32, u8)> = proofs
         .iter()
         .filter_map(|proof| Some((proof.proposition, proof.witness?)))
@@ -20,7 +25,8 @@ pub fn section(proofs: &[Proof]) -> Vec<u8> {
         .collect();
     let propositions = u32::from(!proofs.is_empty());
 
-    let mut payload = vec![1, 0, 0, 0];
+    let mut payload = schema.to_le_bytes().to_vec();
+    payload.extend([0; 2]);
     payload.extend([7; 32]);
     payload.extend([8; 32]);
     payload.extend(9u16.to_le_bytes());
@@ -50,7 +56,10 @@ pub fn section(proofs: &[Proof]) -> Vec<u8> {
         numbers(&mut payload, &[number, proposition]);
         payload.extend([polarity, 0, 0, 0]);
         payload.extend([4; 32]);
-        numbers(&mut payload, &[5, 6]);
+        for place in span {
+            let width = if schema == 2 { 8 } else { 4 };
+            payload.extend(&place.to_le_bytes()[..width]);
+        }
         payload.extend([7; 32]);
     }
     numbers(&mut payload, &parents);

@@ -7,6 +7,7 @@ use mathlib.Core.List.{List, []}
 use native.Mathlib.Omega.{arith}
 use lib.ListN.{length, getD}
 use Rattle.lent_table.specs.Lent.{lent}
+use Rattle.evr0_section.specs.Head.{spanWidth}
 use Rattle.record_words.specs.Words.{witnessWhole, witnessWords, fits, Fills}
 use Rattle.record_words.proofs.Laws.{
   witness-cut,
@@ -25,28 +26,34 @@ use Rattle.record_words.proofs.read_witnesses as f
 use f.Tie as tie
 
 abbrev Inv-loop : tie.InvT-loop
-Inv-loop payload starts words₀ to₀ i₀ words to i =
+Inv-loop payload schema starts words₀ size to₀ i₀ words to i =
     (i ≤ length starts) × (to ≤ length words) × (length words ≡ length words₀)
-    × Filling (witnessWhole payload) (witnessWords payload) starts i to words
+    × Filling (witnessWhole (spanWidth schema) payload) (witnessWords (spanWidth schema) payload) starts i to words
 
 abbrev μ-loop : tie.MeasureT-loop
-μ-loop payload starts words₀ to₀ i₀ words to i = length starts - i
+μ-loop payload schema starts words₀ size to₀ i₀ words to i = length starts - i
 
 -- what is known of a turn, by its loop: the arguments, the record's start, and the rest of the records
+abbrev entry : tie.At-loop Inv-loop μ-loop → tie.Start Inv-loop μ-loop
+entry l = l .before .before .before .before .before
+
+abbrev width : tie.At-loop Inv-loop μ-loop → ℕ
+width l = spanWidth (entry l .args .schema)
+
 abbrev bytes : tie.At-loop Inv-loop μ-loop → List ℕ
-bytes l = l .before .before .before .before .args .payload .now
+bytes l = entry l .args .payload .now
 
 abbrev starts : tie.At-loop Inv-loop μ-loop → List ℕ
-starts l = l .before .before .before .before .args .starts .now
+starts l = entry l .args .starts .now
 
 abbrev table : tie.At-loop Inv-loop μ-loop → List ℕ
-table l = l .before .before .before .before .args .words .now
+table l = entry l .args .words .now
 
 abbrev whole : tie.At-loop Inv-loop μ-loop → ℕ → Bool
-whole l = witnessWhole (bytes l)
+whole l = witnessWhole (width l) (bytes l)
 
 abbrev words : tie.At-loop Inv-loop μ-loop → ℕ → List ℕ
-words l = witnessWords (bytes l)
+words l = witnessWords (width l) (bytes l)
 
 abbrev start : tie.At-loop Inv-loop μ-loop → ℕ
 start l = getD (starts l) (l .loop .i) 0
@@ -60,7 +67,7 @@ returns : tie.Need-returns Inv-loop μ-loop
 returns c =
     let read = c .before .before .before .before .before in
     let l = read .before .before .before in
-    let e = witness-cut (bytes l) (start l) (omega (arith, read .left .ensures)) in
+    let e = witness-cut (width l) (bytes l) (start l) (omega (arith, read .left .ensures, l .before .witness-size .ensures .0)) in
     nothing l _ (fill-cut (whole l) (words l) (starts l) (l .loop .i) (l .loop .to) (l .loop .words) (l .loop .inv .3) (table l) (omega arith) e)
     (c .before .before .clear .ensures)
 
@@ -68,7 +75,7 @@ returns-2 : tie.Need-returns-2 Inv-loop μ-loop
 returns-2 c =
     let read = c .before .before .before .before .before .before in
     let l = read .before .before .before in
-    let n = witness-size (bytes l) (start l) in
+    let n = witness-size (width l) (bytes l) (start l) in
     nothing l _ (fill-short (whole l) (words l) (starts l) (l .loop .i) (l .loop .to) (l .loop .words) (l .loop .inv .3) (table l) (omega arith) (omega arith)
     (omega arith)) (c .before .before .clear2 .ensures)
 
@@ -76,20 +83,20 @@ put-witness-requires : tie.Need-put-witness-requires Inv-loop μ-loop
 put-witness-requires c κs =
     let read = c .before .before .before in
     let l = read .before .before .before in
-    (omega (arith, read .left .ensures), omega arith)
+    (omega (arith, read .left .ensures, l .before .witness-size .ensures .0), omega arith)
 
 loop-again : tie.Need-loop-again Inv-loop μ-loop
 loop-again c =
     let put = c .before .before in
     let read = put .before .before .before .before in
     let l = read .before .before .before in
-    let t = witness-there (bytes l) (start l) (omega (arith, read .left .ensures)) in
+    let t = witness-there (width l) (bytes l) (start l) (omega (arith, read .left .ensures, l .before .witness-size .ensures .0)) in
     let same = put .put-witness .ensures .size in (
       omega arith,
       omega arith,
       same ∙ l .loop .inv .2,
       fill-on (whole l) (words l) (starts l) (l .loop .i) (l .loop .to) (l .loop .words) (l .loop .inv .3) 7 _ (omega arith)
-          t (witness-size (bytes l) (start l)) (put .put-witness .ensures),
+          t (witness-size (width l) (bytes l) (start l)) (put .put-witness .ensures),
     )
 
 returns-3 : tie.Need-returns-3 Inv-loop μ-loop
@@ -103,7 +110,7 @@ returns-3 c =
 
 pub read-witnesses-spec : {M : Type 1} → f.Statement.statement M
 read-witnesses-spec =
-    tie.close (tie.spec Inv-loop μ-loop
+    tie.close (tie.spec Inv-loop μ-loop (search needs)
     (λ c. (omega arith, omega arith, refl, fill-first _ _ _ _)) (search needs) (search needs) (search needs) (search needs) (search needs) returns
     (search needs) (search needs) (search needs) returns-2 put-witness-requires (search needs) (search needs) (search needs) loop-again (search needs)
     (search needs) returns-3)

@@ -6,7 +6,7 @@ use crate::compare_call::{Known, Pair};
 use crate::tally::Outcome;
 use answers::Answer;
 use oracle::compare::{self as plain, Key, List, Whose};
-use oracle::evr0::DecodedEvr0;
+use oracle::records::DecodedEvr0;
 
 /// What two sections are to each other, whose refusal is given and what stands beside it, and how long the tables are.
 pub const REACHABLE: [Outcome; 47] = [
@@ -139,7 +139,7 @@ fn authorised_of(section: &Known, list: &List) -> bool {
     section.authorised[place.expect("a proposition of the section")]
 }
 
-pub fn key_of(p: &oracle::evr0::Proposition) -> Key {
+pub fn key_of(p: &oracle::records::Proposition) -> Key {
     let kind = p.kind.as_bytes().to_vec();
     let numbers = [p.ast_owner_id, p.semantic_scope_id, p.type_obligation_id];
     (kind, numbers[0], numbers[1], numbers[2])

@@ -6,9 +6,10 @@ use inputs::block::{self, REVISIONS};
 use inputs::cases::{self, BlockCase, SectionCase};
 use inputs::random::Random;
 use inputs::shapes;
+use inputs::wide::wide;
 use std::path::Path;
 
-/// So many random sections, and as many blocks, files of functions and tables of rules.
+/// So many random sections of each schema, and as many blocks, files of functions and tables of rules.
 const EACH: usize = 300;
 
 fn main() -> std::io::Result<()> {
@@ -17,6 +18,9 @@ fn main() -> std::io::Result<()> {
     let mut all = Vec::new();
     for shape in [shapes::one_proof, shapes::two_proofs, shapes::joined] {
         let file = shape(r).bytes();
+        all.push(Case::Section(SectionCase { file, cursor: 0 }));
+        let section = shape(r);
+        let file = wide(r, section).bytes();
         all.push(Case::Section(SectionCase { file, cursor: 0 }));
     }
     for proofs in [8, 256, 257] {
@@ -33,6 +37,7 @@ fn main() -> std::io::Result<()> {
     }
     for _ in 0..EACH {
         all.push(Case::Section(cases::section(r)));
+        all.push(Case::Section(cases::section_in(r, wide)));
         all.push(Case::Block(cases::block(r)));
         all.push(Case::Functions(cases::functions(r)));
         all.push(by_rules(r));

@@ -8,6 +8,7 @@ use lib.ListN.{length, take, length-take}
 use Rattle.local_format.specs.Out.{ok}
 use Rattle.lent_table.specs.Lent.{lent}
 use Rattle.derivation.specs.Rule.{Rule}
+use Rattle.evr0_section.specs.Head.{spanWidth, witnessSize}
 use Rattle.evr0_section.specs.Section.{tablesAfter}
 use Rattle.evr0_rules.specs.Maps.{rulesIn}
 use Rattle.evr0_head.specs.Maps.{countsOut}
@@ -18,8 +19,11 @@ use Rattle.evr0.proofs.section.check_tables as f
 use f.Tie as tie
 
 -- ---- The stages
+abbrev sized-at : tie.After-read-tables → tie.After-witness-size
+sized-at c = c .before .before .before
+
 abbrev start : tie.After-read-tables → tie.Start
-start c = let on = c .before .before .before .before .before .before in on .before .before .before
+start c = let on = sized-at c .before .before .before in on .before .before .before .before
 
 abbrev among : tie.After-read-tables → List Rule
 among c = let a = start c .args in rulesIn (a .rules) (a .table .now) (a .places .now)
@@ -33,17 +37,20 @@ module _ (c : tie.After-tables2) where
   at = c .before .before .before .before .before .before
 
   reads : let a = start at .args in
-      Reads (tablesAfter (among at) (countsOut (a .counts)) (a .payload .now) (a .at)) (a .propositions .now) (a .proofs .now)
-      (at .read-tables .last .1 .1 .1 .1 .1 .1 .0) (at .read-tables .last .1 .1 .1 .1 .1 .1 .1 .0)
+      Reads (tablesAfter (among at) (spanWidth (a .schema)) (countsOut (a .counts)) (a .payload .now) (a .at)) (a .propositions .now) (a .proofs .now)
+      (at .read-tables .last .1 .1 .1 .1 .1 .1 .1 .0) (at .read-tables .last .1 .1 .1 .1 .1 .1 .1 .1 .0)
       (ok (record { witnessesAt = c .tables2 .given .0 .0; parentsAt = c .tables2 .given .0 .1 .0 }))
   reads = reads-as (at .read-tables .ensures) (ap placesOut (c .tables2 .given .1))
 
-  proofs-fit : start at .args .counts .proofs ≤ length (at .read-tables .last .1 .1 .1 .1 .1 .1 .1 .0)
-  proofs-fit =
-      let r = ready _ _ _ _ (start at .pre .0) in
-      omega (arith, r .proofs, at .read-tables .kept .1 .1 .1 .1 .1 .1 .1 .0)
+  sized : sized-at at .witness-size .result ≡ witnessSize (spanWidth (start at .args .schema))
+  sized = sized-at at .witness-size .ensures .0
 
-  proofs-total : length (take (start at .args .counts .proofs) (at .read-tables .last .1 .1 .1 .1 .1 .1 .1 .0)) ≡ start at .args .counts .proofs
+  proofs-fit : start at .args .counts .proofs ≤ length (at .read-tables .last .1 .1 .1 .1 .1 .1 .1 .1 .0)
+  proofs-fit =
+      let r = ready _ _ _ _ _ (start at .pre .0) in
+      omega (arith, r .proofs, at .read-tables .kept .1 .1 .1 .1 .1 .1 .1 .1 .0)
+
+  proofs-total : length (take (start at .args .counts .proofs) (at .read-tables .last .1 .1 .1 .1 .1 .1 .1 .1 .0)) ≡ start at .args .counts .proofs
   proofs-total = simp length-take (omega (arith, proofs-fit))
 
 -- ---- The answers
@@ -52,22 +59,23 @@ returns c =
     let k = c .before .before in
     let t = k .before .before .before in
     let r = t .before .before .before .before .before .before in
-    λ end. tables-refused (among r) (brought r) _ _ _ _ (start r .pre .0) (rw (t .tables .given .1) at (r .read-tables .ensures)) refl refl
+    λ end. tables-refused (among r) (brought r) _ _ _ _ _ (start r .pre .0) (rw (t .tables .given .1) at (r .read-tables .ensures)) refl refl
     (k .clear .ensures) end
 
 pub check-tables-spec : {M : Type 1} → f.Statement.statement M
 check-tables-spec =
-    tie.close (tie.spec
-    (λ c κs. let s = c .before .before .before .before .before .before .before .before in
-    let r = ready _ _ _ _ (s .pre .0) in
+    tie.close (tie.spec (search needs)
+    (λ c κs. let on = c .before .before .before .before .before in
+    let s = on .before .before .before .before in
+    let r = ready _ _ _ _ _ (s .pre .0) in
     ((r .propositions, r .proofs), (r .parents, r .within, s .pre .1))) (search needs) (search needs) (search needs)
     (λ c. proofs-fit (c .before))
     (λ c. sym (proofs-total (c .before .before)))
     (λ c κs. let t = c .before .before .before in
     let s = start (at t) in
-    let r = ready _ _ _ _ (s .pre .0) in (
-      (may-derive (among (at t)) (brought (at t)) (brought (at t)) _ _ _ (s .pre .0) (reads t), omega (arith, r .depths, proofs-total t)),
-      (s .pre .1, named (among (at t)) (brought (at t)) (brought (at t)) _ _ _ (s .pre .0) (reads t)),
+    let r = ready _ _ _ _ _ (s .pre .0) in (
+      (may-derive (among (at t)) (brought (at t)) (brought (at t)) _ _ _ _ (s .pre .0) (sized t) (reads t), omega (arith, r .depths, proofs-total t)),
+      (s .pre .1, named (among (at t)) (brought (at t)) (brought (at t)) _ _ _ _ (s .pre .0) (sized t) (reads t)),
     )) (search needs) (search needs)
     (search needs) (search needs) (search needs) (search needs) (search needs) returns (search needs) (search needs) (search needs)
     (λ c. let third = c .before .before in
@@ -76,11 +84,11 @@ check-tables-spec =
     let d = r .before .before .before .before in
     let t = d .before .before .before .before in
     let k = at t .read-tables .kept in
-    λ end. not-derived (among (at t)) (brought (at t)) _ _ _ _ (start (at t) .pre .0) (reads t) (rw (r .derived .given .1) at (d .derive .ensures))
-    (second .clear2 .ensures ∙ ap (λ (n : ℕ). lent n []) (k .1 .1 .1 .1 .1 .1 .0))
-    (third .clear3 .ensures ∙ ap (λ (n : ℕ). lent n []) (k .1 .1 .1 .1 .1 .1 .1 .0)) refl end)
+    λ end. not-derived (among (at t)) (brought (at t)) _ _ _ _ _ (start (at t) .pre .0) (sized t) (reads t) (rw (r .derived .given .1) at (d .derive .ensures))
+    (second .clear2 .ensures ∙ ap (λ (n : ℕ). lent n []) (k .1 .1 .1 .1 .1 .1 .1 .0))
+    (third .clear3 .ensures ∙ ap (λ (n : ℕ). lent n []) (k .1 .1 .1 .1 .1 .1 .1 .1 .0)) refl end)
     (search needs) (search needs) (search needs)
     (λ c. let d = c .before .before .before .before in
     let t = d .before .before .before .before in
-    λ end. derived (among (at t)) (brought (at t)) _ _ _ _ (start (at t) .pre .0) (reads t) (rw (c .enum-told .given .1) at (d .derive .ensures))
+    λ end. derived (among (at t)) (brought (at t)) _ _ _ _ _ (start (at t) .pre .0) (sized t) (reads t) (rw (c .enum-told .given .1) at (d .derive .ensures))
     refl refl refl end))

@@ -50,7 +50,7 @@ module _ (c : tie.After-check-tables) where
 
   passes : Passes (payloadIn (among (head-at read-at)) (brought (head-at read-at)) (given-at .args .payload .now) (given-at .args .end))
       (brought (head-at read-at))
-      (lentOf (c .check-tables .last .1 .1 .1 .1 .1 .1 .0) (c .check-tables .last .1 .1 .1 .1 .1 .1 .1 .0) (c .check-tables .last .1 .1 .1 .1 .1 .1 .1 .1 .0))
+      (let l = c .check-tables .last in lentOf (l .1 .1 .1 .1 .1 .1 .1 .0) (l .1 .1 .1 .1 .1 .1 .1 .1 .0) (l .1 .1 .1 .1 .1 .1 .1 .1 .1 .0))
       (checkedOut (c .check-tables .result))
   passes = c .check-tables .ensures (given-at .args .end)
 
@@ -58,7 +58,7 @@ module _ (c : tie.After-check-tables) where
 check-tables-requires : tie.Need-check-tables-requires
 check-tables-requires c κs =
     let r = c .before .before .before .before .before in
-    (record { head = _; read = head-read r; same = refl; next = refl }, start (head-at r) .pre)
+    (record { head = _; read = head-read r; is = refl; same = refl; next = refl }, start (head-at r) .pre)
 
 pub decode-payload-spec : {M : Type 1} → f.Statement.statement M
 decode-payload-spec =

@@ -4,8 +4,8 @@ use mathlib.Core.Path.{_≡_}
 use Rattle.local_format.specs.Out.{ok}
 use Rattle.local_format.proofs.OutLaws.{told}
 use Rattle.evr0_section.specs.Section.{frameAt}
+use Rattle.evr0_section.proofs.SectionSteps.{frame-place}
 use Rattle.evr0.specs.Maps.{frameOut}
-use Rattle.evr0.proofs.FrameLaws.{frame-within}
 use Rattle.evr0.proofs.DecodeLaws.{no-frame, framed}
 use Rattle.evr0.proofs.section.decode_with as f
 use f.Tie as tie
@@ -20,7 +20,7 @@ module _ (c : tie.After-frame2) where
 pub decode-with-spec : {M : Type 1} → f.Statement.statement M
 decode-with-spec =
     tie.close (tie.spec (search needs) (search needs) (search needs) (search needs) (search needs) (search needs) (search needs)
-    (λ c κs. let k = c .before .before .before .before in (frame-within _ _ _ (frame-read k), start k .pre)) (search needs) (search needs) (search needs)
+    (λ c κs. let k = c .before .before .before .before in (frame-place _ _ (frame-read k) .1, start k .pre)) (search needs) (search needs) (search needs)
     (λ c. let third = c .before .before .before in
     let second = third .before .before .before .before in
     let first = second .before .before .before .before in

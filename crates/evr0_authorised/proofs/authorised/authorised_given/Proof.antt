@@ -45,21 +45,46 @@ authorised-in-requires c κs =
     let s = c .before .before .before in
     due (leaves (decoded s)) (start (decoded s) .args .proposition .0) (ap outcomeOut (accepted-at s .outcome2 .given .1))
 
+-- no such proposition: the four tables are cleared
+module _ (c : tie.After-refuse) where
+  abbrev fourth : tie.After-clear-bytes
+  fourth = c .before .before .before
+
+  abbrev third : tie.After-clear3
+  third = fourth .before .before .before .before
+
+  abbrev second : tie.After-clear2
+  second = third .before .before .before .before
+
+  abbrev first : tie.After-clear
+  first = second .before .before .before .before
+
+  abbrev asked : tie.After-struct-known
+  asked = first .before .before .before
+
+  abbrev read : tie.After-decode-evr0-section-by
+  read = decoded asked
+
 returns : tie.Need-returns
 returns c =
-    let fourth = c .before .before .before in
-    let third = fourth .before .before .before .before in
-    let second = third .before .before .before .before in
-    let first = second .before .before .before .before in
-    let asked = first .before .before in
-    let s = asked .before in
-    let kept = decoded s .decode-evr0-section-by .kept in
+    let kept = read c .decode-evr0-section-by .kept in
     rw (c .refuse .ensures)
-    (no-such (leaves (decoded s)) (start (decoded s) .args .proposition .0) (ap outcomeOut (accepted-at s .outcome2 .given .1))
-    (omega (arith, asked .if1 .taken, place-at s .place .ensures))
-    (first .clear .ensures ∙ ap (λ (n : ℕ). lent n []) (kept .1 .1 .1 .1 .0)) (second .clear2 .ensures ∙ ap (λ (n : ℕ). lent n []) (kept .1 .1 .1 .1 .1 .0))
-    (third .clear3 .ensures ∙ ap (λ (n : ℕ). lent n []) (kept .1 .1 .1 .1 .1 .1 .0))
-    (fourth .clear-bytes .ensures ∙ ap (λ (n : ℕ). lent n []) (kept .1 .1 .1 .1 .1 .1 .1 .0)))
+    (no-such (leaves (read c)) (start (read c) .args .proposition .0) (ap outcomeOut (accepted-at (asked c) .outcome2 .given .1))
+    (omega (arith, first c .before .before .if1 .taken, place-at (asked c) .place .ensures))
+    (first c .clear .ensures ∙ ap (λ (n : ℕ). lent n []) (kept .1 .1 .1 .1 .0))
+    (second c .clear2 .ensures ∙ ap (λ (n : ℕ). lent n []) (kept .1 .1 .1 .1 .1 .0))
+    (third c .clear3 .ensures ∙ ap (λ (n : ℕ). lent n []) (kept .1 .1 .1 .1 .1 .1 .0))
+    (fourth c .clear-bytes .ensures ∙ ap (λ (n : ℕ). lent n []) (kept .1 .1 .1 .1 .1 .1 .1 .0)))
+
+-- the tables keep their lengths
+same-length : tie.Need-same-length
+same-length c = first c .clear .kept .0 ∙ read c .decode-evr0-section-by .kept .1 .1 .1 .1 .0
+
+same-length-2 : tie.Need-same-length-2
+same-length-2 c = second c .clear2 .kept .0 ∙ read c .decode-evr0-section-by .kept .1 .1 .1 .1 .1 .0
+
+same-length-3 : tie.Need-same-length-3
+same-length-3 c = third c .clear3 .kept .0 ∙ read c .decode-evr0-section-by .kept .1 .1 .1 .1 .1 .1 .0
 
 returns-2 : tie.Need-returns-2
 returns-2 c =
@@ -79,5 +104,5 @@ returns-3 c =
 pub authorised-given-spec : {M : Type 1} → f.Statement.statement M
 authorised-given-spec =
     tie.close (tie.spec (search needs) (search needs) (search needs) (search needs) (search needs) (search needs) (search needs) (search needs)
-    (search needs) (search needs) (search needs) (search needs) (search needs) returns authorised-in-requires (search needs) (search needs) (search needs)
+    (search needs) same-length same-length-2 same-length-3 (search needs) returns authorised-in-requires (search needs) (search needs) (search needs)
     (search needs) returns-2 (search needs) (search needs) (search needs) (search needs) returns-3)

@@ -1,4 +1,4 @@
--- The product is at most 84 * 262,144.
+-- The product is at most 96 * 262,144.
 use mathlib.Core.Path.{refl}
 use native.Mathlib.Nat.{mul-le-mul}
 use native.Mathlib.Omega.{arith}

@@ -1,6 +1,6 @@
 -- Each field, text and digest is a step of the definition, and each return what is left of it there.
 use mathlib.Core.Path.{refl, ap, sym, _∙_}
-use borrow.Author.Tests.{eq-eqb, ne-eqb}
+use borrow.Author.Tests.{eq-eqb, ne-eqb, not-true, not-false}
 use borrow.Author.Needs.{needs}
 use Rattle.local_format.specs.Out.{Out, refused}
 use Rattle.local_format.specs.Maps.{u16Out, textOut}
@@ -23,9 +23,11 @@ schema c =
 abbrev flags : tie.After-read-u16-le2 → Step U16 (Out Head)
 unfolding headOf
 flags c =
-    let k = c .before .before .before in
+    let s = c .before .before in
+    let k = s .before .before in
     let r = c .read-u16-le2 in
-    then-field (schema (k .before .before)) (k .schema .given .1) u16Out (r .result) _ _ (r .ensures) (passes _ _ _ (eq-eqb _ _ (c .before .if1 .left)))
+    then-field (schema (k .before .before)) (k .version .given .1) u16Out (r .result) _ _ (r .ensures)
+    (passes _ _ _ (sym (s .is-schema .ensures) ∙ not-false (s .is-schema .result) (c .before .if1 .left)))
 
 abbrev source : tie.After-read-digest → Step Place (Out Head)
 unfolding headOf
@@ -71,11 +73,13 @@ read-head-spec =
     (λ c. let k = c .before .before in
     c .refused-head .ensures
     ∙ ap headBeside (ap refused (c .before .refuse .ensures) ∙ sym (told (schema (k .before .before)) (k .enum-told .given .1)))) (search needs)
-    (search needs)
-    (λ c. let k = c .before .before .before .before in
+    (search needs) (search needs)
+    (λ c. let s = c .before .before .before in
+    let k = s .before .before in
     c .refused-head2 .ensures
     ∙ ap headBeside (ap refused (c .before .refuse2 .ensures)
-    ∙ sym (told (schema (k .before .before)) (k .schema .given .1) ∙ fails _ _ _ (ne-eqb _ _ (c .before .before .if1 .taken))))) (search needs) (search needs)
+    ∙ sym (told (schema (k .before .before)) (k .version .given .1)
+    ∙ fails _ _ _ (sym (s .is-schema .ensures) ∙ not-true (s .is-schema .result) (c .before .before .if1 .taken))))) (search needs) (search needs)
     (search needs) (search needs) (search needs)
     (λ c. let k = c .before .before in
     c .refused-head3 .ensures

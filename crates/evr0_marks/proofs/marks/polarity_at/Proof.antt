@@ -7,8 +7,9 @@ use f.Tie as tie
 
 pub polarity-at-spec : {M : Type 1} → f.Statement.statement M
 polarity-at-spec =
-    tie.close (tie.spec (search needs) (search needs) (search needs) (search needs)
-    (λ c rules starts. let a = c .before .before .before .before .args in
-    polarity-there rules (a .payload .now) starts (layoutOut (a .tables)) (a .witness) (c .before .before .if1 .taken))
-    (λ c rules starts. let a = c .before .before .args in
+    tie.close (tie.spec (search needs) (search needs) (search needs)
+    (λ c rules starts. let w = c .before in
+    let a = w .before .before .before .before .args in
+    rw (w .witness-start .ensures .0) (polarity-there rules (a .payload .now) starts (layoutOut (a .tables)) (a .witness) (w .before .if1 .taken)))
+    (λ c rules starts. let a = c .before .before .before .args in
     polarity-none rules (a .payload .now) starts (layoutOut (a .tables)) (a .witness) (c .if1 .left)))

@@ -7,7 +7,7 @@ use Rattle.evr0.specs.Answer as unmarked
 use Rattle.rule_table.specs.ByTable.{Given}
 use Rattle.evr0.specs.AnswerMaps.{outcomeOut, answerOut, givenOut}
 use Rattle.evr0_marks.specs.Answer.{Lent, withMarks}
-use Rattle.evr0_marks.proofs.LeavesLaws.{cut-length, whole, none, due, some}
+use Rattle.evr0_marks.proofs.LeavesLaws.{cut-length, whole, none, due-of, some}
 use Rattle.evr0_marks.proofs.section.decode_evr0_section_by as f
 use f.Tie as tie
 
@@ -52,7 +52,7 @@ fill-marks-requires : tie.Need-fill-marks-requires
 fill-marks-requires c κs =
     let o = c .before .before .before .before in
     let d = decoded-at (o .before .before .before .before) in
-    due (which (shortest d)) _ _ (brought (shortest d)) (fewest d) (leaves d) (kept d) (ap outcomeOut (o .outcome .given .1))
+    due-of (which (shortest d)) _ _ (brought (shortest d)) (fewest d) (leaves d) (kept d) (ap outcomeOut (o .outcome .given .1))
 
 returns : tie.Need-returns
 returns c =
@@ -73,7 +73,7 @@ returns-2 c =
     let accepted = ap outcomeOut (o .outcome .given .1) in
     whole (which (shortest d)) _ _ (brought (shortest d)) (fewest d) (leaves d) (kept d) (l .clear-from .ensures)
     (some (which (shortest d)) _ _ (brought (shortest d)) (fewest d) (leaves d) (kept d) accepted
-    (k .fill-marks .ensures (due (which (shortest d)) _ _ (brought (shortest d)) (fewest d) (leaves d) (kept d) accepted)))
+    (k .fill-marks .ensures (due-of (which (shortest d)) _ _ (brought (shortest d)) (fewest d) (leaves d) (kept d) accepted)))
 
 pub decode-evr0-section-by-spec : {M : Type 1} → f.Statement.statement M
 decode-evr0-section-by-spec =

@@ -1,5 +1,5 @@
 -- Each turn is one step of the definition: what is answered from the witness reached on is the whole answer.
-use Prim.Native.Nat.{ℕ, _+_, _-_, _*_, _≤_}
+use Prim.Native.Nat.{ℕ, _+_, _-_, _≤_}
 use mathlib.Core.Path.{_≡_, sym, ap, ap₂, _∙_}
 use mathlib.Core.List.{List}
 use native.Mathlib.Omega.{arith}
@@ -13,7 +13,7 @@ use Rattle.derivation.proofs.Laws.{witnesses-none}
 use Rattle.evr0_fields.specs.Maps.{checkedOut}
 use Rattle.evr0_pass.specs.declared.pass.Layout.{Layout}
 use Rattle.evr0_pass.specs.declared.pass.SettledProof.{SettledProof}
-use Rattle.evr0_pass.specs.View.{witnessView}
+use Rattle.evr0_pass.specs.View.{widthIn, witnessView}
 use Rattle.evr0_pass.specs.Maps.{layoutOut, tablesIn, proofOut, suited}
 use Rattle.evr0_pass.proofs.ViewLaws.{witness-at}
 use Rattle.evr0_pass.proofs.WitnessLaws.{suits-turn, suits-refused}
@@ -37,8 +37,11 @@ abbrev μ-loop : tie.MeasureT-loop
 abbrev read-at : tie.After-suits Inv-loop μ-loop → tie.After-u32-at Inv-loop μ-loop
 read-at c = c .before .before
 
+abbrev placed-at : tie.After-suits Inv-loop μ-loop → tie.After-witness-start Inv-loop μ-loop
+placed-at c = read-at c .before .before .before
+
 abbrev loop-at : tie.After-suits Inv-loop μ-loop → tie.At-loop Inv-loop μ-loop
-loop-at c = read-at c .before .before .before .before .before
+loop-at c = placed-at c .before .before
 
 abbrev start-at : tie.After-suits Inv-loop μ-loop → tie.Start Inv-loop μ-loop
 start-at c = loop-at c .before .before .before .before
@@ -47,11 +50,14 @@ module _ (c : tie.After-suits Inv-loop μ-loop) (rules : List Rule) (name starts
   abbrev witness : derivation.Witness
   witness = derivation.witnessAt (tablesIn rules (start-at c .args .payload .now) starts (start-at c .args .tables)) (loop-at c .loop .witness)
 
-  witness-is : witness
-      ≡ witnessView (start-at c .args .payload .now) (start-at c .args .tables .«witnesses_at» + 84 * loop-at c .loop .witness)
+  abbrev width : ℕ
+  width = widthIn (start-at c .args .tables .«witness_size»)
+
+  witness-is : witness ≡ witnessView width (start-at c .args .payload .now) (placed-at c .witness-start .result)
   witness-is =
       let a = start-at c .args in
       witness-at rules (a .payload .now) starts (layoutOut (a .tables)) (loop-at c .loop .witness) (omega arith)
+      ∙ ap (witnessView width (a .payload .now)) (sym (placed-at c .witness-start .ensures .0))
 
   proposition-is : witness .proposition ≡ read-at c .u32-at .result
   unfolding witnessView
@@ -65,7 +71,7 @@ module _ (c : tie.After-suits Inv-loop μ-loop) (rules : List Rule) (name starts
       let p = proofOut name (a .proof) in
       ap₂ (λ (n q : ℕ). suited (p .rule) (p .proposition) n q) proposition-is
       (ap (λ (w : derivation.Witness). w .polarity) witness-is
-      ∙ sym (le-1 (a .payload .now) (a .tables .«witnesses_at» + 84 * loop-at c .loop .witness + 8)))
+      ∙ sym (le-1 (a .payload .now) (placed-at c .witness-start .result + 8)))
       ∙ sym (c .suits .ensures name)
 
 returns : tie.Need-returns Inv-loop μ-loop
@@ -89,7 +95,8 @@ witnesses-from-spec =
     tie.close (tie.spec Inv-loop μ-loop (search needs) (search needs) (search needs)
     (λ c. let a = c .before .before .before .args in
     let e : c .before .place .result + c .wide .result - c .before .place .result ≡ a .proof .«witness_count» = omega arith in
-    (omega arith, λ rules name starts. rw (e, c .before .place .ensures))) (search needs) (search needs) (search needs) (search needs) (search needs)
+    (omega arith, λ rules name starts. rw (e, c .before .place .ensures)))
+    (λ c κs. let s = c .before .before .before .before .before in (s .pre .0, omega arith)) (search needs) (search needs) (search needs)
     (search needs) (search needs) (search needs) returns (search needs) (search needs) (search needs)
     (λ c. let t = c .before .before in
     let a = start-at t .args in

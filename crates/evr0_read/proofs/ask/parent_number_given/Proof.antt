@@ -1,6 +1,7 @@
 -- The record at the place that was found is the one with the number; a refusal is handed on.
 use borrow.Author.Needs.{needs}
 use mathlib.Core.Path.{ap}
+use Rattle.evr0_section.specs.Witness.{parentRow}
 use Rattle.evr0_read.specs.Maps.{foundOut}
 use Rattle.evr0_read.proofs.TableLaws.{parent-read}
 use Rattle.evr0_read.proofs.AskLaws.{handed, read-there}
@@ -14,7 +15,7 @@ pub parent-number-given-spec : {M : Type 1} → f.Statement.statement M
 parent-number-given-spec =
     tie.close (tie.spec (search needs) (search needs) (search needs) (search needs) (search needs) (search needs) (search needs) (search needs)
     (λ c. let f = c .before .before .before in
-    read-there _ _ _ _ _ (found (f .before .before) .find .ensures) _ _ _ (λ r. r)
+    read-there _ _ _ _ _ (found (f .before .before) .find .ensures) (λ schema. parentRow tt) _ _ (λ r. r)
     (λ rules. parent-read rules _ _ _) (ap foundOut (f .found .given .1)) (c .before .payload-of .ensures) (c .parent-at .ensures))
     (search needs) (search needs) (search needs)
     (λ c. handed (found (c .before .before .before) .find .ensures) _ (λ r. r) (ap foundOut (c .before .found2 .given .1))))

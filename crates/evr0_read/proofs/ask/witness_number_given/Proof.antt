@@ -1,6 +1,8 @@
 -- The record at the place that was found is the one with the number; a refusal is handed on.
 use borrow.Author.Needs.{needs}
 use mathlib.Core.Path.{ap, _∙_}
+use Rattle.evr0_section.specs.Head.{spanWidth}
+use Rattle.evr0_section.specs.Witness.{witnessOf}
 use Rattle.evr0_read.proofs.AskLaws.{handed, read-there}
 use Rattle.evr0_read.specs.Maps.{foundOut, witnessBeside}
 use Rattle.evr0_read.proofs.TableLaws.{witness-read}
@@ -15,7 +17,7 @@ witness-number-given-spec =
     tie.close (tie.spec (search needs) (search needs) (search needs) (search needs) (search needs) (search needs) (search needs) (search needs)
     (search needs)
     (λ c. let f = c .before .before .before in
-    read-there _ _ _ _ _ (found (f .before .before) .find .ensures) _ _ _ witnessBeside
+    read-there _ _ _ _ _ (found (f .before .before) .find .ensures) (λ schema. witnessOf (spanWidth schema)) _ _ witnessBeside
     (λ rules. witness-read rules _ _ _) (ap foundOut (f .found .given .1)) (c .before .payload-of .ensures) (c .witness-at .ensures))
     (search needs) (search needs) (search needs)
     (λ c. let h = handed (found (c .before .before .before .before) .find .ensures) _ witnessBeside (ap foundOut (c .before .before .found2 .given .1)) in

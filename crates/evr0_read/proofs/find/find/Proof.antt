@@ -32,9 +32,9 @@ find-spec =
     let o = p .before .before .before in
     let k = o .before .before in
     let d = decoded k .decode-evr0-by in
-    let (section, is, end, counts) =
+    let (section, is, end, schema, counts) =
     answer-accepted _ _ (sym (ap (λ (a : Answer). a .outcome) (d .ensures .answer)) ∙ ap outcomeOut (o .outcome2 .given .1)) in
     finds-by _ _ _ _ is (d .ensures .tables)
     (record { propositions = d .kept .1 .1 .1 .1 .0; proofs = d .kept .1 .1 .1 .1 .1 .0; depths = d .kept .1 .1 .1 .1 .1 .1 .0 })
-    (w .settle .ensures) (start k .args .wanted) (p .payload-of .ensures) (ap (λ (a : Answer). a .cursor) (d .ensures .answer) ∙ end) counts
+    (w .settle .ensures) (start k .args .wanted) (p .payload-of .ensures) (ap (λ (a : Answer). a .cursor) (d .ensures .answer) ∙ end) schema counts
     (s .seek .ensures)))

@@ -2,9 +2,11 @@
 use mathlib.Core.Path.{refl, ap, sym, _∙_}
 use borrow.Author.Needs.{needs}
 use Rattle.local_format.specs.Out.{Out, refused}
-use Rattle.local_format.specs.Maps.{u8Out, u32Out}
+use Rattle.local_format.specs.Maps.{u8Out, u32Out, u64Out}
 use Rattle.local_format.specs.declared.field.U8.{U8}
 use Rattle.local_format.specs.declared.field.U32.{U32}
+use Rattle.local_format.specs.declared.field.U64.{U64}
+use Rattle.evr0_section.specs.Head.{spanWidth}
 use Rattle.evr0_section.specs.Rows.{Sized}
 use Rattle.evr0_section.specs.Witness.{WitnessRecord, witnessOf}
 use Rattle.evr0_fields.specs.Maps.{placeOut, digestIn}
@@ -17,7 +19,8 @@ use f.Tie as tie
 abbrev number : tie.After-read-u32-le → Step U32 (Out (Sized WitnessRecord))
 unfolding witnessOf
 number c =
-    reads-field (witnessOf 4 (c .before .before .args .tail .now)) u32Out (c .read-u32-le .result) _ _ (c .read-u32-le .ensures) refl
+    let a = c .before .before .args in
+    reads-field (witnessOf (spanWidth (a .schema)) (a .tail .now)) u32Out (c .read-u32-le .result) _ _ (c .read-u32-le .ensures) refl
 
 abbrev proposition : tie.After-read-u32-le2 → Step U32 (Out (Sized WitnessRecord))
 unfolding witnessOf
@@ -43,17 +46,17 @@ file c =
     let r = c .read-digest in
     then (zeros (k .before .before)) (k .zeros .given .1) (digestIn (r .result .bytes)) (r .result .place) _ (r .ensures .0) refl
 
-abbrev start : tie.After-read-u32-le3 → Step U32 (Out (Sized WitnessRecord))
+abbrev start : tie.After-read-span → Step U64 (Out (Sized WitnessRecord))
 unfolding witnessOf
 start c =
-    let r = c .read-u32-le3 in
-    then-field (file (c .before .before .before .before)) (c .before .before .file-place .given .1) u32Out (r .result) _ _ (r .ensures) refl
+    let r = c .read-span in
+    then-field (file (c .before .before .before .before)) (c .before .before .file-place .given .1) u64Out (r .result) _ _ (r .ensures) refl
 
-abbrev end : tie.After-read-u32-le4 → Step U32 (Out (Sized WitnessRecord))
+abbrev end : tie.After-read-span2 → Step U64 (Out (Sized WitnessRecord))
 unfolding witnessOf
 end c =
-    let r = c .read-u32-le4 in
-    then-field (start (c .before .before .before .before)) (c .before .before .start .given .1) u32Out (r .result) _ _ (r .ensures) refl
+    let r = c .read-span2 in
+    then-field (start (c .before .before .before .before)) (c .before .before .start .given .1) u64Out (r .result) _ _ (r .ensures) refl
 
 abbrev origin : tie.After-read-digest2 → Step Place (Out (Sized WitnessRecord))
 unfolding witnessOf

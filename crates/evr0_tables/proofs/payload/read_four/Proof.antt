@@ -10,6 +10,7 @@ use Rattle.local_format.specs.Maps.{refusalOut}
 use Rattle.local_format.proofs.OutLaws.{told}
 use Rattle.derivation.specs.Rule.{Rule}
 use Rattle.evr0_section.specs.Rows.{rows}
+use Rattle.evr0_section.specs.Head.{spanWidth}
 use Rattle.evr0_section.specs.Proposition.{first, propositionRow}
 use Rattle.evr0_section.specs.Proof.{noneOwned, proofRow}
 use Rattle.evr0_section.specs.Section.{Four, tablesAfter}
@@ -31,7 +32,7 @@ abbrev among : tie.After-read-propositions → List Rule
 among c = let a = start c .args in rulesIn (a .rules) (a .table .now) (a .places .now)
 
 abbrev whole : tie.After-read-propositions → Out Four
-whole c = let a = start c .args in tablesAfter (among c) (countsOut (a .counts)) (a .payload .now) (a .at)
+whole c = let a = start c .args in tablesAfter (among c) (spanWidth (a .schema)) (countsOut (a .counts)) (a .payload .now) (a .at)
 
 abbrev first-at : tie.After-first2 → tie.After-read-propositions
 first-at c = c .before .before .before .before
@@ -124,5 +125,5 @@ read-four-spec =
       not-false (i .before .all-owned .result) (i .if1 .left),
       told tableOut (r .before .before .read-rest .ensures) (r .rest2 .given .1),
     ) in
-    both-begun _ _ _ _ e (sym (first-is f)) (p .read-propositions .ensures .1)
+    both-begun _ _ _ _ _ e (sym (first-is f)) (p .read-propositions .ensures .1)
     (q .read-proofs .ensures .1)))

@@ -2,6 +2,7 @@
 use borrow.Author.Needs.{needs}
 use borrow.Author.Tests.{eq-eqb, ne-eqb}
 use Rattle.local_format.proofs.OutLaws.{told}
+use Rattle.evr0_section.specs.Head.{spanWidth}
 use Rattle.evr0_section.specs.Witness.{witnessRow}
 use Rattle.evr0_section.proofs.Inside.{witnessRowIn}
 use Rattle.evr0_tables.specs.Maps.{tableOut}
@@ -14,9 +15,10 @@ read-rest-spec =
     tie.close (tie.spec (search needs) (search needs) (search needs)
     (λ c. rw (rest-kept, ← c .before .before .read-witnesses .ensures, c .enum-told .given .1))
     (λ c κs. let r = c .before .before .before in
-    let s = r .before .before in (
+    let s = r .before .before in
+    let width = spanWidth (s .args .schema) in (
       s .pre .0,
-      next-within (witnessRow 4 _) (λ q u. witnessRowIn q 4 _ u) _ _ 0 _ (s .pre .1)
+      next-within (witnessRow width _) (λ q u. witnessRowIn q width _ u) _ _ 0 _ (s .pre .1)
           (told tableOut (r .read-witnesses .ensures) (c .before .witnesses .given .1)),
     )) (search needs) (search needs)
     (λ c. let w = c .before .before .before .before in
