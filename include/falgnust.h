@@ -27,7 +27,7 @@ extern "C" {
 
 /* The version of this header: ten thousand times the first number, a hundred times the second, and the third. The first rises where a
  * struct, an argument or an answer changes, and the second where something is added. */
-#define FALGNUST_VERSION 70000
+#define FALGNUST_VERSION 70100
 
 /* Layouts: the size of each struct below is that of the struct in crates/falgnust/src. */
 #define FALGNUST_SIZE(type, size) FALGNUST_ASSERT(sizeof(type) == (size), #type " has another layout")
@@ -402,6 +402,27 @@ FalgnustComparison falgnust_compare_sections(
     uint8_t *second_authorised, size_t second_authorised_len,
     uint8_t *verdicts, size_t verdicts_len);
 
+/* ---- Depth by rounds ---- */
+
+/* A check of the depths whose method fits on a card: in each round, counted from 1, it marks the proofs all of whose parents
+ * were marked in earlier rounds; a proof's depth is the round in which it is marked. */
+typedef struct FalgnustRounds {
+    bool accepted;
+    FalgnustRefusal refusal;
+    size_t proofs; /* how many there are, each of them marked */
+    size_t cursor; /* after the section; as it was brought where it is refused */
+} FalgnustRounds;
+FALGNUST_SIZE(FalgnustRounds, 40);
+
+/* The round of each proof goes to a lent table, beside those of the starts; 61 covers all three. It refuses as falgnust_decode_evr0_unmarked
+ * would without 27 to 29, so 25 or 26 of any proof comes first; then with 27 where a proof is unmarked after 256 rounds. No witness is asked
+ * of a proof (28, 29). Of a section that falgnust_decode_evr0_unmarked accepts, the rounds are its depths. */
+FalgnustRounds falgnust_depth_by_rounds(
+    const uint8_t *bytes, size_t bytes_len, size_t cursor,
+    uint64_t *propositions, size_t propositions_len,
+    uint64_t *proofs, size_t proofs_len,
+    uint64_t *rounds, size_t rounds_len);
+
 /* ---- Sections by loaded rules ----
  *
  * A table of rules takes the place of the four. As bytes: their count, 1 to 32, then of each rule its name as text (a 2-byte length and 1
@@ -506,6 +527,12 @@ FalgnustComparison falgnust_compare_sections_by_rules(
     uint8_t *second_marks, size_t second_marks_len,
     uint8_t *second_authorised, size_t second_authorised_len,
     uint8_t *verdicts, size_t verdicts_len);
+FalgnustRounds falgnust_depth_by_rounds_by_rules(
+    const uint8_t *rules, size_t rules_len,
+    const uint8_t *bytes, size_t bytes_len, size_t cursor,
+    uint64_t *propositions, size_t propositions_len,
+    uint64_t *proofs, size_t proofs_len,
+    uint64_t *rounds, size_t rounds_len);
 
 /* ---- Function blocks ----
  *

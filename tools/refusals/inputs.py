@@ -1,6 +1,6 @@
 """The inputs of docs/REFUSALS.md, as the tables there have them.
 
-An input is a row's cell `WORDS` with what is asked after it (rev N, room A B C, string N, from N, claim N, set N, held N `WORDS`, as rules, against
+An input is a row's cell `WORDS` with what is asked after it (rev N, room A B C, string N, from N, claim N, set N, held N `WORDS`, as rules, by rounds, against
 `WORDS`, ..); docs/REFUSALS.md says how words are read.
 """
 import dataclasses
@@ -12,14 +12,14 @@ DOCUMENT = os.path.join(TOP, "docs", "REFUSALS.md")
 KINDS = ("Invalid", "Limit", "Strings", "Debug", "Ownership", "Added", "Truncated", "Name", "Signature")
 BLOCK = (256, 8192, 65535, 4096)  # lent tables that are never too short
 SECTION = (65536, 65536, 65536)
-LONGEST = {"section": SECTION, "pair": SECTION, "block": BLOCK, "functions": (1024, *BLOCK), "locks": BLOCK, "rules": ()}
+LONGEST = {"section": SECTION, "pair": SECTION, "rounds": SECTION, "block": BLOCK, "functions": (1024, *BLOCK), "locks": BLOCK, "rules": ()}
 OF_LOCKS = ("claim", "lock", "part")
 
 
 @dataclasses.dataclass
 class Case:
     line: int  # of the document
-    form: str  # "section", "pair" (at cursor 0), "block" (at base 0), "functions" (from cursor 0), "locks" (a block that is claimed, or a register) or "rules"
+    form: str  # "section", "rounds", "pair" (at cursor 0), "block" (at base 0), "functions" (from cursor 0), "locks" (a block that is claimed, or a register) or "rules"
     data: bytes
     second: bytes  # the section that a pair's first is compared with, or None
     rules: bytes  # the table of rules that a section comes with, or None
@@ -141,6 +141,8 @@ def cases():
             form = "rules"
         if against:
             form = "pair"
+        if "by rounds" in rest:
+            form = "rounds"
         rooms, marks, authorised = rooms or LONGEST[form], None, None
         if form == "section" and len(rooms) > 4:
             *rooms, authorised = rooms

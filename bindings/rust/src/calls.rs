@@ -6,10 +6,12 @@ use crate::raw::*;
 mod compare;
 mod functions;
 mod locks;
+mod rounds;
 mod rules;
 pub use compare::*;
 pub use functions::*;
 pub use locks::*;
+pub use rounds::*;
 pub use rules::*;
 
 /// The tables that are lent for a section: the start of each proposition and of each proof in the payload, and each proof's depth.

@@ -2,8 +2,9 @@
 //! witnesses.
 //!
 //! Added beside the original: [`Evr0Error::number`], `Display` and `Error` for [`Evr0Error`], the records by number
-//! ([`proposition_number`], [`proof_number`], [`witness_number`], [`parent_number`]), [`way_down`], [`authorised`], [`authorised_table`] and
-//! [`marks`]; two sections compared ([`compare_sections`]); and all of them by other rules than the four ([`RuleTable`], [`RulesError`]).
+//! ([`proposition_number`], [`proof_number`], [`witness_number`], [`parent_number`]), [`way_down`], [`authorised`], [`authorised_table`],
+//! [`marks`] and [`depth_by_rounds`]; two sections compared ([`compare_sections`]); and all of them by other rules than the four ([`RuleTable`],
+//! [`RulesError`]).
 //!
 //! Otherwise than in the original, sections of schema 2 are read too, so that a witness's span has 64 bits under either schema, and a section
 //! says which it has ([`DecodedEvr0::schema`]). A caller that names these types sees it when it is compiled.
@@ -17,6 +18,7 @@ mod ask;
 mod compare;
 mod marks;
 mod records;
+mod rounds;
 mod rules;
 mod tables;
 
@@ -25,6 +27,7 @@ pub use compare::{
     CompareError, Compared, Comparison, Verdict, authorised_table, compare_sections,
 };
 pub use marks::marks;
+pub use rounds::depth_by_rounds;
 pub use rules::{RuleTable, RulesError};
 use tables::{Counted, Few};
 

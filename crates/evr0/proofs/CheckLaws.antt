@@ -76,7 +76,7 @@ places-read x e =
     let b = bind-ok x _ e in
     (b .0, b .1, ap (λ (y : Places). y .witnessesAt) (ok-same (b .2)), ap (λ (y : Places). y .parentsAt) (ok-same (b .2)))
 
-places-refused : (x : Out Four) (q : Refusal) → placesIn x ≡ refused q → x ≡ refused q
+pub places-refused : (x : Out Four) (q : Refusal) → placesIn x ≡ refused q → x ≡ refused q
 places-refused (ok t) q e = absurd (never (sym e))
 places-refused (refused r) q e = cc
 
@@ -98,7 +98,7 @@ module _ (rules : List Rule) (before after : Lent) (p : List ℕ) (schema : ℕ)
   abbrev four : Out Four
   four = tablesAfter rules (spanWidth schema) counts p at
 
-  same-tables : {x : Out Four} → four ≡ x → tablesAfter rules (spanWidth (there .head .schema)) (there .head .counts) p (there .head .next) ≡ x
+  pub same-tables : {x : Out Four} → four ≡ x → tablesAfter rules (spanWidth (there .head .schema)) (there .head .counts) p (there .head .next) ≡ x
   same-tables e = rw (there .is, there .same, there .next) e
 
   -- ---- Refused tables
@@ -112,17 +112,17 @@ module _ (rules : List Rule) (before after : Lent) (p : List ℕ) (schema : ℕ)
   -- ---- Tables that were read, with what the last pass makes of them
   module _ {size : ℕ} (sized : size ≡ witnessSize (spanWidth schema)) {ps qs : List ℕ} {g : Places}
       (r : Reads four (before .propositions) (before .proofs) ps qs (ok g)) where
-    f : Four
+    pub f : Four
     f = places-read four (sym (r .answer)) .0
 
-    four-is : four ≡ ok f
+    pub four-is : four ≡ ok f
     unfolding f
     four-is = places-read four (sym (r .answer)) .1
 
     of-head : tablesAfter rules (spanWidth (there .head .schema)) (there .head .counts) p (there .head .next) ≡ ok f
     of-head = same-tables four-is
 
-    read : tablesOf rules (roomOf before) p ≡ ok (whole (there .head) f)
+    pub read : tablesOf rules (roomOf before) p ≡ ok (whole (there .head) f)
     read = tables-are rules (roomOf before) p 0 (there .head) (there .read) f of-head
 
     total : length (startsOf (f .proofs .entries)) ≡ counts .proofs
@@ -148,7 +148,7 @@ module _ (rules : List Rule) (before after : Lent) (p : List ℕ) (schema : ℕ)
     pub named : RulesKnown rules p (take (counts .proofs) qs)
     named = rw starts-are (rules-known rules (roomOf before) p (whole (there .head) f) read)
 
-    viewed : view rules p (take (counts .proofs) qs) layout ≡ sectionOf (whole (there .head) f)
+    pub viewed : view rules p (take (counts .proofs) qs) layout ≡ sectionOf (whole (there .head) f)
     viewed = rw (starts-are, ← same-layout) (sym (section-view rules (roomOf before) p (whole (there .head) f) read))
 
     abbrev pass : Out (List ℕ)

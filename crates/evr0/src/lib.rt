@@ -1,3 +1,3 @@
 // Evidence sections (EVR0).
-mod frame;
+pub mod frame;
 pub mod section;

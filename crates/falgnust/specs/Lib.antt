@@ -5,3 +5,4 @@ pub mod CompareMaps
 pub mod EntryMaps
 pub mod FunctionMaps
 pub mod LockMaps
+pub mod RoundMaps

@@ -2,6 +2,7 @@
 pub mod authorised;
 pub mod authorised_all;
 pub mod block;
+pub mod by_rounds;
 pub mod compare;
 pub mod field;
 pub mod function;

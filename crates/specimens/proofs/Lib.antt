@@ -9,4 +9,5 @@ pub mod Friendly
 pub mod Front
 pub mod Each
 pub mod Chains
+pub mod ByRounds
 pub mod Needed

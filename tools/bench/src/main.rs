@@ -7,6 +7,7 @@ mod functions;
 mod locks;
 mod marks;
 mod measure;
+mod rounds;
 mod rows;
 mod rules;
 mod rust_crate;

@@ -54,6 +54,7 @@ pub fn all() -> Vec<Plan> {
     rows.extend(crate::marks::rows());
     rows.extend(crate::locks::rows());
     rows.extend(crate::rules::rows());
+    rows.extend(crate::rounds::rows());
     rows.extend(crate::compare::rows());
     rows.extend(crate::wide::rows());
     rows.extend(crate::asked::rows());

@@ -20,6 +20,7 @@ pub mod lock_compare;
 pub mod locks;
 pub mod marks;
 pub mod neighbours;
+pub mod rounds;
 pub mod rules;
 pub mod section_binding;
 pub mod section_compare;

@@ -3,6 +3,7 @@
 use super::ask::{answer, payload};
 use super::compare::{CompareError, Comparison, authorised_by, compared};
 use super::marks::marked;
+use super::rounds::rounds;
 use super::tables::lend;
 use super::{DecodedEvr0, Evr0Error, Proof, Proposition, WayDown, Witness, decoded, records};
 use crate::calls;
@@ -112,6 +113,13 @@ impl RuleTable {
     pub fn marks(&self, bytes: &[u8], cursor: usize) -> Result<Vec<u8>, Evr0Error> {
         marked(bytes, |lent, marks| {
             calls::decode_evr0_section_by_rules(&self.bytes, bytes, cursor, lent, marks)
+        })
+    }
+
+    /// The depth of each proof by rounds, as [`depth_by_rounds`](super::depth_by_rounds).
+    pub fn depth_by_rounds(&self, bytes: &[u8], cursor: usize) -> Result<Vec<u64>, Evr0Error> {
+        rounds(bytes, |lent| {
+            calls::depth_by_rounds_by_rules(&self.bytes, bytes, cursor, lent)
         })
     }
 

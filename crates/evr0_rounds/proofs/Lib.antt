@@ -1,0 +1,5 @@
+pub mod KinLaws
+pub mod MarkLaws
+pub mod FillLaws
+pub mod PayloadLaws
+pub mod LeavesLaws

@@ -1,0 +1,5 @@
+pub mod Rounds
+pub mod Height
+pub mod ByRounds
+pub mod InPlace
+pub mod Sample

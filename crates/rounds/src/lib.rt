@@ -1,0 +1,1 @@
+// Definitions and theorems only: the depths of an evidence section by rounds.
