@@ -6,6 +6,7 @@ falgnust: evidence sections and function tables of SemCode, shown by proved func
 
   falgnust section FILE        what an evidence section holds, as tables
   falgnust compare FILE FILE   two compilers' sections of the same sources, proposition by proposition
+  falgnust rounds FILE         the depths of a section's proofs, by a method that fits on a card
   falgnust page FILE           a section as one HTML page, with a picture of each derivation
   falgnust functions FILE      the functions of a file, with their tables
   falgnust block FILE          the tables of one function's block
@@ -57,6 +58,26 @@ Examples
   falgnust section examples/joined.evr0 --json
   falgnust section examples/diocese.evr0 --rules examples/diocese.rules
   cat examples/refused.evr0 | falgnust section -
+"
+        }
+        "rounds" => {
+            "\
+falgnust rounds FILE [--at N] [--rules FILE] [--json]
+
+The depths of a section's proofs by rounds. In each round, counted from 1, the proofs are marked all of whose parents were
+marked in earlier rounds; a proof's depth is the round in which it is marked.
+
+  --at N        the section's place in the file; 0 where it is not given
+  --rules FILE  a table of rules in the place of the four; where it is refused, no section is looked at
+  --json        for scripts, on standard output, a refusal too
+
+It refuses as falgnust section would without 27 to 29, then with 27 where a proof is unmarked after 256 rounds. Witnesses
+are not asked, so a section that is refused with 28 or 29 has its rounds.
+
+Examples
+  falgnust rounds examples/joined.evr0
+  falgnust rounds examples/joined.evr0 --json
+  falgnust rounds examples/diocese.evr0 --rules examples/diocese.rules
 "
         }
         "compare" => {

@@ -17,6 +17,7 @@ mod page;
 mod paint;
 mod progress;
 mod refusal;
+mod rounds;
 mod section;
 mod source;
 mod table;
@@ -81,6 +82,7 @@ fn run(answer: &mut Vec<u8>) -> Result<(), Stop> {
     match command.as_str() {
         "section" => section::run(args, answer),
         "compare" => compare::run(args, answer),
+        "rounds" => rounds::run(args, answer),
         "page" => page::run(args, answer),
         "functions" => functions::run(args, answer),
         "block" => block::run(args, answer),

@@ -47,6 +47,14 @@ impl Rules<'_> {
         }
     }
 
+    /// The round in which each proof is marked.
+    pub fn rounds(self, bytes: &[u8], at: usize) -> Result<Vec<u64>, Evr0Error> {
+        match self.0 {
+            None => evr0::depth_by_rounds(bytes, at),
+            Some(table) => table.depth_by_rounds(bytes, at),
+        }
+    }
+
     pub fn way_down(
         self,
         bytes: &[u8],
