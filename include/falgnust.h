@@ -27,7 +27,7 @@ extern "C" {
 
 /* The version of this header: ten thousand times the first number, a hundred times the second, and the third. The first rises where a
  * struct, an argument or an answer changes, and the second where something is added. */
-#define FALGNUST_VERSION 70100
+#define FALGNUST_VERSION 70200
 
 /* Layouts: the size of each struct below is that of the struct in crates/falgnust/src. */
 #define FALGNUST_SIZE(type, size) FALGNUST_ASSERT(sizeof(type) == (size), #type " has another layout")
@@ -51,14 +51,14 @@ enum {
 
 typedef struct FalgnustRefusal {
     uint8_t kind;
-    uint8_t number; /* 1 to 74; 0 in an accepted answer */
+    uint8_t number; /* 1 to 76; 0 in an accepted answer */
     size_t offset;
 } FalgnustRefusal;
 FALGNUST_SIZE(FalgnustRefusal, 16);
 
 /* The message of each number, in the Rust's words; after those of 31, 36 and 73 the Rust writes the count; 63, 64 and 72 have three each
- * there, and 71 two; it has none of 61, 62, 66 to 70 and 74. 0 stands for no refusal. */
-static const char *const FALGNUST_MESSAGES[75] = {
+ * there, and 71 two; it has none of 61, 62, 66 to 70 and 74 to 76. 0 stands for no refusal. */
+static const char *const FALGNUST_MESSAGES[77] = {
     "accepted",
     "missing mandatory EVR0 section",
     "EVR0 length truncated",
@@ -133,7 +133,9 @@ static const char *const FALGNUST_MESSAGES[75] = {
     "OWN0 or SIG0 section missing",
     "parameter count or family cut, or family unknown",
     "too many callable-signature parameters: ",
-    "source sets differ"
+    "source sets differ",
+    "number of a column in more groups than needed, or too large for its field",
+    "columns cut, or bytes left over after them"
 };
 
 /* ---- Evidence sections ----
@@ -533,6 +535,65 @@ FalgnustRounds falgnust_depth_by_rounds_by_rules(
     uint64_t *propositions, size_t propositions_len,
     uint64_t *proofs, size_t proofs_len,
     uint64_t *rounds, size_t rounds_len);
+
+/* ---- Sections by column ----
+ *
+ * A section written by column: its head, then each field of each table as a column, with counts, text lengths and whole numbers of 4 or 8 bytes
+ * in groups of seven bits. docs/COLUMNS.md has the layout. What is written of a section and the section itself give each other back, byte for
+ * byte; no other columns are of that section, and no other file is taken back.
+ *
+ * The lent tables are those of falgnust_decode_evr0_unmarked and hold what it leaves there: when taking back, of the section that is rebuilt. What is
+ * written goes to `output`, another table of bytes that is lent: the answer is the length, and the bytes past it are zeros. 61 at 0 says that the
+ * output is too short; after it, as after any refusal, every table and the output are zeros, whole.
+ *
+ * Lengths that are always enough:
+ *   - writing: len + len / 4 bytes of output for a section of len bytes (8 and its payload length), 5242890 for any; tables as above;
+ *   - taking back: 8 bytes of output and as many as the payload length says, which is bytes 4 to 7 of the columns as of the section, and is at
+ *     most 4194304; tables of so many by 15 propositions and by 35 proofs and depths, or of 65536 each. Columns that are of no section may be refused
+ *     with 61 there, and with another number where the output has 8 * columns_len bytes, which is enough for any. */
+
+typedef struct FalgnustColumns {
+    bool accepted;
+    FalgnustRefusal refusal;
+    size_t length; /* how many bytes were written */
+} FalgnustColumns;
+FALGNUST_SIZE(FalgnustColumns, 32);
+
+/* Writes the section at a cursor by column. Refused as falgnust_decode_evr0_unmarked refuses it, then with 61 at 0. Bytes before the cursor
+ * and behind the section are not written. */
+FalgnustColumns falgnust_write_columns(
+    const uint8_t *bytes, size_t bytes_len, size_t cursor,
+    uint64_t *propositions, size_t propositions_len,
+    uint64_t *proofs, size_t proofs_len,
+    uint64_t *depths, size_t depths_len,
+    uint8_t *output, size_t output_len);
+
+/* Writes the section that columns are of. Refused, in the order of the file: 75 a number in more groups than needed or too large for its field,
+ * at its first byte that no right number has there; 76 columns cut, at columns_len, or bytes left over, at the first. Then 61 at 0. Then as
+ * falgnust_decode_evr0_unmarked refuses the section that was rebuilt, at cursor 0: its offset is a place in that section, and its 61, which is never at
+ * 0, is of the other tables. */
+FalgnustColumns falgnust_take_columns(
+    const uint8_t *columns, size_t columns_len,
+    uint64_t *propositions, size_t propositions_len,
+    uint64_t *proofs, size_t proofs_len,
+    uint64_t *depths, size_t depths_len,
+    uint8_t *output, size_t output_len);
+
+/* Both by the rules of a table: 69 and 70 first, with every lent table and the output zeros. */
+FalgnustColumns falgnust_write_columns_by_rules(
+    const uint8_t *rules, size_t rules_len,
+    const uint8_t *bytes, size_t bytes_len, size_t cursor,
+    uint64_t *propositions, size_t propositions_len,
+    uint64_t *proofs, size_t proofs_len,
+    uint64_t *depths, size_t depths_len,
+    uint8_t *output, size_t output_len);
+FalgnustColumns falgnust_take_columns_by_rules(
+    const uint8_t *rules, size_t rules_len,
+    const uint8_t *columns, size_t columns_len,
+    uint64_t *propositions, size_t propositions_len,
+    uint64_t *proofs, size_t proofs_len,
+    uint64_t *depths, size_t depths_len,
+    uint8_t *output, size_t output_len);
 
 /* ---- Function blocks ----
  *

@@ -1,12 +1,13 @@
 """Writes a crate of theorems, each by computation: the definition gives the Rust's answer to one input.
 
-usage: theorems.py section|wide|block|functions|ruled|compared REPOSITORY < the lines of tools/sample"""
+usage: theorems.py section|wide|block|functions|ruled|compared|columns REPOSITORY < the lines of tools/sample"""
 import glob
 import os
 import re
 import sys
 
 import blocks
+import columns
 import compared
 import functions
 import ruled
@@ -34,7 +35,7 @@ def with_dependencies(repository, crate):
 
 def main():
     kind, repository = sys.argv[1:]
-    form = {"section": sections, "wide": sections, "block": blocks, "functions": functions, "ruled": ruled, "compared": compared}[kind]
+    form = {"section": sections, "wide": sections, "block": blocks, "functions": functions, "ruled": ruled, "compared": compared, "columns": columns}[kind]
     uses, names = [], list(form.NAMES)
     crates = with_dependencies(repository, form.CRATE)
     for crate in crates:

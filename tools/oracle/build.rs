@@ -13,7 +13,7 @@ use std::process::{Command, Stdio};
 
 const SUMS: &str = include_str!("sources.sha256");
 const MODULES: [&str; 3] = ["evr0", "local_format", "semcode_decode"];
-const PLAIN: [&str; 5] = ["compare", "locks", "marks", "rounds", "rules"];
+const PLAIN: [&str; 6] = ["columns", "compare", "locks", "marks", "rounds", "rules"];
 
 fn main() {
     println!("cargo::rerun-if-changed=build.rs");

@@ -1,7 +1,7 @@
 """The inputs of docs/REFUSALS.md, as the tables there have them.
 
 An input is a row's cell `WORDS` with what is asked after it (rev N, room A B C, string N, from N, claim N, set N, held N `WORDS`, as rules, by rounds, against
-`WORDS`, ..); docs/REFUSALS.md says how words are read.
+`WORDS`, as columns, by column, ..); docs/REFUSALS.md says how words are read.
 """
 import dataclasses
 import os
@@ -13,18 +13,20 @@ KINDS = ("Invalid", "Limit", "Strings", "Debug", "Ownership", "Added", "Truncate
 BLOCK = (256, 8192, 65535, 4096)  # lent tables that are never too short
 SECTION = (65536, 65536, 65536)
 LONGEST = {"section": SECTION, "pair": SECTION, "rounds": SECTION, "block": BLOCK, "functions": (1024, *BLOCK), "locks": BLOCK, "rules": ()}
+LONGEST["taken"] = LONGEST["written"] = (*SECTION, 1 << 22)  # with an output
 OF_LOCKS = ("claim", "lock", "part")
 
 
 @dataclasses.dataclass
 class Case:
     line: int  # of the document
-    form: str  # "section", "rounds", "pair" (at cursor 0), "block" (at base 0), "functions" (from cursor 0), "locks" (a block that is claimed, or a register) or "rules"
+    form: str  # "section", "rounds", "pair" (at cursor 0), "block" (at base 0), "functions" (from cursor 0), "locks" (a block that is claimed, or a register), "rules",
+    # "taken" (columns) or "written" (a section that is written by column)
     data: bytes
     second: bytes  # the section that a pair's first is compared with, or None
     rules: bytes  # the table of rules that a section comes with, or None
     revision: int  # of a block or file
-    rooms: tuple  # lengths of the lent tables: propositions, proofs, depths; or functions, of a file, strings, symbols, paths, families
+    rooms: tuple  # lengths of the lent tables: propositions, proofs, depths and, by column, output; or functions, of a file, strings, symbols, paths, families
     marks: int  # length of the table of marks where it differs from that of depths, or None
     authorised: int  # length of the table of authorised where it differs from that of propositions, or None
     verdicts: int  # length of the table of verdicts, or None
@@ -38,6 +40,13 @@ class Case:
     def by_rules(self):
         """Whether it is a table of rules, or comes with one."""
         return self.form == "rules" or self.rules is not None
+
+    def by_column(self):
+        return self.form in ("taken", "written")
+
+    def is_beside(self):
+        """Whether neither the Rust nor the replayed list has its call."""
+        return self.form in ("pair", "rounds") or self.by_column()
 
 
 def replayed(case):
@@ -143,6 +152,9 @@ def cases():
             form = "pair"
         if "by rounds" in rest:
             form = "rounds"
+        for words, of in ((" as columns", "taken"), (" by column", "written")):
+            if rest.startswith(words):
+                form = of
         rooms, marks, authorised = rooms or LONGEST[form], None, None
         if form == "section" and len(rooms) > 4:
             *rooms, authorised = rooms

@@ -3,11 +3,13 @@
 
 use crate::raw::*;
 
+mod columns;
 mod compare;
 mod functions;
 mod locks;
 mod rounds;
 mod rules;
+pub use columns::*;
 pub use compare::*;
 pub use functions::*;
 pub use locks::*;

@@ -3,8 +3,8 @@
 //!
 //! Added beside the original: [`Evr0Error::number`], `Display` and `Error` for [`Evr0Error`], the records by number
 //! ([`proposition_number`], [`proof_number`], [`witness_number`], [`parent_number`]), [`way_down`], [`authorised`], [`authorised_table`],
-//! [`marks`] and [`depth_by_rounds`]; two sections compared ([`compare_sections`]); and all of them by other rules than the four ([`RuleTable`],
-//! [`RulesError`]).
+//! [`marks`] and [`depth_by_rounds`]; two sections compared ([`compare_sections`]); sections by column ([`write_columns`], [`take_columns`]); and
+//! all of them by other rules than the four ([`RuleTable`], [`RulesError`]).
 //!
 //! Otherwise than in the original, sections of schema 2 are read too, so that a witness's span has 64 bits under either schema, and a section
 //! says which it has ([`DecodedEvr0::schema`]). A caller that names these types sees it when it is compiled.
@@ -15,6 +15,7 @@ use crate::raw;
 use std::fmt;
 
 mod ask;
+mod columns;
 mod compare;
 mod marks;
 mod records;
@@ -23,6 +24,7 @@ mod rules;
 mod tables;
 
 pub use ask::*;
+pub use columns::{ColumnsError, take_columns, write_columns};
 pub use compare::{
     CompareError, Compared, Comparison, Verdict, authorised_table, compare_sections,
 };

@@ -1,7 +1,7 @@
-//! Document 01's numbers and the messages of skulmakov-oss/Semantic, which has none of 69, 70 and 74.
+//! Document 01's numbers and the messages of skulmakov-oss/Semantic, which has none of 69, 70 and 74 to 76.
 
-/// Those of 31, 36 and 73 go on with the count; 63, 64 and 72 have three each, 71 two. 66 to 70 and 74 are not the original's.
-const MESSAGES: [(u8, &str); 79] = [
+/// Those of 31, 36 and 73 go on with the count; 63, 64 and 72 have three each, 71 two. 66 to 70 and 74 to 76 are not the original's.
+const MESSAGES: [(u8, &str); 81] = [
     (1, "missing mandatory EVR0 section"),
     (2, "EVR0 length truncated"),
     (3, "EVR0 payload exceeds bounded section budget or is empty"),
@@ -96,6 +96,11 @@ const MESSAGES: [(u8, &str); 79] = [
     (72, FAMILY_UNKNOWN),
     (73, "too many callable-signature parameters: "),
     (74, "source sets differ"),
+    (
+        75,
+        "number of a column in more groups than needed, or too large for its field",
+    ),
+    (76, "columns cut, or bytes left over after them"),
 ];
 
 pub const NAME_LENGTH_CUT: &str = "missing function name length";

@@ -8,6 +8,7 @@
 //! [`calls`](crate::calls) has the same functions on slices, without `unsafe`.
 
 mod block;
+mod columns;
 mod compare;
 mod functions;
 mod locks;
@@ -19,6 +20,7 @@ mod text;
 mod words;
 
 pub use block::*;
+pub use columns::*;
 pub use compare::*;
 pub use functions::*;
 pub use locks::*;

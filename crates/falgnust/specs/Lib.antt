@@ -5,4 +5,5 @@ pub mod CompareMaps
 pub mod EntryMaps
 pub mod FunctionMaps
 pub mod LockMaps
+pub mod ColumnMaps
 pub mod RoundMaps

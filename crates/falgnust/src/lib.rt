@@ -3,6 +3,7 @@ pub mod authorised;
 pub mod authorised_all;
 pub mod block;
 pub mod by_rounds;
+pub mod columns;
 pub mod compare;
 pub mod field;
 pub mod function;

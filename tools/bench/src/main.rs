@@ -2,6 +2,7 @@
 
 mod asked;
 mod blocks;
+mod columns;
 mod compare;
 mod functions;
 mod locks;

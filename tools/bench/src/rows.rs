@@ -57,6 +57,7 @@ pub fn all() -> Vec<Plan> {
     rows.extend(crate::rounds::rows());
     rows.extend(crate::compare::rows());
     rows.extend(crate::wide::rows());
+    rows.extend(crate::columns::rows());
     rows.extend(crate::asked::rows());
     rows.extend(crate::rust_crate::rows());
     rows

@@ -75,6 +75,11 @@ impl<'a> By<'a> {
         }
     }
 
+    /// Whether it is by the four, without a table.
+    pub fn is_four(&self) -> bool {
+        self.table.is_none()
+    }
+
     /// What the table is, to be told of a difference.
     pub fn told(&self) -> String {
         match self.table {
@@ -260,6 +265,40 @@ impl<'a> By<'a> {
         )
     }
 
+    pub fn write_columns(
+        &self,
+        file: &[u8],
+        cursor: usize,
+        lent: SectionTables,
+        output: &mut [u8],
+    ) -> raw::Columns {
+        call!(
+            self,
+            write_columns,
+            write_columns_by_rules,
+            file,
+            cursor,
+            lent,
+            output
+        )
+    }
+
+    pub fn take_columns(
+        &self,
+        columns: &[u8],
+        lent: SectionTables,
+        output: &mut [u8],
+    ) -> raw::Columns {
+        call!(
+            self,
+            take_columns,
+            take_columns_by_rules,
+            columns,
+            lent,
+            output
+        )
+    }
+
     // ---- The port, through the crate
 
     pub fn crate_section(
@@ -333,5 +372,16 @@ impl<'a> By<'a> {
 
     pub fn crate_authorised(&self, file: &[u8], cursor: usize, number: u32) -> Found<bool> {
         crate_call!(self, authorised, file, cursor, number)
+    }
+    pub fn crate_write_columns(
+        &self,
+        file: &[u8],
+        cursor: usize,
+    ) -> Result<Vec<u8>, evr0::Evr0Error> {
+        crate_call!(self, write_columns, file, cursor)
+    }
+
+    pub fn crate_take_columns(&self, columns: &[u8]) -> Result<Vec<u8>, evr0::ColumnsError> {
+        crate_call!(self, take_columns, columns)
     }
 }

@@ -8,6 +8,7 @@ pub mod block_compare;
 pub mod block_numbers;
 pub mod blocks;
 pub mod by;
+pub mod columns;
 pub mod compare;
 pub mod compare_call;
 pub mod fields;

@@ -2,8 +2,8 @@
 
 use differential::tally::{LEAST, Tally};
 use differential::{
-    authorised, blocks, compare, fields, four, functions, locks, marks, neighbours, rounds, rules,
-    sections, texts, utf8, wide,
+    authorised, blocks, columns, compare, fields, four, functions, locks, marks, neighbours,
+    rounds, rules, sections, texts, utf8, wide,
 };
 use inputs::random::Random;
 
@@ -15,7 +15,7 @@ const USAGE: &str = "usage: differential [--seed N] [--count N] [--part NAME]";
 /// The parts of a run: a name, and what tries so many random inputs.
 type Part = (&'static str, fn(&mut Random, usize) -> Tally);
 
-const PARTS: [Part; 15] = [
+const PARTS: [Part; 16] = [
     ("fields", |r, _| fields::run(r)),
     ("utf8", |_, _| utf8::run()),
     ("texts", texts::run),
@@ -28,6 +28,7 @@ const PARTS: [Part; 15] = [
     ("compare", compare::run),
     ("wide", wide::run),
     ("rounds", rounds::run),
+    ("columns", columns::run),
     ("blocks", blocks::run),
     ("functions", functions::run),
     ("locks", locks::run),
@@ -69,7 +70,8 @@ Marks and what they authorise have none either, nor have locks: they are compare
 Tables of rules have none either: they are compared with plain lines, and sections by other rules than the four with a model.
 Two sections held against each other have none either: they are compared with plain lines by two ordered maps.
 Schema 2 has none either: it is compared with a model, and where a section has a twin of schema 1 with the Rust's answer to that.
-Rounds have none either: they are compared with plain lines, and with the Rust's depths where it accepts.";
+Rounds have none either: they are compared with plain lines, and with the Rust's depths where it accepts.
+Sections by column have none either: they are compared with plain lines, and what is rebuilt from columns with the Rust or the model.";
 
 /// Whether every condition that can be reached was met often enough, and a tenth of the sections, of the blocks and of the files was accepted.
 fn enough(tallies: &[Tally]) -> bool {

@@ -1,7 +1,9 @@
 //! What a fuzzed input means: two bytes that choose, then the file or the block.
 //!
 //! The first byte: 0 a section in a file, 1 a payload, whose tag and length are put before it, 2 a block, 3 a file of functions, 4 a table of
-//! rules, the length of which stands before it in 2 bytes, and a payload, 5 two payloads to compare, the length of the first before it in 2 bytes. The second: in its low two bits a cursor or a base (0; 1; 1,000; 20
+//! rules, the length of which stands before it in 2 bytes, and a payload, 5 two payloads to compare, the length of the first before it in 2 bytes,
+//! 6 a column file, 7 a column file from its schema on, before which the tag and the payload length of its section are put. The second: in its low
+//! two bits a cursor or a base (0; 1; 1,000; 20
 //! below 2^64), and above them a revision.
 
 use differential::compare_call::Pair;
@@ -19,6 +21,7 @@ pub enum Case {
     Ruled(Vec<u8>, SectionCase),
     /// Two sections.
     Compared(Pair),
+    Columns(Vec<u8>),
 }
 
 const PLACES: [usize; 4] = [0, 1, 1000, usize::MAX - 20];
@@ -30,7 +33,7 @@ pub fn case(data: &[u8]) -> Option<Case> {
     };
     let place = PLACES[(choice & 3) as usize];
     let revision = REVISIONS[(choice >> 2) as usize % REVISIONS.len()];
-    match kind % 6 {
+    match kind % 8 {
         0 => Some(Case::Section(SectionCase {
             file: rest.to_vec(),
             cursor: place,
@@ -50,11 +53,13 @@ pub fn case(data: &[u8]) -> Option<Case> {
             let (table, payload) = two(rest)?;
             Some(Case::Ruled(table.to_vec(), framed(payload, place.min(1))?))
         }
-        _ => {
+        5 => {
             let (first, second) = two(rest)?;
             let pair = Pair::new(framed(first, 0)?, framed(second, place.min(1))?);
             Some(Case::Compared(pair))
         }
+        6 => Some(Case::Columns(rest.to_vec())),
+        _ => Some(Case::Columns(with_length(rest))),
     }
 }
 
@@ -62,6 +67,16 @@ pub fn case(data: &[u8]) -> Option<Case> {
 fn two(rest: &[u8]) -> Option<(&[u8], &[u8])> {
     let (length, rest) = rest.split_first_chunk()?;
     rest.split_at_checked(u16::from_le_bytes(*length).into())
+}
+
+/// Columns with the tag and the payload length of the section that they give; with any length where they give none.
+fn with_length(rest: &[u8]) -> Vec<u8> {
+    let mut file = [b"EVR0\0\0\0\0", rest].concat();
+    if let Ok(section) = oracle::columns::take(&file) {
+        let length = section.len() as u32 - 8;
+        file[4..8].copy_from_slice(&length.to_le_bytes());
+    }
+    file
 }
 
 /// A payload with tag and length before it, at a cursor.
@@ -102,6 +117,10 @@ pub fn bytes(case: &Case) -> Vec<u8> {
             let length = (first.len() as u16).to_le_bytes();
             joined([5, 0], &[&length[..], first, second].concat())
         }
+        Case::Columns(file) => match file.split_at_checked(8) {
+            Some((_, rest)) if with_length(rest) == *file => joined([7, 0], rest),
+            _ => joined([6, 0], file),
+        },
     }
 }
 

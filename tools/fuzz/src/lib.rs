@@ -7,8 +7,9 @@ pub use input::{Case, by_rules, bytes, case, of_one_pool};
 
 use differential::by::By;
 use differential::tally::Tally;
-use differential::{block_compare, block_numbers, marks, rules, section_compare, section_numbers};
+use differential::{block_compare, block_numbers, columns, marks, rules};
 use differential::{compare as pairs, function_compare, function_numbers};
+use differential::{section_compare, section_numbers};
 
 /// Tries one input.
 ///
@@ -36,6 +37,7 @@ fn compare(case: &Case) {
             section_compare::compare_by(&mut tally, case, by);
             section_numbers::compare_by(&mut tally, case, &rust, by);
             marks::compare(&mut tally, case, by, &rust);
+            columns::write(&mut tally, By::FOUR, case);
         }
         Case::Block(case) => {
             let rust = oracle::block::block(&case.code, case.base, case.revision);
@@ -49,6 +51,7 @@ fn compare(case: &Case) {
         }
         Case::Ruled(table, case) => rules::compare(&mut tally, table, case),
         Case::Compared(pair) => pairs::compare(&mut tally, pair, By::FOUR),
+        Case::Columns(file) => columns::take(&mut tally, By::FOUR, file),
     }
     assert_eq!(tally.differences(), 0, "differences from the Rust");
 }

@@ -5,6 +5,7 @@ pub mod block;
 pub mod block_conditions;
 pub mod block_faults;
 pub mod cases;
+pub mod columns;
 pub mod compared;
 pub mod function_conditions;
 pub mod function_faults;

@@ -5,9 +5,12 @@
 //!     functions HEX CURSOR REVISION TAB ANSWER
 //!     ruled TABLE HEX CURSOR TAB ANSWER
 //!     compared HEX CURSOR HEX CURSOR ROOM TAB ANSWER
+//!     columns rebuilt HEX TAB ANSWER
+//!     columns columnsOf HEX TAB ANSWER
 //!
-//! The last are sections by the rules of a table, from the model and the plain lines, and pairs of sections with room for so many verdicts, from the
-//! plain lines. Either so many for each refusal number and condition that random inputs reach, or the inputs of fixed.rs, or those that standard input
+//! `ruled` are sections by the rules of a table, from the model and the plain lines; `compared` pairs of sections with room for so many verdicts, and
+//! `columns` column files with the bytes that they give, and sections with their columns, both from the plain lines. Either so many for each refusal
+//! number and condition that random inputs reach, or the inputs of fixed.rs, or those that standard input
 //! has, a line each, as they are printed.
 
 mod fixed;
@@ -22,7 +25,7 @@ use oracle::section::{Judge, schema};
 use std::collections::BTreeMap;
 
 const USAGE: &str =
-    "usage: sample section|wide|block|functions|ruled|compared SEED EACH LONGEST [ACCEPTED]
+    "usage: sample section|wide|block|functions|ruled|compared|columns SEED EACH LONGEST [ACCEPTED]
        sample fixed
        sample given";
 
@@ -55,6 +58,7 @@ fn random(form: &str, seed: usize, picked: Picked, longest: usize) {
         "functions" => files(seed, picked, longest),
         "ruled" => ruled(seed, picked, longest),
         "compared" => pairs(seed, picked, longest),
+        "columns" => columns(seed, picked, longest),
         _ => usage(),
     }
 }
@@ -245,6 +249,33 @@ fn pairs(seed: usize, mut picked: Picked, longest: usize) {
             };
             let (first, second) = (hex(&first), hex(&second));
             println!("compared {first} 0 {second} {cursor} {room}\t{answer}");
+        }
+    }
+}
+
+/// Column files, and what each gives; of those that give a section the columns of that.
+fn columns(seed: usize, mut picked: Picked, longest: usize) {
+    let mut r = Random::new(seed as u64);
+    for _ in 0..TRIES {
+        let file = inputs::columns::small(&mut r);
+        if file.len() > longest {
+            continue;
+        }
+        let taken = oracle::columns::take(&file);
+        let (number, condition) = match &taken {
+            Ok(_) => (0, ""),
+            Err((number, _, why)) => (*number, *why),
+        };
+        if !picked.wants(number, condition) {
+            continue;
+        }
+        let answer = match &taken {
+            Ok(section) => format!("ok {}", hex(section)),
+            Err((number, offset, _)) => format!("refused Added {number} {offset}"),
+        };
+        println!("columns rebuilt {}\t{answer}", hex_or_none(&file));
+        if let Ok(section) = taken {
+            println!("columns columnsOf {}\tok {}", hex(&section), hex(&file));
         }
     }
 }

@@ -54,6 +54,31 @@ impl Counted {
     }
 }
 
+/// Tables that no section of so many bytes has more entries for: a proposition takes 15 bytes at least, and a proof 35.
+pub struct Fitted {
+    propositions: Vec<u64>,
+    proofs: Vec<u64>,
+    depths: Vec<u64>,
+}
+
+impl Fitted {
+    pub fn new(section: usize) -> Self {
+        Fitted {
+            propositions: vec![0; section / 15],
+            proofs: vec![0; section / 35],
+            depths: vec![0; section / 35],
+        }
+    }
+
+    pub fn lent(&mut self) -> SectionTables<'_> {
+        SectionTables {
+            propositions: &mut self.propositions,
+            proofs: &mut self.proofs,
+            depths: &mut self.depths,
+        }
+    }
+}
+
 /// The answer of a call that lends tables.
 pub fn lend<T>(bytes: &[u8], call: impl Fn(SectionTables) -> Read<T>) -> Read<T> {
     match call(Few::default().lent()) {

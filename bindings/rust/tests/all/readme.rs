@@ -13,4 +13,5 @@ fn readme_shows_the_examples() {
     assert!(shown(include_str!("../../examples/locks.rs")));
     assert!(shown(include_str!("../../examples/rules.rs")));
     assert!(shown(include_str!("../../examples/compare.rs")));
+    assert!(shown(include_str!("../../examples/columns.rs")));
 }

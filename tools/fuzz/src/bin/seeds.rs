@@ -1,15 +1,16 @@
-//! Writes a corpus to start from: the specimens' shapes, and small sections, blocks, files of functions and tables of rules, of which
-//! most have a fault, and pairs of sections.
+//! Writes a corpus to start from: the specimens' shapes, and small sections, blocks, files of functions, tables of rules and column
+//! files, of which most have a fault, and pairs of sections.
 
 use fuzz::{Case, by_rules, bytes, of_one_pool};
 use inputs::block::{self, REVISIONS};
 use inputs::cases::{self, BlockCase, SectionCase};
+use inputs::columns;
 use inputs::random::Random;
 use inputs::shapes;
 use inputs::wide::wide;
 use std::path::Path;
 
-/// So many random sections of each schema, and as many blocks, files of functions and tables of rules.
+/// So many random sections of each schema, and as many blocks, files of functions, tables of rules and column files.
 const EACH: usize = 300;
 
 fn main() -> std::io::Result<()> {
@@ -42,6 +43,7 @@ fn main() -> std::io::Result<()> {
         all.push(Case::Functions(cases::functions(r)));
         all.push(by_rules(r));
         all.push(of_one_pool(r));
+        all.push(Case::Columns(columns::small(r)));
     }
     for (number, case) in all.iter().enumerate() {
         std::fs::write(Path::new(&folder).join(number.to_string()), bytes(case))?;

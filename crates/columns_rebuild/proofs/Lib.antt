@@ -1,0 +1,4 @@
+pub mod ColumnLaws
+pub mod RowLaws
+pub mod TookLaws
+pub mod HeadLaws

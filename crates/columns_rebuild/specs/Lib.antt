@@ -1,0 +1,3 @@
+pub mod Stand
+pub mod Took
+pub mod Maps

@@ -1,0 +1,5 @@
+// The section of a column file: each table by its columns first, then row by row, one value from each column's cursor.
+mod head;
+mod row;
+pub mod section;
+mod table;

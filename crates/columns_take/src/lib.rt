@@ -1,0 +1,2 @@
+// Columns taken back.
+pub mod take;

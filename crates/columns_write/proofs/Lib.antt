@@ -1,0 +1,3 @@
+pub mod ReadyLaws
+pub mod CopyLaws
+pub mod WriteLaws

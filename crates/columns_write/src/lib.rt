@@ -1,0 +1,2 @@
+// Sections written as their columns.
+pub mod write;
