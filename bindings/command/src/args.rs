@@ -24,6 +24,14 @@ impl Args {
         Ok(self.words.remove(0).to_string_lossy().into_owned())
     }
 
+    /// The next word, which says `what`.
+    pub fn word(&mut self, what: &str) -> Result<String, Stop> {
+        if self.words.is_empty() {
+            return Err(failed(format!("which {what}?")));
+        }
+        Ok(self.words.remove(0).to_string_lossy().into_owned())
+    }
+
     /// Whether an option stands among the words.
     pub fn flag(&mut self, name: &str) -> bool {
         let at = self.words.iter().position(|word| word == name);

@@ -79,6 +79,7 @@ fn call(refusals: &Refusals, row: &Row) -> Option<String> {
         "Sections" => format!("section - --{asked}"),
         "Blocks" => format!("block - --revision {revision}"),
         "Files of functions" => format!("functions - --at 0 --revision {revision}"),
+        "Sections by column" if asked == "as columns" => "columns take -".to_owned(),
         "Tables of rules" if asked == "as rules" => "section /dev/null --rules -".to_owned(),
         _ => return None,
     };

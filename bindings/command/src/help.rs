@@ -8,6 +8,7 @@ falgnust: evidence sections and function tables of SemCode, shown by proved func
   falgnust compare FILE FILE   two compilers' sections of the same sources, proposition by proposition
   falgnust rounds FILE         the depths of a section's proofs, by a method that fits on a card
   falgnust page FILE           a section as one HTML page, with a picture of each derivation
+  falgnust columns WAY FILE    a section written by column, or taken back from columns
   falgnust functions FILE      the functions of a file, with their tables
   falgnust block FILE          the tables of one function's block
   falgnust locks SCRIPT        claims and releases, one after the other
@@ -114,6 +115,25 @@ nothing.
 
 Example
   falgnust page examples/joined.evr0 > page.html
+"
+        }
+        "columns" => {
+            "\
+falgnust columns write FILE [--at N] [--rules FILE] > columns
+falgnust columns take FILE [--rules FILE] > section
+
+The section at a place written by column: its head, then all kinds, all owners, and on, with numbers in groups of seven
+bits; or the section that a column file is of, byte for byte. docs/COLUMNS.md has the layout.
+
+  --at N        the section's place in the file; 0 where it is not given; columns start where their file does
+  --rules FILE  a table of rules in the place of the four
+
+A refusal of columns, 75 or 76, has a place in them. Any other is of the section that was rebuilt from them, and so is
+its place; no file has that section.
+
+Examples
+  falgnust columns write examples/joined.evr0 > columns
+  falgnust columns take examples/accepted.columns > section
 "
         }
         "functions" => {

@@ -5,6 +5,7 @@
 
 mod args;
 mod block;
+mod columns;
 mod compare;
 mod document;
 mod explain;
@@ -86,6 +87,7 @@ fn run(answer: &mut Vec<u8>) -> Result<(), Stop> {
         "page" => page::run(args, answer),
         "functions" => functions::run(args, answer),
         "block" => block::run(args, answer),
+        "columns" => columns::run(args, answer),
         "locks" => locks::run(args, answer),
         "explain" => explain::run(args, answer),
         other => Err(Stop::Failed(format!(

@@ -7,7 +7,7 @@ use crate::json::Json;
 use crate::paint::{Paint, Style};
 use crate::source::Source;
 use falgnust::calls;
-use falgnust::evr0::{CompareError, Evr0Error, Evr0ErrorKind, RulesError};
+use falgnust::evr0::{ColumnsError, CompareError, Evr0Error, Evr0ErrorKind, RulesError};
 use falgnust::locks::ClaimError;
 use falgnust::semcode_decode::DecodeError;
 
@@ -19,6 +19,8 @@ pub struct Refusal {
     offset: usize,
     /// The Rust's words, which tell causes apart that share a number; none for what the Rust does not have.
     message: Option<String>,
+    /// Whether the offset is a place of the bytes that were read.
+    is_place: bool,
 }
 
 impl Refusal {
@@ -28,6 +30,7 @@ impl Refusal {
         number: 62,
         offset: 0,
         message: None,
+        is_place: false,
     };
 
     /// With what was refused: its bytes, and the headings of docs/REFUSALS.md that speak of it.
@@ -50,6 +53,28 @@ impl From<Evr0Error> for Refusal {
             number: error.number().expect("a number of every refusal"),
             offset: error.offset,
             message: Some(error.message.to_owned()),
+            is_place: true,
+        }
+    }
+}
+
+impl From<ColumnsError> for Refusal {
+    fn from(error: ColumnsError) -> Self {
+        let number = error.number().expect("a number of every refusal");
+        let offset = error.offset();
+        match error {
+            // no file has the section that was rebuilt
+            ColumnsError::Section(error) => Refusal {
+                is_place: false,
+                ..error.into()
+            },
+            _ => Refusal {
+                kind: "Added",
+                number,
+                offset,
+                message: None,
+                is_place: true,
+            },
         }
     }
 }
@@ -61,6 +86,7 @@ impl From<RulesError> for Refusal {
             number: error.number().expect("a number of every refusal"),
             offset: error.offset,
             message: None,
+            is_place: false,
         }
     }
 }
@@ -74,6 +100,7 @@ impl From<CompareError> for Refusal {
                 number: SOURCE_SETS,
                 offset,
                 message: None,
+                is_place: true,
             },
         }
     }
@@ -89,6 +116,7 @@ impl From<DecodeError> for Refusal {
             number: error.number().expect("a number of every refusal"),
             offset,
             message: Some(message.strip_suffix(&place).unwrap_or(&message).to_owned()),
+            is_place: true,
         }
     }
 }
@@ -103,12 +131,13 @@ impl From<ClaimError> for Refusal {
                 number,
                 offset: 0,
                 message: None,
+                is_place: false,
             },
         }
     }
 }
 
-/// The refusal of two sections whose source sets differ: the one of those added whose offset is a place in the file.
+/// The refusal of two sections whose source sets differ, at a place in the second file.
 const SOURCE_SETS: u8 = 74;
 
 /// The refusal of a section whose tag is not at its place.
@@ -184,6 +213,7 @@ impl Refused {
             number,
             offset,
             message,
+            is_place,
         } = &self.refusal;
         let name = format!("{:?}", self.source.name);
         let refused = paint.text(Style::Red, &format!("refused {number} at {offset}"));
@@ -191,11 +221,13 @@ impl Refused {
         if let Some(message) = message {
             told += &format!("  in the Rust's words: {message}\n");
         }
-        if *number == NO_TAG {
+        if *number == NO_TAG && *is_place {
             told += &tags(&self.source.bytes);
         }
-        if *kind != "Added" || *number == SOURCE_SETS {
+        if *is_place {
             told += &hex::around(&self.source.bytes, *offset, paint);
+        } else if *kind != "Added" {
+            told += "  the place is one in the section that is rebuilt from the columns\n";
         }
         told
     }
@@ -207,6 +239,7 @@ impl Refused {
             number,
             offset,
             message,
+            ..
         } = &self.refusal;
         [
             ("accepted", false.into()),
