@@ -116,7 +116,7 @@ fn at_start(section: Section) -> SectionCase {
 
 /// Sections in which it counts which of two faults is named, and the last round.
 fn forced(r: &mut Random) -> Section {
-    match r.below(8) {
+    match r.below(9) {
         0 => shapes::chain(r, 256),
         1 => shapes::chain(r, 257),
         // 25 or 26 of a proof after the 257th
@@ -148,6 +148,12 @@ fn forced(r: &mut Random) -> Section {
             s.join(0, 1);
             s.proofs[2].authority = 8;
             s.parents[1] = r.below(4) as u32 * 2;
+            s
+        }
+        // 25 of a join of a proof with itself
+        6 => {
+            let mut s = marked::ruling(r);
+            s.join(0, 0);
             s
         }
         // 28 and 29
