@@ -270,9 +270,9 @@ def entry(line, rooms=None):
 
 
 def of_refusals():
-    """The inputs of docs/REFUSALS.md that no record is asked of by its number, and no marks, that are no pair and bring no table of rules."""
+    """The inputs of docs/REFUSALS.md that no record is asked of by its number, and no marks, that are no pair, no rounds and no columns and bring no table of rules."""
     for case in inputs.cases():
-        if not case.asked and case.marks is None and not case.by_rules() and case.form != "pair":
+        if not case.asked and case.marks is None and not case.by_rules() and not case.is_beside():
             rooms = None if case.rooms == inputs.LONGEST[case.form] else inputs.replayed(case)
             yield (case.form, case.data, 0, *((case.revision,) if case.form != "section" else ()), rooms)
 
