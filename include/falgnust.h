@@ -27,7 +27,7 @@ extern "C" {
 
 /* The version of this header: ten thousand times the first number, a hundred times the second, and the third. The first rises where a
  * struct, an argument or an answer changes, and the second where something is added. */
-#define FALGNUST_VERSION 70200
+#define FALGNUST_VERSION 70300
 
 /* Layouts: the size of each struct below is that of the struct in crates/falgnust/src. */
 #define FALGNUST_SIZE(type, size) FALGNUST_ASSERT(sizeof(type) == (size), #type " has another layout")
@@ -733,6 +733,12 @@ FalgnustText falgnust_read_string(const uint8_t *bytes, size_t bytes_len, size_t
 FalgnustSymbol falgnust_read_debug_symbol(const uint8_t *code, size_t code_len, size_t at);
 FalgnustPath falgnust_read_path(const uint8_t *code, size_t code_len, size_t at, uint16_t header_rev);
 FalgnustComponent falgnust_read_component(const uint8_t *code, size_t code_len, size_t at, uint16_t header_rev, uint8_t kind);
+
+/* The words of the paths of a block that start at these places: event, site, root, how many components, as in FalgnustPath, and a word for each
+ * component, kind + 4 * first + 17179869184 * second, as in FalgnustParts. As many paths as are there and fit, from the first on: how many, and
+ * zeros past their words. A path takes 4 words and one for each component. */
+size_t falgnust_path_words(
+    const uint8_t *code, size_t code_len, uint16_t header_rev, const uint64_t *starts, size_t starts_len, uint64_t *words, size_t words_len);
 
 /* A record by its number. Each call decodes the block anew first, with the refusals and the tables of the block's decoder, base_offset in
  * their offsets, and room for 8192 symbols; a number that is not below its count is then refused with 62 at 0. */

@@ -327,6 +327,22 @@ pub fn text_words(bytes: &[u8], starts: &[u64], words: &mut [u64]) -> bool {
     of_starts(falgnust_text_words, bytes, starts, words)
 }
 
+/// The words of the paths of a block that start at these places, as many paths as fit: how many.
+#[inline]
+pub fn path_words(code: &[u8], header_rev: u16, starts: &[u64], words: &mut [u64]) -> usize {
+    unsafe {
+        falgnust_path_words(
+            code.as_ptr(),
+            code.len(),
+            header_rev,
+            starts.as_ptr(),
+            starts.len(),
+            words.as_mut_ptr(),
+            words.len(),
+        )
+    }
+}
+
 /// A word of each parent cell from a place on.
 #[inline]
 pub fn parent_words(payload: &[u8], at: usize, words: &mut [u64]) -> bool {

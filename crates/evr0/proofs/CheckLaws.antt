@@ -21,9 +21,9 @@ use Rattle.evr0_section.proofs.SectionWithin.{head-end}
 use Rattle.evr0_head.specs.Checks.{Limited}
 use Rattle.evr0_head.proofs.HeadLaws.{limited}
 use Rattle.evr0_tables.specs.PayloadMaps.{Places, placesIn, proofStartsIn, Reads}
-use Rattle.evr0_pass.specs.View.{Layout, TablesThere, RulesKnown, view}
+use Rattle.evr0_pass.specs.View.{Layout, TablesThere, PolaritiesThere, view}
 use Rattle.evr0_pass.specs.Maps.{doneIn, depthsIn, Derives}
-use Rattle.evr0_pass.proofs.ViewOf.{layoutOf, section-view, tables-there, rules-known, starts-total}
+use Rattle.evr0_pass.proofs.ViewOf.{layoutOf, section-view, tables-there, polarities-there, starts-total}
 use Rattle.evr0.specs.Answer.{Lent, roomOf}
 use Rattle.evr0.specs.Steps.{payloadIn, HeadThere, Passes}
 use Rattle.evr0.proofs.AnswerLaws.{refusal-passes}
@@ -81,7 +81,7 @@ places-refused (ok t) q e = absurd (never (sym e))
 places-refused (refused r) q e = cc
 
 -- what `read_tables` left, by the variant that was found
-pub reads-as : {x : Out Four} {ps qs ps′ qs′ : List ℕ} {g h : Out Places} → Reads x ps qs ps′ qs′ g → g ≡ h → Reads x ps qs ps′ qs′ h
+pub reads-as : {x : Out Four} {ps qs ps′ qs′ ks : List ℕ} {g h : Out Places} → Reads x ps qs ps′ qs′ ks g → g ≡ h → Reads x ps qs ps′ qs′ ks h
 reads-as r e = rw e at r
 
 pass-refused : (x : Out (List ℕ)) {q : Refusal} → doneIn x ≡ refused q → x ≡ refused q
@@ -102,7 +102,7 @@ module _ (rules : List Rule) (before after : Lent) (p : List ℕ) (schema : ℕ)
   same-tables e = rw (there .is, there .same, there .next) e
 
   -- ---- Refused tables
-  pub tables-refused : {ps qs : List ℕ} {q : Refusal} → Reads four (before .propositions) (before .proofs) ps qs (refused q) → after .propositions ≡ ps
+  pub tables-refused : {ps qs ks : List ℕ} {q : Refusal} → Reads four (before .propositions) (before .proofs) ps qs ks (refused q) → after .propositions ≡ ps
       → after .proofs ≡ qs → after .depths ≡ lent (length (before .depths)) [] → (end : ℕ) → Passes (payloadIn rules before p end) before after (refused q)
   tables-refused {q = q} r ep eq d end =
       let x = places-refused four q (sym (r .answer)) in
@@ -110,8 +110,8 @@ module _ (rules : List Rule) (before after : Lent) (p : List ℕ) (schema : ℕ)
       (record { propositions = ep ∙ r .propositions ∙ rw x; proofs = eq ∙ r .proofs ∙ rw x; depths = d })
 
   -- ---- Tables that were read, with what the last pass makes of them
-  module _ {size : ℕ} (sized : size ≡ witnessSize (spanWidth schema)) {ps qs : List ℕ} {g : Places}
-      (r : Reads four (before .propositions) (before .proofs) ps qs (ok g)) where
+  module _ {size : ℕ} (sized : size ≡ witnessSize (spanWidth schema)) {ps qs ks : List ℕ} {g : Places}
+      (r : Reads four (before .propositions) (before .proofs) ps qs ks (ok g)) where
     pub f : Four
     f = places-read four (sym (r .answer)) .0
 
@@ -145,8 +145,8 @@ module _ (rules : List Rule) (before after : Lent) (p : List ℕ) (schema : ℕ)
     pub may-derive : TablesThere p (take (counts .proofs) qs) layout
     may-derive = rw (starts-are, ← same-layout) (tables-there rules (roomOf before) p (whole (there .head) f) read)
 
-    pub named : RulesKnown rules p (take (counts .proofs) qs)
-    named = rw starts-are (rules-known rules (roomOf before) p (whole (there .head) f) read)
+    pub polarities : PolaritiesThere rules p (take (counts .proofs) qs) ks
+    polarities = rw starts-are (polarities-there rules (roomOf before) p (whole (there .head) f) read ks (rw four-is at (r .polarities)))
 
     pub viewed : view rules p (take (counts .proofs) qs) layout ≡ sectionOf (whole (there .head) f)
     viewed = rw (starts-are, ← same-layout) (sym (section-view rules (roomOf before) p (whole (there .head) f) read))
@@ -158,9 +158,9 @@ module _ (rules : List Rule) (before after : Lent) (p : List ℕ) (schema : ℕ)
     unfolding f
     pass-is = ap₂ depths (places-read four (sym (r .answer)) .3) (sym viewed)
 
-    pub derived : {ds : List ℕ} {u : Unit {0}} → Derives pass (before .depths) ds (ok u) → after .propositions ≡ ps → after .proofs ≡ qs
-        → after .depths ≡ ds → (end : ℕ) → Passes (payloadIn rules before p end) before after (ok tt)
-    derived d ep eq ed end =
+    pub derived : {ds : List ℕ} {u : Unit {0}} → length ks ≡ length (before .depths) → Derives pass ks ds (ok u) → after .propositions ≡ ps
+        → after .proofs ≡ qs → after .depths ≡ ds → (end : ℕ) → Passes (payloadIn rules before p end) before after (ok tt)
+    derived n d ep eq ed end =
         let b = bind-ok pass _ (sym (d .answer)) in
         let x = accepted rules (roomOf before) p end (there .head) (there .read) f of-head (b .0) (pass-is ∙ b .1) in
         rw x
@@ -169,18 +169,18 @@ module _ (rules : List Rule) (before after : Lent) (p : List ℕ) (schema : ℕ)
           tables = record {
             propositions = ep ∙ r .propositions ∙ rw four-is;
             proofs = eq ∙ r .proofs ∙ rw four-is;
-            depths = ed ∙ d .depths ∙ ap (λ (y : Out (List ℕ)). lent (length (before .depths)) (depthsIn y)) (b .1);
+            depths = ed ∙ d .depths ∙ ap₂ (λ (k : ℕ) (y : Out (List ℕ)). lent k (depthsIn y)) n (b .1);
           };
         })
 
-    pub not-derived : {ds : List ℕ} {q : Refusal} → Derives pass (before .depths) ds (refused q)
+    pub not-derived : {ds : List ℕ} {q : Refusal} → length ks ≡ length (before .depths) → Derives pass ks ds (refused q)
         → after .propositions ≡ lent (length (before .propositions)) [] → after .proofs ≡ lent (length (before .proofs)) []
         → after .depths ≡ ds → (end : ℕ) → Passes (payloadIn rules before p end) before after (refused q)
-    not-derived {q = q} d ep eq ed end =
+    not-derived {q = q} n d ep eq ed end =
         let y = pass-refused pass (sym (d .answer)) in
         refusal-passes (no-depths rules (roomOf before) p end (there .head) (there .read) f of-head q (pass-is ∙ y))
         (record {
           propositions = ep;
           proofs = eq;
-          depths = ed ∙ d .depths ∙ ap (λ (y : Out (List ℕ)). lent (length (before .depths)) (depthsIn y)) y;
+          depths = ed ∙ d .depths ∙ ap₂ (λ (k : ℕ) (y : Out (List ℕ)). lent k (depthsIn y)) n y;
         })

@@ -13,11 +13,11 @@ use Rattle.lent_table.specs.Lent.{lent}
 use Rattle.derivation.specs.Rule.{Rule, fourRules}
 use Rattle.evr0_section.specs.Section.{Section, Frame, frameAt, sectionAt, decodeSection}
 use Rattle.evr0_section.proofs.Demand.{demand-3}
-use Rattle.rule_table.specs.Load.{ruleIn, rulesOf}
+use Rattle.rule_table.specs.Load.{ruleIn, rulesOf, none}
 use Rattle.rule_table.specs.ByTable.{Given, rulesGiven}
 use Rattle.rule_table.proofs.Load.{loaded}
 use Rattle.rule_table.proofs.ByTable.{table-refused, decodes-by, holds-by}
-use Rattle.evr0_rules.specs.Maps.{RulesThere, countIn, Loads}
+use Rattle.evr0_rules.specs.Maps.{startsIn, RulesThere, countIn, Loads}
 use Rattle.evr0.specs.Answer.{Lent, roomOf, Accepted, Answer, answerOf, Filled, Leaves, LeavesBy}
 use Rattle.evr0.specs.Steps.{payloadIn, sectionBy, Ends}
 use Rattle.evr0.proofs.AnswerLaws.{refusal-ends}
@@ -120,6 +120,10 @@ module _ {s : List ℕ} {cursor : ℕ} {before after : Lent} {given : Answer} wh
 
 -- ---- A loaded table
 
+-- where there is none
+pub no-rules : (t : List ℕ) → RulesThere t []
+no-rules t = record { starts = λ i h. absurd (omega arith); distinct = none }
+
 pub not-loaded : {t starts : List ℕ} {g : Out ℕ} {q : Refusal} → Loads t starts g → g ≡ refused q → rulesOf t ≡ refused q
 not-loaded {t} {q = q} l h = go (rulesOf t) (sym h ∙ l .answer)
   where
@@ -129,8 +133,8 @@ not-loaded {t} {q = q} l h = go (rulesOf t) (sym h ∙ l .answer)
 
 pub record LoadedAt (t places : List ℕ) (n : ℕ) : Type 0 where
   pub most : n ≤ 32
-  pub is : rulesOf t ≡ ok (map (ruleIn t) (take n places))
-  pub there : RulesThere t (take n places)
+  pub is : rulesOf t ≡ ok (map (ruleIn t) (startsIn (take (256 + n) places)))
+  pub there : RulesThere t (take (256 + n) places)
 
 pub loaded-at : {t places : List ℕ} {g : Out ℕ} {n : ℕ} → Loads t places g → g ≡ ok n → LoadedAt t places n
 loaded-at {t} {places} {n = n} l h =
@@ -138,6 +142,6 @@ loaded-at {t} {places} {n = n} l h =
     let m : length rs ≡ n = ok-same k in
     record {
       most = omega (arith, m, loaded t rs e .most);
-      is = e ∙ ap ok (l .are rs e ∙ ap (λ (i : ℕ). map (ruleIn t) (take i places)) m);
+      is = e ∙ ap ok (l .are rs e ∙ ap (λ (i : ℕ). map (ruleIn t) (startsIn (take (256 + i) places))) m);
       there = rw m at (l .there rs e);
     }

@@ -18,6 +18,7 @@ use evr0_head::head::Head;
 use evr0_head::head::HeadAnswer;
 use evr0_head::head::Room;
 use evr0_pass::pass::Layout;
+use evr0_rules::find::HINTS;
 use evr0_rules::load::Loading;
 use evr0_rules::load::load_into;
 use evr0_rules::settle::Rules;
@@ -109,6 +110,7 @@ fn check_tables(
         at,
         propositions,
         proofs,
+        depths,
     );
     match tables {
         Places::Refused(refusal) => {
@@ -126,15 +128,7 @@ fn check_tables(
                 witnesses_at,
                 parents_at,
             };
-            let derived = evr0_pass::pass::derive(
-                rules,
-                table,
-                places,
-                payload,
-                &proofs[..count],
-                layout,
-                depths,
-            );
+            let derived = evr0_pass::pass::derive(payload, &proofs[..count], layout, depths);
             match derived {
                 Checked::Refused(refusal) => {
                     lent_table::clear(propositions);
@@ -232,7 +226,7 @@ fn decode_at(
         (lentOf (now (propositions .exit)) (now (proofs .exit)) (now (depths .exit))) (answerOut r) ⌝ }
 {
     let end = start + len;
-    let read = decode_payload(
+    let mut read = decode_payload(
         rules,
         table,
         places,
@@ -246,13 +240,14 @@ fn decode_at(
     let outcome = read.outcome;
     match outcome {
         Outcome::Refused(refusal) => {
-            refused_section(evr0_tables::part::moved(refusal, start), cursor)
+            read = refused_section(evr0_tables::part::moved(refusal, start), cursor);
         }
-        Outcome::Accepted(_) => read,
+        Outcome::Accepted(_) => {}
     }
+    read
 }
 
-// The section at `cursor`, by the four or by the rules that start at `places` of the table.
+// The section at `cursor`, by the four or by the rules of the table, for which `places` has hints and then where they start.
 fn decode_with(
     rules: Rules,
     table: &[u8],
@@ -334,19 +329,22 @@ pub fn decode_evr0_by(
         (lentOf (now (propositions .entry)) (now (proofs .entry)) (now (depths .entry)))
         (lentOf (now (propositions .exit)) (now (proofs .exit)) (now (depths .exit))) (answerOut r) ⌝ }
 {
-    let mut places = [0u64; 32];
     match rules {
-        Rules::Four => decode_with(
-            rules,
-            table,
-            &places[..0],
-            bytes,
-            cursor,
-            propositions,
-            proofs,
-            depths,
-        ),
+        Rules::Four => {
+            let none = [0u64; 1];
+            decode_with(
+                rules,
+                table,
+                &none[..0],
+                bytes,
+                cursor,
+                propositions,
+                proofs,
+                depths,
+            )
+        }
         Rules::Table => {
+            let mut places = [0u64; 288];
             let loading = load_into(table, &mut places);
             match loading {
                 Loading::Refused(refusal) => {
@@ -355,16 +353,19 @@ pub fn decode_evr0_by(
                     lent_table::clear(depths); // of a refused table
                     refused_section(refusal, cursor)
                 }
-                Loading::Loaded(count) => decode_with(
-                    rules,
-                    table,
-                    &places[..count],
-                    bytes,
-                    cursor,
-                    propositions,
-                    proofs,
-                    depths,
-                ),
+                Loading::Loaded(count) => {
+                    let end = HINTS + count;
+                    decode_with(
+                        rules,
+                        table,
+                        &places[..end],
+                        bytes,
+                        cursor,
+                        propositions,
+                        proofs,
+                        depths,
+                    )
+                }
             }
         }
     }

@@ -47,7 +47,7 @@ copied-lawful n =
 
 -- ---- A whole number in bytes, the lowest first
 
-number-length : (width v : ℕ) → length (number width v) ≡ width
+pub number-length : (width v : ℕ) → length (number width v) ≡ width
 unfolding number
 number-length zero v = refl
 number-length (suc width) v = ap suc (number-length width (v / 256))
@@ -133,10 +133,10 @@ narrowItems (i ∷ is) = narrowItem i && narrowItems is
 
 -- ---- Columns
 module _ {A B : Type 0} where
-  abbrev firsts : List (A × B) → List A
+  abbrev pub firsts : List (A × B) → List A
   firsts rows = map (λ r. r .0) rows
 
-  abbrev seconds : List (A × B) → List B
+  abbrev pub seconds : List (A × B) → List B
   seconds rows = map (λ r. r .1) rows
 
   zip-back : (rows : List (A × B)) → zip (firsts rows) (seconds rows) ≡ rows
@@ -145,10 +145,10 @@ module _ {A B : Type 0} where
   zip-back (r ∷ rows) = ap (λ (s : List (A × B)). r ∷ s) (zip-back rows)
 
   module _ (F : A → Type 0) (G : B → Type 0) where
-    abbrev FitsPair : A × B → Type 0
+    abbrev pub FitsPair : A × B → Type 0
     FitsPair r = F (r .0) × G (r .1)
 
-    apart-fits : (n : ℕ) (rows : List (A × B)) → Many FitsPair n rows → Many F n (firsts rows) × Many G n (seconds rows)
+    pub apart-fits : (n : ℕ) (rows : List (A × B)) → Many FitsPair n rows → Many F n (firsts rows) × Many G n (seconds rows)
     apart-fits zero [] h = (tt, tt)
     apart-fits zero (r ∷ rows) h = absurd h
     apart-fits (suc n) [] h = absurd h

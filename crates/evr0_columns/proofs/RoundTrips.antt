@@ -30,7 +30,7 @@ use Rattle.evr0_columns.proofs.LayoutLaws.{fields-lawful, row-lawful, c
 
 -- ---- Both forms keep the laws, for the same contents
 
-abbrev Fits : Contents → Type 0
+abbrev pub Fits : Contents → Type 0
 Fits v = FitsRecord headItems (v .0) × FitsTables (layout (v .0)) (v .1)
 
 width-narrow : (schema : ℕ) → narrow (spanWidth schema) ≡ true
@@ -45,7 +45,7 @@ layout-narrow : (h : Head) → narrowTables (layout h) ≡ true
 unfolding layoutOf
 layout-narrow h = rw (width-narrow (schemaOf h))
 
-section-lawful : Lawful sectionForm Fits
+pub section-lawful : Lawful sectionForm Fits
 section-lawful =
     then-lawful (fields-lawful inBytes (λ width n. bytes-lawful width) headItems refl)
     (λ h. tables-lawful (byRow inBytes) (row-lawful inBytes (λ width n. bytes-lawful width)) (layout h) (layout-narrow h))
@@ -173,6 +173,12 @@ module _ (given : Given) (room : Room) (s : List ℕ) (cursor : ℕ) (d : Sectio
 abbrev pub alone : Section → ℕ → Section
 alone d cursor = record { tables = d .tables; depths = d .depths; cursor = cursor }
 
+-- a part of some bytes is bytes
+pub part-bytes : (s : List ℕ) (at n : ℕ) → Bytes s → Bytes (take n (drop at s))
+part-bytes s at n bytes =
+    bytes-before (take n (drop at s)) (drop n (drop at s)) (sym (take-append-drop n (drop at s)))
+    (bytes-after (take at s) (drop at s) (sym (take-append-drop at s)) bytes)
+
 -- taking the columns back gives the section, byte for byte
 module _ (given : Given) (room : Room) (out : ℕ) (s : List ℕ) (cursor : ℕ) (x : Copy) (bytes : Bytes s) (e : written given room out s cursor ≡ ok x) where
   abbrev section : List ℕ
@@ -182,9 +188,7 @@ module _ (given : Given) (room : Room) (out : ℕ) (s : List ℕ) (cursor : ℕ)
       → takenBack given room more (x .bytes) ≡ ok (record { section = alone (x .section) (length section); bytes = section })
   written-back more h =
       let w = wrote given room out s cursor x e in
-      let n : ℕ = x .section .cursor - cursor in
-      let after = bytes-after (take cursor s) (drop cursor s) (sym (take-append-drop cursor s)) bytes in
-      let b = bytes-before (take n (drop cursor s)) (drop n (drop cursor s)) (sym (take-append-drop n (drop cursor s))) after in
+      let b = part-bytes s cursor (x .section .cursor - cursor) bytes in
       taken-there given room more (w .rules) (w .ruled) (x .bytes) section (columns-back section (x .bytes) b (w .columns)) _ h
       (section-alone (w .rules) room s cursor (x .section) (w .decoded) .same)
 

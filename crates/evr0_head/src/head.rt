@@ -260,14 +260,17 @@ fn check_counts(payload: &[u8], head: Head, room: Room) -> Checked
 pub fn read_checked_head(payload: &[u8], room: Room) -> HeadRead
     ensures { λ r. ⌜ headOut r ≡ headBeside (checkedHead (roomOut room) (now (payload .entry))) ⌝ }
 {
-    let read = read_head(payload);
+    let mut read = read_head(payload);
     let answer = read.answer;
     let HeadAnswer::Read(head) = answer else {
         return read;
     };
     let checked = check_counts(payload, head, room);
     match checked {
-        Checked::Refused(refusal) => refused_head(refusal),
-        Checked::Passed => read,
+        Checked::Refused(refusal) => {
+            read = refused_head(refusal);
+        }
+        Checked::Passed => {}
     }
+    read
 }

@@ -1,15 +1,16 @@
 -- Tables that were read are those that the payload's bytes hold at their places: row by row, along the trace of each table.
 use Prim.Native.Nat.{ℕ, zero, suc, _+_, _*_, _<_}
-use mathlib.Core.Path.{_≡_, refl, ap, ap₂, _∙_}
+use mathlib.Core.Path.{_≡_, refl, sym, ap, ap₂, _∙_}
 use mathlib.Core.List.{List, _∷_, map}
 use native.Mathlib.Nat.{zero-add}
 use native.Mathlib.Omega.{arith}
 use lib.ListN.{length, getD, drop, length-map}
-use lib.Seq.{drop-drop}
+use lib.Seq.{drop-drop, getD-take}
 use Rattle.local_format.specs.Out.{Out, ok}
 use Rattle.local_format.specs.Field.{le}
 use Rattle.local_format.specs.Text.{bytesAt}
-use Rattle.derivation.specs.Rule.{Rule, known, ruleNamed}
+use Rattle.lent_table.specs.Lent.{Front}
+use Rattle.derivation.specs.Rule.{Rule, Named, known, ruleNamed}
 use Rattle.evr0_section.specs.Rows.{Sized, Row, Entry}
 use Rattle.evr0_section.specs.Head.{Counts, Room, spanWidth, witnessSize}
 use Rattle.evr0_section.specs.Proof.{ProofRecord, Settled, Unowned, proofRow}
@@ -20,8 +21,9 @@ use Rattle.evr0_section.proofs.RowChecks.{GoodProof, proof-known, proof-behind,
 use Rattle.evr0_section.proofs.RecordLaws.{ProofLies, proof-lies, witness-lies, parent-lies}
 use Rattle.evr0_section.proofs.CheckedTables.{Steps, steps}
 use Rattle.evr0_section.specs.Rows.{startsOf}
-use Rattle.evr0_pass.specs.View.{Layout, places, nameAt, proofView, witnessView, view, ProofThere, TablesThere, RulesKnown}
-use Rattle.evr0_pass.proofs.ViewLaws.{width-in}
+use Rattle.evr0_pass.specs.View.{Layout, places, nameAt, ruleIn, ruleAt, proofView, witnessView, view, ProofThere, TablesThere}
+use Rattle.evr0_pass.specs.View.{PolaritiesThere}
+use Rattle.evr0_pass.proofs.ViewLaws.{getD-map-in, width-in}
 
 -- ---- Any table
 
@@ -104,12 +106,6 @@ proofs-there rules p l (more {at = at} {state = u} r e w) (suc i) h =
     let q : r .state .proof + i ≡ u .proof + suc i = omega (arith, next-proof rules p l u at r e) in
     rw q at (proofs-there rules p l w i (omega arith))
 
-names-known : (rules : List Rule) (p : List ℕ) (l : Layout) {n at end : ℕ} {u v : Unowned} {es : List (Entry Settled)}
-    → Trace (proofRow rules (l .counts)) p n u at es v end → RulesKnown rules p (startsOf es)
-names-known rules p l none i h = absurd (omega arith)
-names-known rules p l (more {at = at} {state = u} r e w) zero h = (r .item .rule, name-is rules p l u at r e)
-names-known rules p l (more {at = at} {state = u} r e w) (suc i) h = names-known rules p l w i (omega arith)
-
 -- ---- A witness and a parent cell
 
 module _ (p : List ℕ) (width : ℕ) (counts : Counts) where
@@ -184,5 +180,15 @@ module _ (rules : List Rule) (room : Room) (p : List ℕ) (t : Tables) (read : t
         parents = omega (arith, cs .1, read-steps .whole);
       }
 
-  pub rules-known : RulesKnown rules p (startsOf (t .proofs .entries))
-  rules-known = names-known rules p (layoutOf t) proofs-read
+  -- the polarities that their rules ask, at the front of a table
+  pub polarities-there : (table : List ℕ) → Front (map (λ e. e .item .rule .polarity) (t .proofs .entries)) table
+      → PolaritiesThere rules p (startsOf (t .proofs .entries)) table
+  polarities-there table h i k =
+      let es = t .proofs .entries in
+      let asked = by-starts (proofRow rules (t .head .counts)) p (λ e. e .item .rule .polarity) (λ start. ruleAt rules p start .polarity)
+      (λ u at r e. sym (ap (λ (n : Named). ruleIn n .polarity) (name-is rules p (layoutOf t) u at r e))) proofs-read in
+      let total : length (map (λ e. e .item .rule .polarity) es) ≡ length (startsOf es) =
+      length-map es (λ e. e .item .rule .polarity) ∙ sym (length-map es (λ e. e .start)) in
+      sym (getD-take (length (startsOf es)) table i 0 k)
+      ∙ ap (λ (l : List ℕ). getD l i 0) (rw total at h ∙ asked)
+      ∙ getD-map-in (λ start. ruleAt rules p start .polarity) (startsOf es) i 0 0 k

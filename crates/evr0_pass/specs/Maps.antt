@@ -10,7 +10,7 @@ use Rattle.lent_table.specs.Lent.{lent}
 use Rattle.derivation.specs.Rule.{Rule, polarityFits}
 use Rattle.derivation.specs.Section as section
 use Rattle.evr0_head.specs.Maps.{countsOut}
-use Rattle.evr0_rules.specs.Maps.{ruleOut}
+use Rattle.evr0_rules.specs.Maps.{asking}
 use Rattle.evr0_fields.specs.declared.check.Checked.{Checked}
 use Rattle.evr0_fields.specs.declared.check.Checked.the-variants as checked
 use Rattle.evr0_pass.specs.View as view
@@ -27,13 +27,13 @@ layoutOut l =
 abbrev pub tablesIn : List Rule → List ℕ → List ℕ → Layout → section.Section
 tablesIn rules payload starts l = view.view rules payload starts (layoutOut l)
 
--- a proof whose rule has this name
-abbrev pub proofOut : List ℕ → SettledProof → section.Proof
-proofOut name p =
+-- a proof by this rule, but with the polarity that was noted
+abbrev pub proofOut : Rule → SettledProof → section.Proof
+proofOut rule p =
     record {
       number = p .«proof_id» .0;
       proposition = p .«proposition_index» .0;
-      rule = ruleOut name (p .rule);
+      rule = asking (p .polarity) rule;
       authority = p .«authority_context»;
       firstWitness = p .«witness_first» .0;
       witnessCount = p .«witness_count»;
@@ -66,6 +66,6 @@ pub record Derives (x : Out (List ℕ)) (before after : List ℕ) (given : Out (
   pub answer : given ≡ doneIn x
   pub depths : after ≡ lent (length before) (depthsIn x)
 
--- what a witness of this proposition and polarity is answered, under a settled rule and for a proof's own proposition
+-- what a witness of this proposition and polarity is answered, under a rule and for a proof's own proposition
 abbrev pub suited : Rule → ℕ → ℕ → ℕ → Out (Unit {0})
 suited rule own found polarity = check (eqb found own) 28 0 >> check (polarityFits rule polarity) 29 0

@@ -8,7 +8,6 @@ use Rattle.local_format.specs.Text.{bytesAt}
 use Rattle.derivation.specs.Rule.{Rule, Named, known, unknown, ruleNamed}
 use Rattle.derivation.specs.Section.{Proof, Witness, Section}
 use Rattle.evr0_section.specs.Head.{Counts}
-use Rattle.evr0_rules.specs.Maps.{Known}
 
 -- the counts of the tables, the size of a witness, and where the tables of the witnesses and of the parents start
 pub record Layout : Type 0 where
@@ -32,17 +31,21 @@ nameAt p start = bytesAt p (start + 10) (le 2 p (start + 8))
 abbrev pub afterName : List ℕ → ℕ → ℕ
 afterName p start = start + 10 + le 2 p (start + 8)
 
--- the rule of a name; a nameless one where there is none
+abbrev pub nameless : Rule
+nameless = record { name = []; witnesses = 0; parents = 0; operation = 0; polarity = 2 }
+
+-- the rule of a name; the nameless one where there is none
 abbrev pub ruleIn : Named → Rule
 ruleIn (known r) = r
-ruleIn unknown = record { name = []; witnesses = 0; parents = 0; operation = 0; polarity = 2 }
+ruleIn unknown = nameless
 
-unfoldable pub proofView : List Rule → List ℕ → ℕ → Proof
-proofView rules p start =
+-- by a rule
+abbrev pub proofBy : Rule → List ℕ → ℕ → Proof
+proofBy rule p start =
     record {
       number = le 4 p start;
       proposition = le 4 p (start + 4);
-      rule = ruleIn (ruleNamed rules (nameAt p start));
+      rule = rule;
       authority = le 4 p (afterName p start);
       firstWitness = le 4 p (afterName p start + 4);
       witnessCount = le 4 p (afterName p start + 8);
@@ -50,6 +53,13 @@ proofView rules p start =
       parentCount = le 4 p (afterName p start + 16);
       operation = le 1 p (afterName p start + 20);
     }
+
+-- by the one of the rules that has the name
+abbrev pub ruleAt : List Rule → List ℕ → ℕ → Rule
+ruleAt rules p start = ruleIn (ruleNamed rules (nameAt p start))
+
+unfoldable pub proofView : List Rule → List ℕ → ℕ → Proof
+proofView rules p start = proofBy (ruleAt rules p start) p start
 
 -- ---- The three tables
 
@@ -96,9 +106,9 @@ pub record TablesThere (p starts : List ℕ) (l : Layout) : Type 0 where
   pub witnesses : WitnessesThere (length p) l
   pub parents : l .parentsAt + 4 * l .counts .parents ≤ length p
 
--- the rule of each proof is known
-abbrev pub RulesKnown : List Rule → List ℕ → List ℕ → Type 0
-RulesKnown rules p starts = (i : ℕ) → i < length starts → Known rules (nameAt p (getD starts i 0))
+-- a table's first entries are the polarities that the proofs' rules ask
+abbrev pub PolaritiesThere : List Rule → List ℕ → List ℕ → List ℕ → Type 0
+PolaritiesThere rules p starts table = (i : ℕ) → i < length starts → getD table i 0 ≡ ruleAt rules p (getD starts i 0) .polarity
 
 -- a proof of these tables, after those whose depths are known
 pub record ProofDue (p starts : List ℕ) (l : Layout) (depths : List ℕ) (q : Proof) : Type 0 where

@@ -1,7 +1,7 @@
 // The last pass, over a payload whose tables have been read: each parent 25 and 26, the depth 27, the witnesses 28 and 29.
 ghost use mathlib.Core.Path.{_≡_};
 ghost use mathlib.Core.Bool.{_&&_};
-ghost use mathlib.Core.List.{List, []};
+ghost use mathlib.Core.List.{List};
 ghost use Prim.Native.Nat.{ℕ, _+_, _*_, _≤_, _<_, max};
 ghost use lib.Dec.{eqb, ltb, leb};
 ghost use lib.ListN.{length, take};
@@ -9,17 +9,14 @@ ghost use Rattle.local_format.specs.Field.{le};
 ghost use Rattle.derivation.specs.Rule as derivation;
 ghost use Rattle.derivation.specs.Pass as of;
 ghost use Rattle.evr0_fields.specs.Maps.{checkedOut};
-ghost use Rattle.evr0_rules.specs.Maps.{ruleOut, rulesIn, RulesThere, Known};
-ghost use Rattle.evr0_pass.specs.View.{proofView, afterName, nameAt, WitnessesThere, TablesThere, RulesKnown, ProofDue};
+ghost use Rattle.evr0_rules.specs.Maps.{asking};
+ghost use Rattle.evr0_pass.specs.View.{nameless, proofBy, afterName, WitnessesThere, TablesThere, PolaritiesThere, ProofDue};
 ghost use Rattle.evr0_pass.specs.Maps.{layoutOut, tablesIn, proofOut, depthOut, filled, Derives, suited};
 use evr0_fields::check::Checked;
 use evr0_fields::number::ProofNumber;
 use evr0_fields::number::PropositionIndex;
 use evr0_fields::number::WitnessNumber;
 use evr0_head::counts::Counts;
-use evr0_rules::rule::Rule;
-use evr0_rules::settle::Rules;
-use evr0_rules::settle::settle_known;
 use local_format::field::u16_at;
 use local_format::field::u32_at;
 use local_format::refusal::Refusal;
@@ -32,11 +29,11 @@ pub struct Layout {
     pub parents_at: usize,
 }
 
-// A proof with its rule settled.
+// A proof with the polarity that its rule asks.
 pub struct SettledProof {
     pub proof_id: ProofNumber,
     pub proposition_index: PropositionIndex,
-    pub rule: Rule,
+    pub polarity: u64,
     pub authority_context: u32,
     pub witness_first: WitnessNumber,
     pub witness_count: u32,
@@ -58,26 +55,16 @@ fn after_name(payload: &[u8], start: usize) -> usize
     start + 10 + (u16_at(payload, start + 8) as usize)
 }
 
-// The proof at `start`, its rule settled.
-fn proof_at(
-    rules: Rules,
-    table: &[u8],
-    places: &[u64],
-    payload: &[u8],
-    start: usize,
-) -> SettledProof
+// The proof at `start`, whose rule asks this polarity.
+fn proof_at(payload: &[u8], start: usize, polarity: u64) -> SettledProof
     requires { ⌜ afterName (now payload) start + 24 ≤ length (now payload) ⌝ }
-    requires { ⌜ RulesThere (now table) (now places) × Known (rulesIn rules (now table) (now places)) (nameAt (now payload) start) ⌝ }
-    ensures { λ r. ⌜ proofOut (nameAt (now (payload .entry)) start) r
-        ≡ proofView (rulesIn rules (now (table .entry)) (now (places .entry))) (now (payload .entry)) start ⌝ }
+    ensures { λ r. ⌜ ((rule : derivation.Rule) → proofOut rule r ≡ proofBy (asking polarity rule) (now (payload .entry)) start) ⌝ }
 {
-    let name = start + 10;
     let rest = after_name(payload, start);
-    let rule = settle_known(rules, table, places, &payload[name..rest]);
     SettledProof {
         proof_id: ProofNumber(u32_at(payload, start)),
         proposition_index: PropositionIndex(u32_at(payload, start + 4)),
-        rule,
+        polarity,
         authority_context: u32_at(payload, rest),
         witness_first: WitnessNumber(u32_at(payload, rest + 4)),
         witness_count: u32_at(payload, rest + 8),
@@ -125,10 +112,10 @@ fn parents_from(
     depths: &[u64],
     proof: SettledProof,
 ) -> Depth
-    requires { ⌜ ProofDue (now payload) (now starts) (layoutOut tables) (now depths) (proofOut [] proof) ⌝ }
-    ensures { λ r. ⌜ ((rules : List derivation.Rule) (name : List ℕ)
+    requires { ⌜ ProofDue (now payload) (now starts) (layoutOut tables) (now depths) (proofOut nameless proof) ⌝ }
+    ensures { λ r. ⌜ ((rules : List derivation.Rule) (rule : derivation.Rule)
         → depthOut r ≡ of.parentsFrom (tables .«parents_at») (tablesIn rules (now (payload .entry)) (now (starts .entry)) tables)
-        (proofOut name proof) (take (proof .«proof_id» .0) (now (depths .entry))) (proof .«parent_count») (proof .«parent_first») 0 0) ⌝ }
+        (proofOut rule proof) (take (proof .«proof_id» .0) (now (depths .entry))) (proof .«parent_count») (proof .«parent_first») 0 0) ⌝ }
 {
     let number = proof.proof_id.place();
     let mut cell = evr0_fields::number::wide(proof.parent_first);
@@ -153,14 +140,14 @@ fn parents_from(
     Depth::Found(deepest)
 }
 
-// One witness of a proof: its proposition is the proof's, else 28; its polarity is the settled rule's, else 29.
-fn suits(rule: Rule, own: PropositionIndex, found: PropositionIndex, polarity: u8) -> Checked
-    ensures { λ r. ⌜ ((name : List ℕ) → checkedOut r ≡ suited (ruleOut name rule) (own .0) (found .0) polarity) ⌝ }
+// One witness of a proof: its proposition is the proof's, else 28; its polarity is the one that the proof's rule asks, else 29.
+fn suits(asked: u64, own: PropositionIndex, found: PropositionIndex, polarity: u8) -> Checked
+    ensures { λ r. ⌜ ((rule : derivation.Rule) → checkedOut r ≡ suited (asking asked rule) (own .0) (found .0) polarity) ⌝ }
 {
     if found.0 != own.0 {
         return evr0_fields::check::refused(28, 0);
     }
-    let fits = evr0_rules::rule::polarity_fits(rule, polarity);
+    let fits = evr0_rules::rule::polarity_fits(asked, polarity);
     if !fits {
         return evr0_fields::check::refused(29, 0);
     }
@@ -179,18 +166,17 @@ pub fn witness_start(len: usize, tables: Layout, witness: usize) -> usize
 fn witnesses_from(payload: &[u8], tables: Layout, proof: SettledProof) -> Checked
     requires { ⌜ WitnessesThere (length (now payload)) (layoutOut tables) ⌝ }
     requires { ⌜ proof .«witness_first» .0 + proof .«witness_count» ≤ tables .counts .witnesses ⌝ }
-    ensures { λ r. ⌜ ((rules : List derivation.Rule) (name starts : List ℕ) → checkedOut r
-        ≡ of.witnessesFrom (tables .«parents_at») (tablesIn rules (now (payload .entry)) starts tables) (proofOut name proof) (proof .«witness_count»)
+    ensures { λ r. ⌜ ((rules : List derivation.Rule) (rule : derivation.Rule) (starts : List ℕ) → checkedOut r
+        ≡ of.witnessesFrom (tables .«parents_at») (tablesIn rules (now (payload .entry)) starts tables) (proofOut rule proof) (proof .«witness_count»)
         (proof .«witness_first» .0)) ⌝ }
 {
     let mut witness = proof.witness_first.place();
     let end = witness + evr0_fields::number::wide(proof.witness_count);
     while witness < end {
         let at = witness_start(payload.len(), tables, witness);
-        let rule = proof.rule;
         let own = proof.proposition_index;
         let found = PropositionIndex(u32_at(payload, at + 4));
-        let checked = suits(rule, own, found, payload[at + 8]);
+        let checked = suits(proof.polarity, own, found, payload[at + 8]);
         match checked {
             Checked::Refused(refusal) => {
                 return Checked::Refused(refusal);
@@ -211,9 +197,9 @@ fn depth_of(
     depths: &[u64],
     proof: SettledProof,
 ) -> Depth
-    requires { ⌜ ProofDue (now payload) (now starts) (layoutOut tables) (now depths) (proofOut [] proof) ⌝ }
-    ensures { λ r. ⌜ ((rules : List derivation.Rule) (name : List ℕ)
-        → depthOut r ≡ of.depthOf (tables .«parents_at») (tablesIn rules (now (payload .entry)) (now (starts .entry)) tables) (proofOut name proof)
+    requires { ⌜ ProofDue (now payload) (now starts) (layoutOut tables) (now depths) (proofOut nameless proof) ⌝ }
+    ensures { λ r. ⌜ ((rules : List derivation.Rule) (rule : derivation.Rule)
+        → depthOut r ≡ of.depthOf (tables .«parents_at») (tablesIn rules (now (payload .entry)) (now (starts .entry)) tables) (proofOut rule proof)
         (take (proof .«proof_id» .0) (now (depths .entry)))) ⌝ }
 {
     let parents = parents_from(payload, starts, tables, depths, proof);
@@ -232,25 +218,16 @@ fn depth_of(
     }
 }
 
-// The depth of each proof, whose starts are given, at the front of the lent table.
-fn derive_all(
-    rules: Rules,
-    table: &[u8],
-    places: &[u64],
-    payload: &[u8],
-    starts: &[u64],
-    tables: Layout,
-    depths: &mut [u64],
-) -> Checked
+// The depth of each proof, whose starts are given, at the front of the lent table, which brings the polarities that the proofs' rules ask.
+fn derive_all(payload: &[u8], starts: &[u64], tables: Layout, depths: &mut [u64]) -> Checked
     requires { ⌜ TablesThere (now payload) (now starts) (layoutOut tables) × (length (now starts) ≤ length (now depths)) ⌝ }
-    requires { ⌜ RulesThere (now table) (now places) × RulesKnown (rulesIn rules (now table) (now places)) (now payload) (now starts) ⌝ }
-    ensures { λ r. ⌜ filled r (take (length (now (starts .entry))) (now (depths .exit)))
-        ≡ of.depths (tables .«parents_at») (tablesIn (rulesIn rules (now (table .entry)) (now (places .entry))) (now (payload .entry))
-        (now (starts .entry)) tables) ⌝ }
+    ensures { λ r. ⌜ ((rules : List derivation.Rule) → PolaritiesThere rules (now (payload .entry)) (now (starts .entry)) (now (depths .entry))
+        → filled r (take (length (now (starts .entry))) (now (depths .exit)))
+        ≡ of.depths (tables .«parents_at») (tablesIn rules (now (payload .entry)) (now (starts .entry)) tables)) ⌝ }
 {
     let mut i: usize = 0;
     while i < starts.len() {
-        let proof = proof_at(rules, table, places, payload, starts[i] as usize);
+        let proof = proof_at(payload, starts[i] as usize, depths[i]);
         let found = depth_of(payload, starts, tables, depths, proof);
         match found {
             Depth::Refused(refusal) => {
@@ -266,22 +243,13 @@ fn derive_all(
 }
 
 // The same, with zeros past the depths; a refusal leaves zeros.
-pub fn derive(
-    rules: Rules,
-    table: &[u8],
-    places: &[u64],
-    payload: &[u8],
-    starts: &[u64],
-    tables: Layout,
-    depths: &mut [u64],
-) -> Checked
+pub fn derive(payload: &[u8], starts: &[u64], tables: Layout, depths: &mut [u64]) -> Checked
     requires { ⌜ TablesThere (now payload) (now starts) (layoutOut tables) × (length (now starts) ≤ length (now depths)) ⌝ }
-    requires { ⌜ RulesThere (now table) (now places) × RulesKnown (rulesIn rules (now table) (now places)) (now payload) (now starts) ⌝ }
-    ensures { λ r. ⌜ Derives (of.depths (tables .«parents_at») (tablesIn (rulesIn rules (now (table .entry)) (now (places .entry)))
-        (now (payload .entry)) (now (starts .entry)) tables))
-        (now (depths .entry)) (now (depths .exit)) (checkedOut r) ⌝ }
+    ensures { λ r. ⌜ ((rules : List derivation.Rule) → PolaritiesThere rules (now (payload .entry)) (now (starts .entry)) (now (depths .entry))
+        → Derives (of.depths (tables .«parents_at») (tablesIn rules (now (payload .entry)) (now (starts .entry)) tables))
+        (now (depths .entry)) (now (depths .exit)) (checkedOut r)) ⌝ }
 {
-    let derived = derive_all(rules, table, places, payload, starts, tables, depths);
+    let derived = derive_all(payload, starts, tables, depths);
     match derived {
         Checked::Refused(refusal) => {
             lent_table::clear(depths);

@@ -8,6 +8,7 @@ use Rattle.local_format.specs.Refusal.{Refusal}
 use Rattle.local_format.specs.Out.{Out, ok, refused, _>>=_}
 use Rattle.local_format.proofs.OutLaws.{bind-ok, ok-same, never}
 use Rattle.local_format.proofs.Each.{Refuses, answers, answered, each-refused, weaker, under, on}
+use Rattle.lent_table.specs.Lent.{lent}
 use Rattle.derivation.specs.Rule.{Rule}
 use Rattle.derivation.specs.Section.{proofAt, proofTotal}
 use Rattle.evr0_section.specs.Head.{Counts, Head, Room, spanWidth, witnessSize, checkedHead}
@@ -46,7 +47,7 @@ module _ (rules : List Rule) (before after : Lent) (p : List ℕ) (schema : ℕ)
   abbrev four : Out Four
   four = tablesAfter rules (spanWidth schema) counts p at
 
-  pub tables-refused : {ps qs : List ℕ} {q : Refusal} → Reads four (before .propositions) (before .proofs) ps qs (refused q) → (end : ℕ)
+  pub tables-refused : {ps qs ks : List ℕ} {q : Refusal} → Reads four (before .propositions) (before .proofs) ps qs ks (refused q) → (end : ℕ)
       → Passes (roundsIn rules (roomOf before) p end) before after (refused q)
   unfolding roundsIn tablesOf
   tables-refused {q = q} r end =
@@ -55,8 +56,8 @@ module _ (rules : List Rule) (before after : Lent) (p : List ℕ) (schema : ℕ)
       let none : roundsIn rules (roomOf before) p end ≡ refused q = rw (there .read, x) in
       refusal-passes none
 
-  module _ {size : ℕ} (sized : size ≡ witnessSize (spanWidth schema)) {ps qs : List ℕ} {g : Places}
-      (r : Reads four (before .propositions) (before .proofs) ps qs (ok g)) where
+  module _ {size : ℕ} (sized : size ≡ witnessSize (spanWidth schema)) {ps qs ks : List ℕ} {g : Places}
+      (r : Reads four (before .propositions) (before .proofs) ps qs ks (ok g)) where
     abbrev found : Four
     found = f rules before after p schema counts at there sized r
 
@@ -77,9 +78,9 @@ module _ (rules : List Rule) (before after : Lent) (p : List ℕ) (schema : ℕ)
     unfolding roundsIn
     section-is end = rw (read rules before after p schema counts at there sized r, made-is)
 
-    pub rounds-made : {ds : List ℕ} {given : Out (Unit {0})} → Fills made (before .depths) ds given → after .propositions ≡ ps → after .proofs ≡ qs
-        → after .depths ≡ ds → (end : ℕ) → Passes (roundsIn rules (roomOf before) p end) before after given
-    rounds-made h ep eq ed end =
+    pub rounds-made : {ds : List ℕ} {given : Out (Unit {0})} → length ks ≡ length (before .depths) → Fills made ks ds given → after .propositions ≡ ps
+        → after .proofs ≡ qs → after .depths ≡ ds → (end : ℕ) → Passes (roundsIn rules (roomOf before) p end) before after given
+    rounds-made n h ep eq ed end =
         let four-found = four-is rules before after p schema counts at there sized r in
         record {
           answer = h .answer ∙ same-done (whole (there .head) found) end made ∙ sym (ap passedIn (section-is end));
@@ -89,7 +90,7 @@ module _ (rules : List Rule) (before after : Lent) (p : List ℕ) (schema : ℕ)
               (record {
                 propositions = ep ∙ r .propositions ∙ rw four-found;
                 proofs = eq ∙ r .proofs ∙ rw four-found;
-                depths = ed ∙ h .rounds rs e;
+                depths = ed ∙ h .rounds rs e ∙ ap (λ (k : ℕ). lent k rs) n;
               });
         }
 

@@ -23,6 +23,7 @@ use evr0_head::counts::Counts;
 use evr0_head::head::HeadAnswer;
 use evr0_head::head::Room;
 use evr0_pass::pass::Layout;
+use evr0_rules::find::HINTS;
 use evr0_rules::load::Loading;
 use evr0_rules::load::load_into;
 use evr0_rules::settle::Rules;
@@ -81,6 +82,7 @@ fn round_tables(
         at,
         propositions,
         proofs,
+        rounds,
     );
     match tables {
         Places::Refused(refusal) => Checked::Refused(refusal),
@@ -194,7 +196,7 @@ fn round_at(
     }
 }
 
-// The section at `cursor`, by the four or by the rules that start at `places` of the table.
+// The section at `cursor`, by the four or by the rules of the table, for which `places` has hints and then where they start.
 fn round_with(
     rules: Rules,
     table: &[u8],
@@ -246,32 +248,38 @@ fn round_by(
         cursor (lentOf (now (propositions .entry)) (now (proofs .entry)) (now (rounds .entry)))
         (lentOf (now (propositions .exit)) (now (proofs .exit)) (now (rounds .exit))) (answerOut r) ⌝ }
 {
-    let mut places = [0u64; 32];
     match rules {
-        Rules::Four => round_with(
-            rules,
-            table,
-            &places[..0],
-            bytes,
-            cursor,
-            propositions,
-            proofs,
-            rounds,
-        ),
+        Rules::Four => {
+            let none = [0u64; 1];
+            round_with(
+                rules,
+                table,
+                &none[..0],
+                bytes,
+                cursor,
+                propositions,
+                proofs,
+                rounds,
+            )
+        }
         Rules::Table => {
+            let mut places = [0u64; 288];
             let loading = load_into(table, &mut places);
             match loading {
                 Loading::Refused(refusal) => refused_rounds(refusal, cursor),
-                Loading::Loaded(count) => round_with(
-                    rules,
-                    table,
-                    &places[..count],
-                    bytes,
-                    cursor,
-                    propositions,
-                    proofs,
-                    rounds,
-                ),
+                Loading::Loaded(count) => {
+                    let end = HINTS + count;
+                    round_with(
+                        rules,
+                        table,
+                        &places[..end],
+                        bytes,
+                        cursor,
+                        propositions,
+                        proofs,
+                        rounds,
+                    )
+                }
             }
         }
     }

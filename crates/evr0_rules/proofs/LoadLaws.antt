@@ -7,20 +7,21 @@ use mathlib.Core.List.{List, [], _∷_, _++_, map, append-assoc, append-nil}
 use mathlib.Core.Logic.{⊎-elim}
 use native.Mathlib.Omega.{arith}
 use native.Mathlib.Numerals.{add-one}
-use lib.ListN.{length, getD, take, drop, set, length-map, length-append, List·getD-append}
-use lib.Seq.{getD-append-seam, take-suc-set}
+use native.Mathlib.Nat.{zero-add, suc-add}
+use lib.ListN.{length, getD, take, drop, set, length-map, length-append, length-take, length-drop, List·getD-append}
+use lib.Seq.{getD-append-seam, getD-drop, getD-take, take-suc-set, take-nil}
 use borrow.Author.Tests.{le-leb, lt-leb, eq-eqb, ne-eqb}
 use Rattle.local_format.specs.Refusal.{Refusal}
 use Rattle.local_format.specs.Out.{Out, ok, refused, refuse, check, _>>=_, _>>_}
-use Rattle.local_format.specs.Field.{fieldAt}
-use Rattle.local_format.proofs.OutLaws.{never, ok-same}
+use Rattle.local_format.specs.Field.{le, fieldAt}
+use Rattle.local_format.proofs.OutLaws.{never, ok-same, bind-ok}
 use Rattle.local_format.proofs.FieldLaws.{le-1, field-there}
 use Rattle.derivation.specs.Rule.{Rule, known, unknown, ruleNamed}
 use Rattle.derivation.proofs.Tests.{order}
-use Rattle.rule_table.specs.Load.{outsideBounds, givenTwice, ruleIn, Loaded, ruleAt, outside, namedIn, rulesFrom, rulesOf}
-use Rattle.rule_table.proofs.Load.{outside-ok}
-use Rattle.evr0_rules.specs.Maps.{RulesThere, countIn, Loads}
-use Rattle.evr0_rules.proofs.NameLaws.{known-given, unknown-new, given-last}
+use Rattle.rule_table.specs.Load.{outsideBounds, givenTwice, ruleIn, Loaded, ruleAt, outside, namedIn, rulesFrom, rulesOf, Distinct, none}
+use Rattle.rule_table.proofs.Load.{outside-ok, loaded}
+use Rattle.evr0_rules.specs.Maps.{StartsThere, RulesThere, countIn, Starts, Loads}
+use Rattle.evr0_rules.proofs.NameLaws.{known-given, unknown-new, given-last, distinct-last}
 use Rattle.evr0_rules.proofs.RuleLaws.{RuleRead, rule-read, name-is}
 
 -- rules read before others
@@ -59,11 +60,23 @@ onto-none : (x : Out (List Rule)) → x ≡ onto [] x
 onto-none (ok rs) = refl
 onto-none (refused q) = refl
 
+-- a start stored behind hints
+start-set : (places : List ℕ) (n i x : ℕ) → drop n (set places (n + i) x) ≡ set (drop n places) i x
+start-set places zero i x = rw (zero-add i)
+start-set [] (suc n) i x = refl
+start-set (y ∷ places) (suc n) i x = rw (suc-add n i) (start-set places n i x)
+
+pub drop-take : (n k : ℕ) (l : List ℕ) → drop n (take (n + k) l) ≡ take k (drop n l)
+drop-take zero k l = rw (zero-add k)
+drop-take (suc n) k [] = rw (suc-add n k) (sym (take-nil k))
+drop-take (suc n) k (x ∷ l) = rw (suc-add n k) (drop-take n k l)
+
 module _ (t : List ℕ) where
   -- so many rules are read, at the places xs, and the next one stands at a place
   pub record Stands (count i at : ℕ) (xs : List ℕ) : Type 0 where
     pub whole : rulesOf t ≡ onto (map (ruleIn t) xs) (rulesFrom (count - i) (map (ruleIn t) xs) t at)
-    pub there : RulesThere t xs
+    pub there : StartsThere t xs
+    pub distinct : Distinct (map (ruleIn t) xs)
     pub total : length xs ≡ i
     pub upto : i ≤ count
 
@@ -88,6 +101,7 @@ module _ (t : List ℕ) where
         whole = rw (field-there 5 1 t 0 (omega arith), ← le-1 t 0, le-leb 1 (getD t 0 0) k, le-leb (getD t 0 0) 32 m, n)
             (onto-none (rulesFrom (getD t 0 0) [] t 1));
         there = λ i l. absurd (omega arith);
+        distinct = none;
         total = refl;
         upto = omega arith;
       }
@@ -124,7 +138,7 @@ module _ (t : List ℕ) where
           ≡ onto (done ++ (ruleIn t at ∷ [])) (rulesFrom left (ruleIn t at ∷ done) t (x .next))
       more k = here ∙ rw (← e, ← read .is, k) (onto-more done (ruleIn t at) (rulesFrom left (ruleIn t at ∷ done) t (x .next)))
 
-      one-more : RulesThere t (xs ++ (at ∷ []))
+      one-more : StartsThere t (xs ++ (at ∷ []))
       one-more j h =
           ⊎-elim
           (λ g. let e : j ≡ length xs = omega (arith, length-append xs (at ∷ [])) in rw (e, getD-append-seam xs at [] 0) (read .inside))
@@ -140,37 +154,47 @@ module _ (t : List ℕ) where
                 ∙ ap (onto (done ++ (ruleIn t at ∷ [])))
                 (rules-alike left (ruleIn t at ∷ done) (done ++ (ruleIn t at ∷ [])) (given-last (ruleIn t at) done) t (x .next)));
             there = one-more;
+            distinct = rw (map-last t xs at) (distinct-last done (ruleIn t at) (s .distinct) new);
             total = rw (length-append xs (at ∷ [])) (omega (arith, s .total));
             upto = omega arith;
           }
 
-  -- the place is kept
-  pub stored : {count at : ℕ} (place : ℕ) (starts : List ℕ) (i : ℕ) → i < length starts → Stands count (i + 1) at (take i starts ++ (place ∷ []))
-      → Stands count (i + 1) at (take (i + 1) (set starts i place))
-  stored place starts i h s =
-      let e : take (i + 1) (set starts i place) ≡ take i starts ++ (place ∷ []) = rw add-one (take-suc-set starts i place h) in
-      rw e s
+  -- those that were read can be looked up
+  pub known-so-far : {count i at : ℕ} (places : List ℕ) → Stands count i at (take i (drop 256 places)) → RulesThere t (take (256 + i) places)
+  known-so-far {i = i} places s = record { starts = rw (drop-take 256 i places) (s .there); distinct = rw (drop-take 256 i places) (s .distinct) }
+
+  pub so-far : (places name : List ℕ) (i : ℕ)
+      → ruleNamed (map (ruleIn t) (drop 256 (take (256 + i) places))) name ≡ ruleNamed (map (ruleIn t) (take i (drop 256 places))) name
+  so-far places name i = rw (drop-take 256 i places)
+
+  -- the place is kept, behind hints
+  pub stored : {count at : ℕ} (place : ℕ) (places : List ℕ) (n i : ℕ) → n + i < length places
+      → Stands count (i + 1) at (take i (drop n places) ++ (place ∷ [])) → Stands count (i + 1) at (take (i + 1) (drop n (set places (n + i) place)))
+  stored place places n i h s =
+      let l : i < length (drop n places) = rw length-drop (omega arith) in
+      let e : take (i + 1) (set (drop n places) i place) ≡ take i (drop n places) ++ (place ∷ []) = rw add-one (take-suc-set (drop n places) i place l) in
+      rw (start-set places n i place, e) s
 
   -- ---- The end
   module _ {count i at : ℕ} {xs : List ℕ} (s : Stands count i at xs) (h : count ≤ i) where
-    none : count - i ≡ 0
-    none = omega arith
+    no-more : count - i ≡ 0
+    no-more = omega arith
 
     pub left-over : (at ≡ length t → ⊥) → rulesOf t ≡ refuse outsideBounds 0
     unfolding rulesFrom
-    left-over e = s .whole ∙ rw (none, ne-eqb at (length t) e)
+    left-over e = s .whole ∙ rw (no-more, ne-eqb at (length t) e)
 
     pub all-read : at ≡ length t → rulesOf t ≡ ok (map (ruleIn t) xs)
     unfolding rulesFrom
-    all-read e = s .whole ∙ rw (none, eq-eqb at (length t) e, append-nil (map (ruleIn t) xs))
+    all-read e = s .whole ∙ rw (no-more, eq-eqb at (length t) e, append-nil (map (ruleIn t) xs))
 
   -- ---- What is left in the places
-  pub refused-loads : (starts : List ℕ) (given : Out ℕ) (q : Refusal) → rulesOf t ≡ refused q → given ≡ refused q → Loads t starts given
+  pub refused-loads : (starts : List ℕ) (given : Out ℕ) (q : Refusal) → rulesOf t ≡ refused q → given ≡ refused q → Starts t starts given
   refused-loads starts given q e g =
       record { answer = g ∙ sym (ap countIn e); are = λ rs f. absurd (never (sym e ∙ f)); there = λ rs f. absurd (never (sym e ∙ f)) }
 
   pub all-loads : {count i at : ℕ} (starts : List ℕ) → i ≤ length starts → (s : Stands count i at (take i starts)) → count ≤ i → at ≡ length t
-      → Loads t starts (ok count)
+      → Starts t starts (ok count)
   all-loads {count} {i} starts l s h e =
       let r = all-read s h e in
       let n : length (map (ruleIn t) (take i starts)) ≡ i = length-map (take i starts) (ruleIn t) ∙ s .total in
@@ -178,5 +202,40 @@ module _ (t : List ℕ) where
       record {
         answer = ap ok (c ∙ sym n) ∙ sym (ap countIn r);
         are = λ rs f. subst (λ (rs : List Rule). rs ≡ map (ruleIn t) (take (length rs) starts)) (ok-same (sym r ∙ f)) (rw n);
-        there = λ rs f. subst (λ (rs : List Rule). RulesThere t (take (length rs) starts)) (ok-same (sym r ∙ f)) (rw n (s .there));
+        there = λ rs f. subst (λ (rs : List Rule). StartsThere t (take (length rs) starts)) (ok-same (sym r ∙ f)) (rw n (s .there));
       }
+
+-- ---- Hints
+
+-- the starts behind the hints, once a hint is stored
+pub hint-set : (places : List ℕ) (n hint i : ℕ) → hint < n → drop n (set places hint i) ≡ drop n places
+hint-set places zero hint i h = absurd (omega arith)
+hint-set [] (suc n) hint i h = refl
+hint-set (x ∷ places) (suc n) zero i h = refl
+hint-set (x ∷ places) (suc n) (suc hint) i h = hint-set places n hint i (omega arith)
+
+-- the rule at a start behind the hints lies in the table, also where hints were stored since
+pub start-there : (t places brought : List ℕ) (n count i : ℕ) → drop n places ≡ drop n brought → StartsThere t (take count (drop n brought)) → i < count
+    → n + count ≤ length brought → getD places (n + i) 0 + 6 + le 2 t (getD places (n + i) 0) ≤ length t
+start-there t places brought n count i e there h l =
+    let k : i < length (take count (drop n brought)) = rw (length-take, length-drop) (omega arith) in
+    let same : getD places (n + i) 0 ≡ getD (take count (drop n brought)) i 0 =
+    sym (getD-drop n places i 0) ∙ ap (λ (xs : List ℕ). getD xs i 0) e ∙ sym (getD-take count (drop n brought) i 0 h) in
+    rw same (there i k)
+
+pub loaded-starts : {t starts : List ℕ} {count : ℕ} → Starts t starts (ok count) → (count ≤ 32) × StartsThere t (take count starts)
+loaded-starts {t} s =
+    let a = bind-ok (rulesOf t) _ (sym (s .answer)) in
+    (omega (arith, loaded t (a .0) (a .1) .most, ok-same (a .2)), rw (ok-same (a .2)) at (s .there (a .0) (a .1)))
+
+-- what is loaded stands behind the hints
+pub behind : {t starts : List ℕ} {given : Out ℕ} (places : List ℕ) → drop 256 places ≡ starts → Starts t starts given → Loads t places given
+behind {t} {starts} places e s =
+    let part : (rs : List Rule) → drop 256 (take (256 + length rs) places) ≡ take (length rs) starts =
+    λ rs. drop-take 256 (length rs) places ∙ ap (take (length rs)) e in
+    let are : (rs : List Rule) → rulesOf t ≡ ok rs → rs ≡ map (ruleIn t) (drop 256 (take (256 + length rs) places)) = λ rs k. rw (part rs) (s .are rs k) in
+    record {
+      answer = s .answer;
+      are = are;
+      there = λ rs k. record { starts = rw (part rs) (s .there rs k); distinct = subst Distinct (are rs k) (loaded t rs k .distinct) };
+    }

@@ -2,12 +2,12 @@
 use Prim.Native.Nat.{ℕ, _+_, _≤_, _<_}
 use mathlib.Core.Path.{_≡_}
 use mathlib.Core.List.{List, map}
-use lib.ListN.{length, getD, take}
+use lib.ListN.{length, getD, take, drop}
 use Rattle.local_format.specs.Out.{Out, ok, refused, refuse, _>>=_}
 use Rattle.local_format.specs.Field.{le}
 use Rattle.local_format.specs.Maps.{refusalOut}
 use Rattle.derivation.specs.Rule as rules
-use Rattle.rule_table.specs.Load.{ruleIn, Loaded, outsideBounds, rulesOf}
+use Rattle.rule_table.specs.Load.{ruleIn, Loaded, outsideBounds, rulesOf, Distinct}
 use Rattle.evr0_rules.specs.declared.rule.Rule.{Rule}
 use Rattle.evr0_rules.specs.declared.find.Named.{Named}
 use Rattle.evr0_rules.specs.declared.find.Named.the-variants as named
@@ -23,24 +23,34 @@ abbrev pub ruleOut : List ℕ → Rule → rules.Rule
 ruleOut name r =
     record { name = name; witnesses = r .witnesses; parents = r .parents; operation = r .operation; polarity = r .polarity }
 
+-- a rule, but with this polarity
+abbrev pub asking : ℕ → rules.Rule → rules.Rule
+asking polarity r =
+    record { name = r .name; witnesses = r .witnesses; parents = r .parents; operation = r .operation; polarity = polarity }
+
 abbrev pub namedOut : List ℕ → Named → rules.Named
 namedOut name (named.Known r) = rules.known (ruleOut name r)
 namedOut name named.Unknown = rules.unknown
 
 -- each rule that starts at these places lies in the table
-abbrev pub RulesThere : List ℕ → List ℕ → Type 0
-RulesThere t starts = (i : ℕ) → i < length starts → getD starts i 0 + 6 + le 2 t (getD starts i 0) ≤ length t
+abbrev pub StartsThere : List ℕ → List ℕ → Type 0
+StartsThere t starts = (i : ℕ) → i < length starts → getD starts i 0 + 6 + le 2 t (getD starts i 0) ≤ length t
 
 -- ---- The rules of a call
 
--- the four, or those that start at these places of a table
+-- of the places of a table's rules, those at which they start; the 256 before them are hints, which may be any numbers
+abbrev pub startsIn : List ℕ → List ℕ
+startsIn places = drop 256 places
+
+-- the rules lie in the table, and no two have one name
+pub record RulesThere (t places : List ℕ) : Type 0 where
+  pub starts : StartsThere t (startsIn places)
+  pub distinct : Distinct (map (ruleIn t) (startsIn places))
+
+-- the four, or those of a table by their places
 abbrev pub rulesIn : Rules → List ℕ → List ℕ → List rules.Rule
 rulesIn choice.Four t places = rules.fourRules
-rulesIn choice.Table t places = map (ruleIn t) places
-
--- a name that one of the rules has
-abbrev pub Known : List rules.Rule → List ℕ → Type 0
-Known rs name = (r : rules.Rule) × (rules.ruleNamed rs name ≡ rules.known r)
+rulesIn choice.Table t places = map (ruleIn t) (startsIn places)
 
 -- ---- Loading
 
@@ -58,8 +68,14 @@ countIn x = do
   rs ← x
   ok (length rs)
 
--- the rules stand at the first places, and lie in the table
-pub record Loads (t starts : List ℕ) (given : Out ℕ) : Type 0 where
+-- the rules start at the first places, and lie in the table
+pub record Starts (t starts : List ℕ) (given : Out ℕ) : Type 0 where
   pub answer : given ≡ countIn (rulesOf t)
   pub are : (rs : List rules.Rule) → rulesOf t ≡ ok rs → rs ≡ map (ruleIn t) (take (length rs) starts)
-  pub there : (rs : List rules.Rule) → rulesOf t ≡ ok rs → RulesThere t (take (length rs) starts)
+  pub there : (rs : List rules.Rule) → rulesOf t ≡ ok rs → StartsThere t (take (length rs) starts)
+
+-- the same behind 256 hints
+pub record Loads (t places : List ℕ) (given : Out ℕ) : Type 0 where
+  pub answer : given ≡ countIn (rulesOf t)
+  pub are : (rs : List rules.Rule) → rulesOf t ≡ ok rs → rs ≡ map (ruleIn t) (startsIn (take (256 + length rs) places))
+  pub there : (rs : List rules.Rule) → rulesOf t ≡ ok rs → RulesThere t (take (256 + length rs) places)

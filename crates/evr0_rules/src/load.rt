@@ -1,12 +1,17 @@
 // Loading a table of rules.
 ghost use mathlib.Core.Path.{_≡_};
-ghost use lib.ListN.{length};
+ghost use Prim.Native.Nat.{_+_, _≤_};
+ghost use lib.ListN.{length, take};
 ghost use Rattle.local_format.specs.Out.{refuse};
 ghost use Rattle.rule_table.specs.Load.{ruleAt, outside, rulesOf};
-ghost use Rattle.evr0_rules.specs.Maps.{ruleAtOut, loadingOut, countIn, Loads};
+ghost use Rattle.evr0_rules.specs.Maps.{ruleAtOut, loadingOut, countIn, StartsThere, startsIn, Starts, Loads};
+use crate::find::HINTS;
 use crate::find::Named;
+use crate::find::hint_place;
+use crate::find::rule_hinted;
 use crate::rule::is_bounded;
 use crate::rule::numbers_at;
+use local_format::field::u16_at;
 use local_format::refusal::Refusal;
 use local_format::text::Text;
 
@@ -52,10 +57,10 @@ fn rule_at(table: &[u8], at: usize) -> RuleAt
     RuleAt::Outside
 }
 
-// The rules of a table, by the places at which they start, at the front of `starts`.
-pub fn load_into(table: &[u8], starts: &mut [u64]) -> Loading
-    requires { ⌜ length (now starts) ≡ 32 ⌝ }
-    ensures { λ r. ⌜ Loads (now (table .entry)) (now (starts .exit)) (loadingOut r) ⌝ }
+// The rules of a table, by the places at which they start, after the hints, which are not filled yet.
+fn load_starts(table: &[u8], places: &mut [u64]) -> Loading
+    requires { ⌜ length (now places) ≡ 288 ⌝ }
+    ensures { λ r. ⌜ Starts (now (table .entry)) (startsIn (now (places .exit))) (loadingOut r) ⌝ }
 {
     if table.len() < 1 {
         return refused(69);
@@ -78,13 +83,14 @@ pub fn load_into(table: &[u8], starts: &mut [u64]) -> Loading
             RuleAt::Read(next) => {
                 let start = at + 2;
                 let end = next - 4;
-                let earlier = crate::find::rule_named_in(table, &starts[..i], &table[start..end]);
+                let known = HINTS + i;
+                let earlier = rule_hinted(table, &places[..known], &table[start..end]);
                 match earlier {
                     Named::Known(_) => {
                         return refused(70);
                     }
                     Named::Unknown => {
-                        starts[i] = at as u64;
+                        places[known] = at as u64;
                         at = next;
                         i += 1;
                     }
@@ -102,6 +108,38 @@ pub fn load_into(table: &[u8], starts: &mut [u64]) -> Loading
 pub fn load_rules(table: &[u8]) -> Loading
     ensures { λ r. ⌜ loadingOut r ≡ countIn (rulesOf (now (table .entry))) ⌝ }
 {
-    let mut starts = [0u64; 32];
-    load_into(table, &mut starts)
+    let mut places = [0u64; 288];
+    load_starts(table, &mut places)
+}
+
+// The index of each rule in the hint of its name; of rules with one hint, that of the last.
+fn fill_hints(table: &[u8], places: &mut [u64], count: usize)
+    requires { ⌜ 256 + count ≤ length (now places) ⌝ }
+    requires { ⌜ StartsThere (now table) (take count (startsIn (now places))) ⌝ }
+    ensures { λ r. ⌜ startsIn (now (places .exit)) ≡ startsIn (now (places .entry)) ⌝ }
+{
+    let mut i: usize = 0;
+    while i < count {
+        let at = places[HINTS + i] as usize;
+        let start = at + 2;
+        let end = start + (u16_at(table, at) as usize);
+        let hint = hint_place(&table[start..end]);
+        places[hint] = i as u64;
+        i += 1;
+    }
+}
+
+// The rules of a table, by the places at which they start, after hints.
+pub fn load_into(table: &[u8], places: &mut [u64]) -> Loading
+    requires { ⌜ length (now places) ≡ 288 ⌝ }
+    ensures { λ r. ⌜ Loads (now (table .entry)) (now (places .exit)) (loadingOut r) ⌝ }
+{
+    let loading = load_starts(table, places);
+    match loading {
+        Loading::Refused(refusal) => Loading::Refused(refusal),
+        Loading::Loaded(count) => {
+            fill_hints(table, places, count);
+            Loading::Loaded(count)
+        }
+    }
 }

@@ -5,18 +5,19 @@ ghost use mathlib.Core.Path.{_≡_};
 ghost use Prim.Native.Nat.{ℕ, _+_, _≤_};
 ghost use lib.ListN.{length};
 ghost use Rattle.local_format.specs.Field.{le};
+ghost use Rattle.derivation.specs.Rule as of;
 ghost use Rattle.derivation.specs.Rule.{polarityFits};
 ghost use Rattle.rule_table.specs.Load.{isShaped, bounded, ruleIn};
-ghost use Rattle.evr0_rules.specs.Maps.{ruleOut};
+ghost use Rattle.evr0_rules.specs.Maps.{ruleOut, asking};
 use evr0_fields::check::both;
 use local_format::field::u16_at;
 
 // How many witnesses and parents, and which operation, a proof by it has; the polarity that it asks of its witness, 2 where it asks none.
 pub struct Rule {
+    pub polarity: u8,
     pub witnesses: u8,
     pub parents: u8,
     pub operation: u8,
-    pub polarity: u8,
 }
 
 // Whether one of the tests holds.
@@ -66,9 +67,9 @@ pub fn numbers_at(table: &[u8], at: usize) -> Rule
     }
 }
 
-// Whether a witness's polarity is the one that a rule asks.
-pub fn polarity_fits(rule: Rule, polarity: u8) -> bool
-    ensures { λ r. ⌜ ((name : List ℕ) → r ≡ polarityFits (ruleOut name rule) polarity) ⌝ }
+// Whether a witness's polarity is the one that a rule asks, 2 where it asks none.
+pub fn polarity_fits(asked: u64, polarity: u8) -> bool
+    ensures { λ r. ⌜ ((rule : of.Rule) → r ≡ polarityFits (asking asked rule) polarity) ⌝ }
 {
-    either(rule.polarity == 2, polarity == rule.polarity)
+    either(asked == 2, polarity as u64 == asked)
 }

@@ -22,7 +22,7 @@ use Rattle.evr0_section.proofs.Inside.{Inside}
 use Rattle.evr0_section.proofs.RowsLaws.{trace, trace-length}
 use Rattle.evr0_section.proofs.SectionWithin.{rows-end}
 use Rattle.evr0_section.proofs.CheckedTables.{four-steps}
-use Rattle.evr0_tables.specs.Maps.{nextIn, startsIn, Owned, ownedIn}
+use Rattle.evr0_tables.specs.Maps.{nextIn, asked, notesIn, startsIn, Owned, ownedIn}
 use Rattle.evr0_tables.specs.PayloadMaps.{Places, parentsIn, placesIn, Begins, Reads}
 
 -- ---- A table by what is kept of it
@@ -116,23 +116,30 @@ module _ (rules : List Rule) (width : ℕ) (counts : Counts) (p : List ℕ) (at 
   x = tablesAfter rules width counts p at
 
   -- begun by the propositions and the proofs that were read
-  pub both-begun : {g : Places} {n : ℕ} {ps qs : List ℕ} → placesIn x ≡ ok g
+  pub all-begun : {g : Places} {n : ℕ} {ps qs ks : List ℕ} → placesIn x ≡ ok g
       → ok n ≡ nextIn (rows propositionRow (counts .propositions) first p at)
       → Front (startsIn (rows propositionRow (counts .propositions) first p at)) ps
-      → Front (startsIn (rows (proofRow rules counts) (counts .proofs) noneOwned p n)) qs → Begins x ps qs (ok g)
-  both-begun {g} {n} {ps} {qs} e m h k =
+      → Front (startsIn (rows (proofRow rules counts) (counts .proofs) noneOwned p n)) qs
+      → Front (notesIn asked (rows (proofRow rules counts) (counts .proofs) noneOwned p n)) ks → Begins x ps qs ks (ok g)
+  all-begun {g} {n} {ps} {qs} {ks} e m h k o =
       let a = bind-ok x _ e in
       let f = four-steps rules width counts p at (a .0) (a .1) in
       let l : n ≡ a .0 .propositions .next = ok-same (m ∙ ap nextIn (f .propositions)) in
       let k′ : Front (startsIn (rows (proofRow rules counts) (counts .proofs) noneOwned p (a .0 .propositions .next))) qs = rw l at k in
-      record { answer = sym e; propositions = rw (a .1) (rw (f .propositions) at h); proofs = rw (a .1) (rw (f .proofs) at k′) }
+      let o′ : Front (notesIn asked (rows (proofRow rules counts) (counts .proofs) noneOwned p (a .0 .propositions .next))) ks = rw l at o in
+      record {
+        answer = sym e;
+        propositions = rw (a .1) (rw (f .propositions) at h);
+        proofs = rw (a .1) (rw (f .proofs) at k′);
+        polarities = rw (a .1) (rw (f .proofs) at o′);
+      }
 
   -- cleared past what was read
-  pub cleared-past : {g : Places} {ps qs ps′ qs′ : List ℕ} (propositions proofs : List ℕ) → Begins x ps qs (ok g)
+  pub cleared-past : {g : Places} {ps qs ks ps′ qs′ : List ℕ} (propositions proofs : List ℕ) → Begins x ps qs ks (ok g)
       → length ps ≡ length propositions → length qs ≡ length proofs
       → ps′ ≡ lent (length ps) (take (counts .propositions) ps) → qs′ ≡ lent (length qs) (take (counts .proofs) qs)
-      → Reads x propositions proofs ps′ qs′ (ok g)
-  cleared-past {g} {ps} {qs} {ps′} {qs′} propositions proofs b lp lq ep eq =
+      → Reads x propositions proofs ps′ qs′ ks (ok g)
+  cleared-past {g} {ps} {qs} {ks} {ps′} {qs′} propositions proofs b lp lq ep eq =
       let a = bind-ok x _ (sym (b .answer)) in
       let f = four-steps rules width counts p at (a .0) (a .1) in
       let np : length (startsOf (a .0 .propositions .entries)) ≡ counts .propositions =
@@ -143,6 +150,7 @@ module _ (rules : List Rule) (width : ℕ) (counts : Counts) (p : List ℕ) (at 
         answer = b .answer;
         propositions = rw (a .1) (ep ∙ front-lent _ _ ps _ lp np (rw (a .1) at (b .propositions)));
         proofs = rw (a .1) (eq ∙ front-lent _ _ qs _ lq nq (rw (a .1) at (b .proofs)));
+        polarities = b .polarities;
       }
 
 module _ {x : Out Four} {q : Refusal} (e : placesIn x ≡ refused q) where
@@ -153,9 +161,10 @@ module _ {x : Out Four} {q : Refusal} (e : placesIn x ≡ refused q) where
       go (ok t) h = absurd (never (sym h))
       go (refused r) h = cc
 
-  pub unread : (ps qs : List ℕ) → Begins x ps qs (refused q)
-  unread ps qs = record { answer = sym e; propositions = rw none; proofs = rw none }
+  pub unread : (ps qs ks : List ℕ) → Begins x ps qs ks (refused q)
+  unread ps qs ks = record { answer = sym e; propositions = rw none; proofs = rw none; polarities = rw none }
 
-  pub cleared : (propositions proofs ps qs : List ℕ) {ps′ qs′ : List ℕ} → length ps ≡ length propositions → length qs ≡ length proofs
-      → ps′ ≡ lent (length ps) [] → qs′ ≡ lent (length qs) [] → Reads x propositions proofs ps′ qs′ (refused q)
-  cleared propositions proofs ps qs lp lq ep eq = record { answer = sym e; propositions = rw (none, ← lp) ep; proofs = rw (none, ← lq) eq }
+  pub cleared : (propositions proofs ps qs ks : List ℕ) {ps′ qs′ : List ℕ} → length ps ≡ length propositions → length qs ≡ length proofs
+      → ps′ ≡ lent (length ps) [] → qs′ ≡ lent (length qs) [] → Reads x propositions proofs ps′ qs′ ks (refused q)
+  cleared propositions proofs ps qs ks lp lq ep eq =
+      record { answer = sym e; propositions = rw (none, ← lp) ep; proofs = rw (none, ← lq) eq; polarities = rw none }

@@ -11,36 +11,37 @@ use Rattle.derivation.specs.Rule.{Rule}
 use Rattle.evr0_section.specs.Head.{Counts}
 use Rattle.evr0_section.specs.Rows.{Sized, Row}
 use Rattle.evr0_section.specs.Witness.{witnessRow}
-use Rattle.evr0_section.specs.Proof.{ProofRecord, Unowned, proofOf, checkProof, proofRow}
+use Rattle.evr0_section.specs.Proof.{ProofRecord, Settled, Unowned, proofOf, checkProof, proofRow}
 use Rattle.evr0_section.proofs.RowChecks.{proof-checked, witness-known}
 use Rattle.evr0_fields.specs.Maps.{Beside, beside}
-use Rattle.evr0_tables.specs.Maps.{afterRecord, Kept, keptIn, sizeIn}
+use Rattle.evr0_tables.specs.Maps.{afterRecord, Kept, keptIn, Noted, notedIn, sizeIn}
 
-after-checked : (rules : List Rule) (counts : Counts) (u : Unowned) (name : List ℕ) (r : ProofRecord) (rule : Rule) (size : ℕ)
+after-checked : (rules : List Rule) (counts : Counts) (u : Unowned) (name : List ℕ) (r : ProofRecord) (rule : Rule)
     → checkProof rules counts u name r ≡ ok rule
-    → _≡_ {A = Out (Kept Unowned)}
-    (ok (record { size = size; state = afterRecord r }))
-    (ok (record { size = size; state = record { proof = suc (u .proof); witness = u .witness + r .witnessCount; parent = u .parent + r .parentCount } }))
-after-checked rules counts u name r rule size e =
+    → afterRecord r ≡ record { proof = suc (u .proof); witness = u .witness + r .witnessCount; parent = u .parent + r .parentCount }
+after-checked rules counts u name r rule e =
     let g = proof-checked rules counts u name r rule 0 e in
     rw (add-one, g .number, g .firstWitness, g .firstParent)
 
 -- ---- A proof's row, by what its record and its checks are
 module _ (rules : List Rule) (counts : Counts) (u : Unowned) (s : List ℕ) where
-  pub row-refused : {q : Refusal} → proofOf s ≡ refused q → refused q ≡ keptIn (proofRow rules counts u s)
+  pub row-refused : {q : Refusal} → proofOf s ≡ refused q → refused q ≡ notedIn (proofRow rules counts u s)
   unfolding proofRow
   row-refused e = rw e
 
   module _ {x : Sized ProofRecord} (e : proofOf s ≡ ok x) where
     pub row-unsettled : {q : Refusal} → checkProof rules counts u (bytesAt s (x .item .rule .start) (x .item .rule .len)) (x .item) ≡ refused q
-        → refused q ≡ keptIn (proofRow rules counts u s)
+        → refused q ≡ notedIn (proofRow rules counts u s)
     unfolding proofRow
     row-unsettled c = rw (e, c)
 
     pub row-settled : {rule : Rule} → checkProof rules counts u (bytesAt s (x .item .rule .start) (x .item .rule .len)) (x .item) ≡ ok rule
-        → ok (record { size = x .size; state = afterRecord (x .item) }) ≡ keptIn (proofRow rules counts u s)
+        → ok (record { polarity = rule .polarity; kept = record { size = x .size; state = afterRecord (x .item) } }) ≡ notedIn (proofRow rules counts u s)
     unfolding proofRow
-    row-settled {rule} c = rw (e, c) (after-checked rules counts u _ (x .item) rule (x .size) c)
+    row-settled {rule} c =
+        rw (e, c)
+        (ap (λ (v : Unowned). ok (record { polarity = rule .polarity; kept = record { size = x .size; state = v } }))
+        (after-checked rules counts u _ (x .item) rule c))
 
 -- ---- A record by what is kept of it
 module _ {A S : Type 0} where
@@ -56,6 +57,15 @@ module _ {A S : Type 0} where
   pub size-kept : (x : Out (Row A S)) {q : Refusal} → sizeIn x ≡ refused q → keptIn x ≡ refused q
   size-kept (ok r) e = absurd (never (sym e))
   size-kept (refused p) e = cc
+
+pub noted-kept : (x : Out (Row Settled Unowned)) {n : Noted} → notedIn x ≡ ok n → keptIn x ≡ ok (n .kept)
+noted-kept x e =
+    let a = bind-ok x _ e in
+    rw (a .1) (ap (λ (n : Noted). ok (n .kept)) (ok-same (a .2)))
+
+pub noted-refused : (x : Out (Row Settled Unowned)) {q : Refusal} → notedIn x ≡ refused q → keptIn x ≡ refused q
+noted-refused (ok r) e = absurd (never (sym e))
+noted-refused (refused p) e = cc
 
 pub witness-kept : (width : ℕ) (counts : Counts) (w : ℕ) (s : List ℕ) {n : ℕ} → sizeIn (witnessRow width counts w s) ≡ ok n
     → keptIn (witnessRow width counts w s) ≡ ok (record { size = n; state = w + 1 })

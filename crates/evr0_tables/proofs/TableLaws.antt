@@ -8,13 +8,14 @@ use lib.ListN.{length, take, drop, set, length-take, length-drop}
 use lib.Seq.{take-suc-set}
 use Rattle.local_format.specs.Refusal.{Refusal}
 use Rattle.local_format.specs.Out.{Out, ok, refused, atOffset}
+use Rattle.local_format.proofs.OutLaws.{bind-ok, ok-same}
 use Rattle.lent_table.specs.Lent.{Front}
-use Rattle.evr0_section.specs.Rows.{Row, Rows, rows}
+use Rattle.evr0_section.specs.Rows.{Row, Entry, Rows, rows}
 use Rattle.evr0_section.specs.Proof.{Settled, Unowned}
 use Rattle.local_format.proofs.Each.{each-ok, each-refused}
 use Rattle.evr0_section.proofs.Inside.{Inside}
 use Rattle.evr0_section.proofs.Progress.{Progress, Done, begun, turn, refused-at, ended}
-use Rattle.evr0_tables.specs.Maps.{keptIn, nextIn, startsIn, ownedIn}
+use Rattle.evr0_tables.specs.Maps.{keptIn, Noted, notedIn, asked, nextIn, notesIn, startsIn, ownedIn}
 use Rattle.evr0_tables.proofs.RowLaws.{kept-read, kept-refused}
 
 module _ {A S : Type 0} (row : S → List ℕ → Out (Row A S)) (p : List ℕ) (count at : ℕ) (first : S) where
@@ -22,7 +23,7 @@ module _ {A S : Type 0} (row : S → List ℕ → Out (Row A S)) (p : List ℕ) 
   pub record Stands (i place : ℕ) (state : S) (xs : List ℕ) : Type 0 where
     pub few : i ≤ count
     pub within : place ≤ length p
-    pub done : Progress row p count at first i place state xs
+    pub done : Progress row (λ e. e .start) p count at first i place state xs
 
   -- the record at the place reached is refused
   pub record Stopped (place : ℕ) (q : Refusal) : Type 0 where
@@ -30,7 +31,23 @@ module _ {A S : Type 0} (row : S → List ℕ → Out (Row A S)) (p : List ℕ) 
     pub is : rows row count first p at ≡ refused (atOffset q (place + q .offset))
 
   pub starting : at ≤ length p → Stands 0 at first []
-  starting h = record { few = omega arith; within = h; done = begun row p count at first }
+  starting h = record { few = omega arith; within = h; done = begun row (λ e. e .start) p count at first }
+
+-- a number was stored past the first i
+pub one-more : (table : List ℕ) (i n : ℕ) → i < length table → take (i + 1) (set table i n) ≡ take i table ++ (n ∷ [])
+one-more table i n h = rw (add-one i) (take-suc-set table i n h)
+
+-- all records are read, and what was noted of them is in a table
+pub noted-front : {A S : Type 0} {row : S → List ℕ → Out (Row A S)} {note : Entry A → ℕ} {p : List ℕ} {count at : ℕ} {first : S} {i place : ℕ} {state : S}
+    {xs : List ℕ} → Progress row note p count at first i place state xs → i ≤ count → count ≤ i → (table : List ℕ) → xs ≡ take i table
+    → count ≤ length table → Front (notesIn note (rows row count first p at)) table
+noted-front {row = row} {note = note} {p = p} {count = count} {at = at} {first = first} {i = i} {place = place} {state = state} {xs = xs} d few h table k l =
+    let all = ended row note p count at first i place state xs d h in
+    let e : i ≡ count = omega arith in
+    let f : notesIn note (rows row count first p at) ≡ take count table =
+    ap (notesIn note) (all .is) ∙ all .noted ∙ k ∙ ap (λ (n : ℕ). take n table) e in
+    let m : length (take count table) ≡ count = simp length-take (omega arith) in
+    rw (f, m)
 
 module _ {A S : Type 0} {row : S → List ℕ → Out (Row A S)} {p : List ℕ} {count at : ℕ} {first : S} where
   module _ {i place : ℕ} {state : S} {xs : List ℕ} (s : Stands row p count at first i place state xs) where
@@ -44,7 +61,7 @@ module _ {A S : Type 0} {row : S → List ℕ → Out (Row A S)} {p : List ℕ} 
           record {
             few = omega arith;
             within = omega (arith, s .within, length-drop place p, r .2);
-            done = rw (r .2, r .3) at (turn row p count at first i place state xs (s .done) h (r .0) (r .1));
+            done = rw (r .2, r .3) at (turn row (λ e. e .start) p count at first i place state xs (s .done) h (r .0) (r .1));
           }
 
       pub stop : {q : Refusal} → keptIn (row state (drop place p)) ≡ refused q → Stopped row p count at first place q
@@ -53,34 +70,39 @@ module _ {A S : Type 0} {row : S → List ℕ → Out (Row A S)} {p : List ℕ} 
           let f = each-refused inside r .offset in
           record {
             within = omega (arith, s .within, length-drop place p);
-            is = refused-at row p count at first i place state xs (s .done) h q r;
+            is = refused-at row (λ e. e .start) p count at first i place state xs (s .done) h q r;
           }
 
     -- ---- The end
     module _ (h : count ≤ i) where
-      all : Done row p count at first place state xs
-      all = ended row p count at first i place state xs (s .done) h
+      all : Done row (λ e. e .start) p count at first place state xs
+      all = ended row (λ e. e .start) p count at first i place state xs (s .done) h
 
       pub read-next : ok place ≡ nextIn (rows row count first p at)
       read-next = sym (ap nextIn (all .is) ∙ ap (λ (n : ℕ). ok n) (all .next))
 
       pub read-front : (starts : List ℕ) → xs ≡ take i starts → count ≤ length starts → Front (startsIn (rows row count first p at)) starts
-      read-front starts k l =
-          let e : i ≡ count = omega (arith, s .few) in
-          let f : startsIn (rows row count first p at) ≡ take count starts = ap startsIn (all .is) ∙ all .starts ∙ k ∙ ap (λ (n : ℕ). take n starts) e in
-          let m : length (take count starts) ≡ count = simp length-take (omega arith) in
-          rw (f, m)
+      read-front starts k l = noted-front (s .done) (s .few) h starts k l
 
   -- the start was stored
   pub stored : (starts : List ℕ) (i place : ℕ) {next : ℕ} {state : S} → Stands row p count at first (i + 1) next state (take i starts ++ (place ∷ []))
       → i < length starts → Stands row p count at first (i + 1) next state (take (i + 1) (set starts i place))
-  stored starts i place s h = rw (add-one i, take-suc-set starts i place h) (rw (add-one i) at s)
+  stored starts i place s h = rw (one-more starts i place h) s
 
-pub refused-front : {A S : Type 0} {x : Out (Rows A S)} {q : Refusal} (starts : List ℕ) → x ≡ refused q → Front (startsIn x) starts
-refused-front starts e = rw e
+pub refused-front : {A S : Type 0} (note : Entry A → ℕ) {x : Out (Rows A S)} {q : Refusal} (table : List ℕ) → x ≡ refused q → Front (notesIn note x) table
+refused-front note table e = rw e
 
--- the end of the proofs, with what is then unowned
+-- ---- The proofs
 module _ {row : Unowned → List ℕ → Out (Row Settled Unowned)} {p : List ℕ} {count at : ℕ} {first : Unowned} where
+  -- one more, with the polarity that its rule asks
+  pub noted : {i place : ℕ} {state : Unowned} {xs : List ℕ} → Progress row asked p count at first i place state xs → i < count → {n : Noted}
+      → notedIn (row state (drop place p)) ≡ ok n
+      → Progress row asked p count at first (i + 1) (place + n .kept .size) (n .kept .state) (xs ++ (n .polarity ∷ []))
+  noted {i} {place} {state} {xs} d h e =
+      let r = bind-ok (row state (drop place p)) _ e in
+      rw (← ok-same (r .2)) (turn row asked p count at first i place state xs d h (r .0) (r .1))
+
+  -- the end, with what is then unowned
   pub read-owned : {i place : ℕ} {state : Unowned} {xs : List ℕ} → Stands row p count at first i place state xs → count ≤ i
       → ok (record { unowned = state; next = place }) ≡ ownedIn (rows row count first p at)
   read-owned {i} {place} {state} {xs} s h =

@@ -1,10 +1,10 @@
 -- From the code's structs and enums to the definitions' types, and what the code keeps of them.
 use Prim.Native.Nat.{ℕ, _+_}
-use mathlib.Core.List.{List, []}
+use mathlib.Core.List.{List, [], map}
 use lib.ListN.{drop}
 use Rattle.local_format.specs.Out.{Out, ok, refused, _>>=_}
 use Rattle.local_format.specs.Maps.{refusalOut}
-use Rattle.evr0_section.specs.Rows.{Row, Rows, startsOf}
+use Rattle.evr0_section.specs.Rows.{Row, Entry, Rows}
 use Rattle.evr0_section.specs.Proposition as props
 use Rattle.evr0_section.specs.Proof as proofs
 use Rattle.evr0_records.specs.Maps.{propositionRecord, unownedOut}
@@ -47,8 +47,22 @@ keptIn x = do
   r ← x
   ok (record { size = r .size; state = r .state })
 
-abbrev pub proofRowOut : proof.ProofRow → Out (Kept proofs.Unowned)
-proofRowOut (row.Read n u) = ok (record { size = n; state = unownedOut u })
+-- the same of a proof, with the polarity that its rule asks
+pub record Noted : Type 0 where
+  pub polarity : ℕ
+  pub kept : Kept proofs.Unowned
+
+-- the polarity that the rule of a proof asks
+abbrev pub asked : Entry proofs.Settled → ℕ
+asked e = e .item .rule .polarity
+
+abbrev pub notedIn : Out (Row proofs.Settled proofs.Unowned) → Out Noted
+notedIn x = do
+  r ← x
+  ok (record { polarity = r .item .rule .polarity; kept = record { size = r .size; state = r .state } })
+
+abbrev pub proofRowOut : proof.ProofRow → Out Noted
+proofRowOut (row.Read n q u) = ok (record { polarity = q; kept = record { size = n; state = unownedOut u } })
 proofRowOut (row.Refused r) = refused (refusalOut r)
 
 abbrev pub sizeIn : {A S : Type 0} → Out (Row A S) → Out ℕ
@@ -86,7 +100,11 @@ abbrev pub proofTableOut : proofTable.ProofTable → Out Owned
 proofTableOut (proofsRead.Read u n) = ok (record { unowned = unownedOut u; next = n })
 proofTableOut (proofsRead.Refused r) = refused (refusalOut r)
 
--- the starts of its records; a refusal has none
+-- what is noted of its records; a refusal has none
+abbrev pub notesIn : {A S : Type 0} → (Entry A → ℕ) → Out (Rows A S) → List ℕ
+notesIn note (ok t) = map note (t .entries)
+notesIn note (refused r) = []
+
+-- the starts of its records
 abbrev pub startsIn : {A S : Type 0} → Out (Rows A S) → List ℕ
-startsIn (ok t) = startsOf (t .entries)
-startsIn (refused r) = []
+startsIn x = notesIn (λ e. e .start) x

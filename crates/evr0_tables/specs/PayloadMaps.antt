@@ -1,13 +1,14 @@
 -- What the code keeps of a payload's tables, and what it leaves in the lent tables.
 use Prim.Native.Nat.{ℕ}
 use mathlib.Core.Path.{_≡_}
-use mathlib.Core.List.{List, []}
+use mathlib.Core.List.{List, [], map}
 use lib.ListN.{length}
 use Rattle.local_format.specs.Out.{Out, ok, refused, _>>=_}
 use Rattle.local_format.specs.Maps.{refusalOut}
 use Rattle.lent_table.specs.Lent.{lent, Front}
 use Rattle.evr0_section.specs.Rows.{startsOf}
 use Rattle.evr0_section.specs.Section.{Rest, Four}
+use Rattle.evr0_tables.specs.Maps.{asked}
 use Rattle.evr0_tables.specs.declared.payload.Places as places
 use Rattle.evr0_tables.specs.declared.payload.Places.the-variants as read
 
@@ -39,14 +40,21 @@ abbrev pub proofStartsIn : Out Four → List ℕ
 proofStartsIn (ok t) = startsOf (t .proofs .entries)
 proofStartsIn (refused r) = []
 
--- the lent tables begin with the starts
-pub record Begins (x : Out Four) (ps qs : List ℕ) (given : Out Places) : Type 0 where
+-- the polarities that the rules of the proofs ask
+abbrev pub polaritiesIn : Out Four → List ℕ
+polaritiesIn (ok t) = map asked (t .proofs .entries)
+polaritiesIn (refused r) = []
+
+-- the lent tables begin with the starts and with the polarities
+pub record Begins (x : Out Four) (ps qs ks : List ℕ) (given : Out Places) : Type 0 where
   pub answer : given ≡ placesIn x
   pub propositions : Front (propositionStartsIn x) ps
   pub proofs : Front (proofStartsIn x) qs
+  pub polarities : Front (polaritiesIn x) ks
 
--- the lent tables hold the starts, and zeros past them
-pub record Reads (x : Out Four) (ps qs ps′ qs′ : List ℕ) (given : Out Places) : Type 0 where
+-- two lent tables hold the starts, and zeros past them; a third one begins with the polarities
+pub record Reads (x : Out Four) (ps qs ps′ qs′ ks′ : List ℕ) (given : Out Places) : Type 0 where
   pub answer : given ≡ placesIn x
   pub propositions : ps′ ≡ lent (length ps) (propositionStartsIn x)
   pub proofs : qs′ ≡ lent (length qs) (proofStartsIn x)
+  pub polarities : Front (polaritiesIn x) ks′

@@ -55,7 +55,8 @@ fn read_rest(payload: &[u8], schema: u16, counts: Counts, at: usize) -> Table
     Table::Read { next: parents_at }
 }
 
-// The four tables from `at` on, with the starts of the propositions and of the proofs at the front of the lent tables.
+// The four tables from `at` on, with the starts of the propositions and of the proofs, and the polarities that the proofs' rules ask, at the front of the
+// lent tables.
 fn read_four(
     rules: Rules,
     table: &[u8],
@@ -66,11 +67,13 @@ fn read_four(
     at: usize,
     propositions: &mut [u64],
     proofs: &mut [u64],
+    polarities: &mut [u64],
 ) -> Places
-    requires { ⌜ (counts .propositions ≤ length (now propositions)) × (counts .proofs ≤ length (now proofs)) ⌝ }
+    requires { ⌜ (counts .propositions ≤ length (now propositions)) × (counts .proofs ≤ length (now proofs))
+        × (counts .proofs ≤ length (now polarities)) ⌝ }
     requires { ⌜ (counts .parents ≤ 262144) × (at ≤ length (now payload)) × RulesThere (now table) (now places) ⌝ }
     ensures { λ r. ⌜ Begins (tablesAfter (rulesIn rules (now (table .entry)) (now (places .entry))) (spanWidth schema) (countsOut counts)
-        (now (payload .entry)) at) (now (propositions .exit)) (now (proofs .exit)) (placesOut r) ⌝ }
+        (now (payload .entry)) at) (now (propositions .exit)) (now (proofs .exit)) (now (polarities .exit)) (placesOut r) ⌝ }
 {
     let first = crate::tables::read_propositions(payload, counts.propositions, at, propositions);
     match first {
@@ -84,6 +87,7 @@ fn read_four(
                 counts,
                 proofs_at,
                 proofs,
+                polarities,
             );
             match second {
                 ProofTable::Refused(refusal) => Places::Refused(refusal),
@@ -108,7 +112,7 @@ fn read_four(
     }
 }
 
-// The same, with zeros past the starts; a refusal leaves zeros in both lent tables.
+// The same, with zeros past the starts; a refusal leaves zeros in the tables of starts. Past the polarities the third table holds anything.
 pub fn read_tables(
     rules: Rules,
     table: &[u8],
@@ -119,11 +123,14 @@ pub fn read_tables(
     at: usize,
     propositions: &mut [u64],
     proofs: &mut [u64],
+    polarities: &mut [u64],
 ) -> Places
-    requires { ⌜ (counts .propositions ≤ length (now propositions)) × (counts .proofs ≤ length (now proofs)) ⌝ }
+    requires { ⌜ (counts .propositions ≤ length (now propositions)) × (counts .proofs ≤ length (now proofs))
+        × (counts .proofs ≤ length (now polarities)) ⌝ }
     requires { ⌜ (counts .parents ≤ 262144) × (at ≤ length (now payload)) × RulesThere (now table) (now places) ⌝ }
     ensures { λ r. ⌜ Reads (tablesAfter (rulesIn rules (now (table .entry)) (now (places .entry))) (spanWidth schema) (countsOut counts)
-        (now (payload .entry)) at) (now (propositions .entry)) (now (proofs .entry)) (now (propositions .exit)) (now (proofs .exit)) (placesOut r) ⌝ }
+        (now (payload .entry)) at) (now (propositions .entry)) (now (proofs .entry)) (now (propositions .exit)) (now (proofs .exit))
+        (now (polarities .exit)) (placesOut r) ⌝ }
 {
     let read = read_four(
         rules,
@@ -135,6 +142,7 @@ pub fn read_tables(
         at,
         propositions,
         proofs,
+        polarities,
     );
     match read {
         Places::Refused(refusal) => {

@@ -8,7 +8,7 @@ ghost use Rattle.evr0_section.specs.Witness.{witnessRow};
 ghost use Rattle.evr0_head.specs.Maps.{countsOut};
 ghost use Rattle.evr0_rules.specs.Maps.{rulesIn, RulesThere};
 ghost use Rattle.evr0_records.specs.Maps.{unownedOut, propositionRecord, proofRecord};
-ghost use Rattle.evr0_tables.specs.Maps.{beforeOut, propositionRowOut, afterRecord, keptIn, proofRowOut, sizeIn, sizeOut};
+ghost use Rattle.evr0_tables.specs.Maps.{beforeOut, propositionRowOut, afterRecord, notedIn, proofRowOut, sizeIn, sizeOut};
 use evr0_fields::check::Checked;
 use evr0_head::counts::Counts;
 use evr0_records::proof::Proof;
@@ -63,9 +63,13 @@ pub fn next_proposition(payload: &[u8], at: usize, before: Before) -> Propositio
     PropositionRead::Refused(local_format::refusal::refuse(16, 0))
 }
 
-// The size of a proof, and what is unowned after it.
+// The size of a proof, the polarity that its rule asks, and what is unowned after it.
 pub enum ProofRow {
-    Read { size: usize, unowned: Unowned },
+    Read {
+        size: usize,
+        polarity: u8,
+        unowned: Unowned,
+    },
     Refused(Refusal),
 }
 
@@ -92,7 +96,7 @@ pub fn next_proof(
     unowned: Unowned,
 ) -> ProofRow
     requires { ⌜ RulesThere (now table) (now places) ⌝ }
-    ensures { λ r. ⌜ proofRowOut r ≡ keptIn (proofRow (rulesIn rules (now (table .entry)) (now (places .entry))) (countsOut counts)
+    ensures { λ r. ⌜ proofRowOut r ≡ notedIn (proofRow (rulesIn rules (now (table .entry)) (now (places .entry))) (countsOut counts)
         (unownedOut unowned) (drop at (now (payload .entry)))) ⌝ }
 {
     let tail = local_format::part::tail(payload, at);
@@ -112,8 +116,9 @@ pub fn next_proof(
             );
             match settled {
                 Settled::Refused(r) => ProofRow::Refused(r),
-                Settled::By(_) => ProofRow::Read {
+                Settled::By(rule) => ProofRow::Read {
                     size,
+                    polarity: rule.polarity,
                     unowned: after_proof(proof),
                 },
             }

@@ -10,7 +10,7 @@ ghost use Rattle.evr0_section.specs.Proof.{noneOwned, proofRow};
 ghost use Rattle.evr0_section.specs.Witness.{witnessRow, parentRow};
 ghost use Rattle.evr0_head.specs.Maps.{countsOut};
 ghost use Rattle.evr0_rules.specs.Maps.{rulesIn, RulesThere};
-ghost use Rattle.evr0_tables.specs.Maps.{nextIn, startsIn, tableOut, ownedIn, proofTableOut};
+ghost use Rattle.evr0_tables.specs.Maps.{nextIn, asked, notesIn, startsIn, tableOut, ownedIn, proofTableOut};
 use crate::rows::Before;
 use crate::rows::ProofRow;
 use crate::rows::Size;
@@ -60,6 +60,7 @@ pub enum ProofTable {
     Refused(Refusal),
 }
 
+// The starts of the proofs, and the polarities that their rules ask, each at the front of a lent table.
 pub fn read_proofs(
     rules: Rules,
     table: &[u8],
@@ -68,13 +69,18 @@ pub fn read_proofs(
     counts: Counts,
     at: usize,
     starts: &mut [u64],
+    polarities: &mut [u64],
 ) -> ProofTable
-    requires { ⌜ (counts .proofs ≤ length (now starts)) × (at ≤ length (now payload)) × RulesThere (now table) (now places) ⌝ }
+    requires { ⌜ (counts .proofs ≤ length (now starts)) × (counts .proofs ≤ length (now polarities)) ⌝ }
+    requires { ⌜ (at ≤ length (now payload)) × RulesThere (now table) (now places) ⌝ }
     ensures { λ r. ⌜ proofTableOut r ≡ ownedIn (rows (proofRow (rulesIn rules (now (table .entry)) (now (places .entry))) (countsOut counts))
         (counts .proofs) noneOwned (now (payload .entry)) at) ⌝ }
     ensures { λ r. ⌜ Front (startsIn (rows (proofRow (rulesIn rules (now (table .entry)) (now (places .entry))) (countsOut counts)) (counts .proofs)
         noneOwned (now (payload .entry)) at))
         (now (starts .exit)) ⌝ }
+    ensures { λ r. ⌜ Front (notesIn asked (rows (proofRow (rulesIn rules (now (table .entry)) (now (places .entry))) (countsOut counts)) (counts .proofs)
+        noneOwned (now (payload .entry)) at))
+        (now (polarities .exit)) ⌝ }
 {
     let count = counts.proofs;
     let mut unowned = Unowned {
@@ -89,9 +95,11 @@ pub fn read_proofs(
         match row {
             ProofRow::Read {
                 size,
+                polarity,
                 unowned: next,
             } => {
                 starts[i] = place as u64;
+                polarities[i] = polarity as u64;
                 unowned = next;
                 place += size;
                 i += 1;

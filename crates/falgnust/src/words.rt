@@ -1,6 +1,8 @@
 // The fields of records that start at given places, as words of a lent table: true where each record is there and all words fit; else zeros.
+// Paths have words of any number, and are answered by how many fit.
 ghost use Rattle.evr0_section.specs.Head.{spanWidth};
 ghost use Rattle.record_words.specs.Words.{textWhole, textWords, witnessWhole, witnessWords, Fills, Runs};
+ghost use Rattle.path_words.specs.Words.{pathWords, Fits};
 
 // Of a proposition 5 words: the place and the length of its kind, owner, scope, type.
 #[no_mangle]
@@ -55,4 +57,18 @@ pub extern "C" fn falgnust_text_words(bytes: &[u8], starts: &[u64], words: &mut 
         (now (words .entry)) (now (words .exit)) r ⌝ }
 {
     record_words::read_strings(bytes, starts, words)
+}
+
+// Of a path of a block 4 words and one for each of its components: event, site, root, how many components; kind, first and second number from the
+// lowest bits on, 2, 32 and 16 of them. As many paths as are there and fit, from the first on: how many, and zeros past their words.
+#[no_mangle]
+pub extern "C" fn falgnust_path_words(
+    code: &[u8],
+    header_rev: u16,
+    starts: &[u64],
+    words: &mut [u64],
+) -> usize
+    ensures { λ r. ⌜ Fits (pathWords «header_rev» (now (code .entry))) (now (starts .entry)) (now (words .entry)) (now (words .exit)) r ⌝ }
+{
+    path_words::read_paths(code, header_rev, starts, words)
 }

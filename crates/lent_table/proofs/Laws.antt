@@ -52,6 +52,19 @@ module _ (held : List ℕ) where
       let e : i ≡ length held = omega (arith, z .kept, z .within) in
       z .is ∙ rw (e, drop-length, append-nil) (none (length held))
 
+  -- the first entries, one by one
+  pub zeroed-1 : 0 < length held → Zeroed held 1 (set held 0 0)
+  zeroed-1 h = zeroed-more 0 held zeroed-none h
+
+  pub zeroed-2 : 1 < length held → Zeroed held 2 (set (set held 0 0) 1 0)
+  zeroed-2 h = zeroed-more 1 _ (zeroed-1 (omega arith)) (simp length-set h)
+
+  pub zeroed-3 : 2 < length held → Zeroed held 3 (set (set (set held 0 0) 1 0) 2 0)
+  zeroed-3 h = zeroed-more 2 _ (zeroed-2 (omega arith)) (simp length-set h)
+
+  pub zeroed-4 : 3 < length held → Zeroed held 4 (set (set (set (set held 0 0) 1 0) 2 0) 3 0)
+  zeroed-4 h = zeroed-more 3 _ (zeroed-3 (omega arith)) (simp length-set h)
+
 -- ---- Zeros from an index on
 module _ (n : ℕ) (xs : List ℕ) where
   pub cleared : n ≤ length xs

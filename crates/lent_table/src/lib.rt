@@ -1,14 +1,41 @@
 // Zeros in a lent table, of 64-bit numbers or of bytes, and bytes copied into one.
-ghost use Prim.Native.Nat.{min};
+ghost use Prim.Native.Nat.{_≤_, min};
 ghost use mathlib.Core.Path.{_≡_};
 ghost use mathlib.Core.List.{[]};
 ghost use lib.ListN.{length, take, drop};
 ghost use Rattle.lent_table.specs.Lent.{lent};
 
+// Zeros in a table of at most four entries, one by one: less work than a loop where a section or a block is small.
+fn clear_few(table: &mut [u64])
+    requires { ⌜ length (now table) ≤ 4 ⌝ }
+    ensures { λ r. ⌜ now (table .exit) ≡ lent (length (now (table .entry))) [] ⌝ }
+{
+    if table.len() < 1 {
+        return;
+    }
+    table[0] = 0;
+    if table.len() < 2 {
+        return;
+    }
+    table[1] = 0;
+    if table.len() < 3 {
+        return;
+    }
+    table[2] = 0;
+    if table.len() < 4 {
+        return;
+    }
+    table[3] = 0;
+}
+
 // Zeros in the whole table.
 pub fn clear(table: &mut [u64])
     ensures { λ r. ⌜ now (table .exit) ≡ lent (length (now (table .entry))) [] ⌝ }
 {
+    if table.len() <= 4 {
+        clear_few(table);
+        return;
+    }
     let mut i = 0;
     while i < table.len() {
         table[i] = 0;
@@ -27,9 +54,35 @@ pub fn clear_from(table: &mut [u64], from: usize)
 
 // ---- Tables of bytes
 
+fn clear_few_bytes(table: &mut [u8])
+    requires { ⌜ length (now table) ≤ 4 ⌝ }
+    ensures { λ r. ⌜ now (table .exit) ≡ lent (length (now (table .entry))) [] ⌝ }
+{
+    if table.len() < 1 {
+        return;
+    }
+    table[0] = 0;
+    if table.len() < 2 {
+        return;
+    }
+    table[1] = 0;
+    if table.len() < 3 {
+        return;
+    }
+    table[2] = 0;
+    if table.len() < 4 {
+        return;
+    }
+    table[3] = 0;
+}
+
 pub fn clear_bytes(table: &mut [u8])
     ensures { λ r. ⌜ now (table .exit) ≡ lent (length (now (table .entry))) [] ⌝ }
 {
+    if table.len() <= 4 {
+        clear_few_bytes(table);
+        return;
+    }
     let mut k = 0;
     while k < table.len() {
         table[k] = 0;

@@ -1,3 +1,4 @@
 pub mod RecordsLaws
 pub mod PathLaws
+pub mod SizeLaws
 pub mod SymbolLaws

@@ -13,7 +13,8 @@ use Rattle.local_format.proofs.OutLaws.{never, refused-same, ok-same, bind-ok}
 use Rattle.semcode_records.specs.Records.{Taken, taken, Table, records, ends}
 use Rattle.semcode_records.specs.Component.{Component, componentAt}
 use Rattle.semcode_records.specs.Path.{Activation, noActivation, activationAt, Execution, noExecution, executionAt, Event, borrow, write, modeAt, Kinded}
-use Rattle.semcode_records.specs.Path.{known, unknown, borrowed, written, eventOf, orUnknown, kindOfEvent, Path, pathAt, Head, headOf, headAt}
+use Rattle.semcode_records.specs.Path.{known, unknown, borrowed, written, eventOf, orUnknown, kindOfEvent, Front, frontAt}
+use Rattle.semcode_records.specs.Path.{Path, pathAt, Head, headOf, headAt}
 use Rattle.semcode_records.proofs.RecordsLaws.{as-many}
 
 -- a step in front of two others
@@ -22,7 +23,7 @@ step (ok a) f g h p = p a
 step (refused r) f g h p = refl
 
 -- what follows the components
-abbrev headFrom : Kinded → ℕ → ℕ → ℕ → ℕ → Out (Taken Head)
+abbrev pub headFrom : Kinded → ℕ → ℕ → ℕ → ℕ → Out (Taken Head)
 headFrom kinded root count start end = do
   event ← orUnknown 60 end kinded
   taken (record { event = event; root = root; count = count; start = start }) end
@@ -37,21 +38,14 @@ counted read unknown root count at (ok t) h = refl
 counted read kinded root count at (refused r) h = refl
 
 pub head-steps : (revision : ℕ) (s : List ℕ) (at : ℕ) → headAt revision s at ≡ (do
-  kind ← field 41 1 s at
-  kinded ← eventOf (kind .value) revision s (kind .next)
-  root ← field 48 4 s (kinded .next)
-  count ← field 49 2 s (root .next)
-  end ← ends (records (componentAt revision (kind .value) s) (count .value) (count .next))
-  event ← orUnknown 60 end (kinded .value)
-  taken (record { event = event; root = root .value; count = count .value; start = count .next }) end)
+  front ← frontAt revision s at
+  end ← ends (records (componentAt revision (front .kind) s) (front .count) (front .start))
+  headFrom (front .kinded) (front .root) (front .count) (front .start) end)
 unfolding headAt pathAt
 head-steps revision s at =
-    step (field 41 1 s at) _ _ _ λ kind.
-    step (eventOf (kind .value) revision s (kind .next)) _ _ _ λ kinded.
-    step (field 48 4 s (kinded .next)) _ _ _ λ root.
-    step (field 49 2 s (root .next)) _ _ _ λ count.
-    counted (componentAt revision (kind .value) s) (kinded .value) (root .value) (count .value) (count .next)
-    (records (componentAt revision (kind .value) s) (count .value) (count .next)) refl
+    step (frontAt revision s at) _ _ _ λ front.
+    counted (componentAt revision (front .kind) s) (front .kinded) (front .root) (front .count) (front .start)
+    (records (componentAt revision (front .kind) s) (front .count) (front .start)) refl
 
 -- ---- What a path read back says of the path
 module _ (revision : ℕ) (s : List ℕ) (at : ℕ) where
@@ -110,18 +104,26 @@ pub is-known : (number at : ℕ) (kinded : Kinded) {e : Event} → orUnknown num
 is-known number at (known x) h = ap known (ok-same h)
 is-known number at unknown h = absurd (never h)
 
+-- the byte in front of a path with this event
+pub front-kind : (revision : ℕ) (s : List ℕ) (at : ℕ) {f : Front} (e : Event) → frontAt revision s at ≡ ok f → f .kinded ≡ known e → f .kind ≡ kindOfEvent e
+unfolding frontAt
+front-kind revision s at {f} e h k =
+    let a = bind-ok (field 41 1 s at) _ h in
+    let b = bind-ok (eventOf (a .0 .value) revision s (a .0 .next)) _ (a .2) in
+    let c = bind-ok (field 48 4 s (b .0 .next)) _ (b .2) in
+    let d = bind-ok (field 49 2 s (c .0 .next)) _ (c .2) in
+    let same = ok-same (d .2) in
+    ap (λ (f : Front). f .kind) (sym same) ∙ kind-read (a .0 .value) revision s (a .0 .next) e (b .1) (ap (λ (f : Front). f .kinded) same ∙ k)
+
 pub path-components : (revision : ℕ) (s : List ℕ) (at : ℕ) {t : Taken Path} → pathAt revision s at ≡ ok t
     → let p = t .value in
     records (componentAt revision (kindOfEvent (p .event)) s) (length (p .components .entries)) (p .components .start) ≡ ok (p .components)
 unfolding pathAt
 path-components revision s at {t} h =
-    let a = bind-ok (field 41 1 s at) _ h in
-    let b = bind-ok (eventOf (a .0 .value) revision s (a .0 .next)) _ (a .2) in
-    let c = bind-ok (field 48 4 s (b .0 .next)) _ (b .2) in
-    let d = bind-ok (field 49 2 s (c .0 .next)) _ (c .2) in
-    let read = componentAt revision (a .0 .value) s in
-    let e = bind-ok (records read (d .0 .value) (d .0 .next)) _ (d .2) in
-    let f = bind-ok (orUnknown 60 (e .0 .end) (b .0 .value)) _ (e .2) in
-    let many = as-many read (d .0 .value) (d .0 .next) (e .1) in
-    let kind = kind-read (a .0 .value) revision s (a .0 .next) (f .0) (b .1) (is-known 60 (e .0 .end) (b .0 .value) (f .1)) in
+    let a = bind-ok (frontAt revision s at) _ h in
+    let read = componentAt revision (a .0 .kind) s in
+    let e = bind-ok (records read (a .0 .count) (a .0 .start)) _ (a .2) in
+    let f = bind-ok (orUnknown 60 (e .0 .end) (a .0 .kinded)) _ (e .2) in
+    let many = as-many read (a .0 .count) (a .0 .start) (e .1) in
+    let kind = front-kind revision s at (f .0) (a .1) (is-known 60 (e .0 .end) (a .0 .kinded) (f .1)) in
     rw (← ok-same (f .2), many .0, many .1, ← kind) (e .1)

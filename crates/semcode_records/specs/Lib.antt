@@ -1,5 +1,6 @@
 pub mod Records
 pub mod Symbol
 pub mod Component
+pub mod Sizes
 pub mod Path
 pub mod Maps

@@ -26,6 +26,8 @@ use Rattle.semcode_records.specs.declared.path.Kinded.{Kinded}
 use Rattle.semcode_records.specs.declared.path.Kinded.the-variants.{Known, Unknown}
 use Rattle.semcode_records.specs.declared.path.Event.{Event}
 use Rattle.semcode_records.specs.declared.path.Event.the-variants as event
+use Rattle.semcode_records.specs.declared.path.Front.{Front}
+use Rattle.semcode_records.specs.declared.path.Front.the-variants as front
 use Rattle.semcode_records.specs.declared.path.Path.{Path}
 use Rattle.semcode_records.specs.declared.path.Path.the-variants as path
 
@@ -79,6 +81,11 @@ componentsOut (components.Refused r) = refused (refusalOut r)
 abbrev pub eventOut : Event → Out (Taken ofPath.Kinded)
 eventOut (event.Whole k n) = taken (kindedIs k) n
 eventOut (event.Refused r) = refused (refusalOut r)
+
+abbrev pub frontOut : Front → Out ofPath.Front
+frontOut (front.Whole kind kinded root count start) =
+    ok (record { kind = kind; kinded = kindedIs kinded; root = root; count = count; start = start })
+frontOut (front.Refused r) = refused (refusalOut r)
 
 abbrev pub pathOut : Path → Out (Taken ofPath.Head)
 pathOut (path.Whole p n) = taken (headIs p) n

@@ -82,15 +82,28 @@ pub record Path : Type 0 where
   pub root : ℕ
   pub components : Table Component
 
-unfoldable pub pathAt : ℕ → List ℕ → ℕ → Out (Taken Path)
-pathAt revision s at = do
+-- what stands in front of a path's components: the byte of its event's kind, its event, its root, how many components it has, and where they start
+pub record Front : Type 0 where
+  pub kind : ℕ
+  pub kinded : Kinded
+  pub root : ℕ
+  pub count : ℕ
+  pub start : ℕ
+
+unfoldable pub frontAt : ℕ → List ℕ → ℕ → Out Front
+frontAt revision s at = do
   kind ← field 41 1 s at
   kinded ← eventOf (kind .value) revision s (kind .next)
   root ← field 48 4 s (kinded .next)
   count ← field 49 2 s (root .next)
-  components ← records (componentAt revision (kind .value) s) (count .value) (count .next)
-  event ← orUnknown 60 (components .end) (kinded .value)
-  taken (record { event = event; root = root .value; components = components }) (components .end)
+  ok (record { kind = kind .value; kinded = kinded .value; root = root .value; count = count .value; start = count .next })
+
+unfoldable pub pathAt : ℕ → List ℕ → ℕ → Out (Taken Path)
+pathAt revision s at = do
+  front ← frontAt revision s at
+  components ← records (componentAt revision (front .kind) s) (front .count) (front .start)
+  event ← orUnknown 60 (components .end) (front .kinded)
+  taken (record { event = event; root = front .root; components = components }) (components .end)
 
 -- a path read back: its event, its root, how many components it has, and where they start
 pub record Head : Type 0 where

@@ -8,17 +8,12 @@ use local_format::field::read_u32_le;
 use local_format::refusal::Refusal;
 use local_format::refusal::refuse;
 ghost use mathlib.Core.Path.{_≡_};
+ghost use Prim.Native.Nat.{_<_};
 ghost use Rattle.local_format.specs.Maps.{refusalOf, refusalOut};
 ghost use Rattle.semcode_records.specs.Maps.{componentOut, componentsOut};
 ghost use Rattle.semcode_records.specs.Records.{records, ends};
-ghost use Rattle.semcode_records.specs.Component.{
-  tupleIndexAt,
-  fieldSymbolAt,
-  variantAt,
-  sequenceIndexAt,
-  componentOf,
-  componentAt,
-};
+ghost use Rattle.semcode_records.specs.Component.{tupleIndexAt, fieldSymbolAt, variantAt, sequenceIndexAt, componentOf, componentAt};
+ghost use Rattle.semcode_records.specs.Sizes.{sizes, sizeIn};
 
 pub const OWNERSHIP_EVENT_KIND_BORROW: u8 = 0;
 
@@ -191,7 +186,7 @@ pub fn components_refusal(answer: Components) -> Refusal
     }
 }
 
-// The place after so many components.
+// The place after so many components, by reading each.
 pub fn skip_components(
     bytes: &[u8],
     at: usize,
@@ -214,4 +209,86 @@ pub fn skip_components(
         i += 1;
     }
     Components::Whole { end: cursor }
+}
+
+// ---- Components passed by their sizes
+
+// The bytes of a component of each kind that a path with this event kind can have, 8 bits for a kind; 0 where it can't.
+pub fn component_sizes(header_rev: u16, kind: u8) -> u64
+    ensures { λ r. ⌜ r ≡ sizes «header_rev» kind ⌝ }
+{
+    if header_rev < SEMCODE_ADT_BORROW_OWNERSHIP_MIN_REVISION {
+        return 0x0503;
+    }
+    if kind != OWNERSHIP_EVENT_KIND_WRITE {
+        return 0x05070503;
+    }
+    0x05000503
+}
+
+pub fn component_size(table: u64, component_kind: u8) -> usize
+    ensures { λ r. ⌜ (r ≡ sizeIn table «component_kind») × (r < 256) ⌝ }
+{
+    if OWNERSHIP_PATH_COMPONENT_SEQUENCE_INDEX < component_kind {
+        return 0;
+    }
+    ((table >> (8 * component_kind)) % 256) as usize
+}
+
+// The components that are left, and where they start.
+struct Passed {
+    left: u16,
+    next: usize,
+}
+
+// Passes components while one of any kind would be there whole, with no branch for its kind.
+fn pass_components(
+    bytes: &[u8],
+    at: usize,
+    component_count: u16,
+    header_rev: u16,
+    kind: u8,
+) -> Passed
+    ensures { λ r.
+        ⌜ ends (records (componentAt «header_rev» kind (now (bytes .entry))) «component_count» at)
+        ≡ ends (records (componentAt «header_rev» kind (now (bytes .entry))) (r .left) (r .next)) ⌝ }
+{
+    let mut cursor = at;
+    let mut left = component_count;
+    if bytes.len() < 7 {
+        return Passed { left, next: cursor };
+    }
+    let last = bytes.len() - 7;
+    let table = component_sizes(header_rev, kind);
+    while 0 < left {
+        if last < cursor {
+            return Passed { left, next: cursor };
+        }
+        let size = component_size(table, bytes[cursor]);
+        if size == 0 {
+            return Passed { left, next: cursor };
+        }
+        cursor += size;
+        left -= 1;
+    }
+    Passed { left, next: cursor }
+}
+
+// The place after so many components: most are passed by their sizes.
+pub fn components_end(
+    bytes: &[u8],
+    at: usize,
+    component_count: u16,
+    header_rev: u16,
+    kind: u8,
+) -> Components
+    ensures { λ r.
+        ⌜ componentsOut r ≡
+        ends (records (componentAt «header_rev» kind (now (bytes .entry))) «component_count» at) ⌝ }
+{
+    let passed = pass_components(bytes, at, component_count, header_rev, kind);
+    if passed.left == 0 {
+        return Components::Whole { end: passed.next };
+    }
+    skip_components(bytes, passed.next, passed.left, header_rev, kind)
 }

@@ -2,8 +2,8 @@
 use crate::component::Components;
 use crate::component::OWNERSHIP_EVENT_KIND_BORROW;
 use crate::component::OWNERSHIP_EVENT_KIND_WRITE;
+use crate::component::components_end;
 use crate::component::components_refusal;
-use crate::component::skip_components;
 use local_format::field::U8;
 use local_format::field::U16;
 use local_format::field::U32;
@@ -14,9 +14,9 @@ use local_format::refusal::Refusal;
 use local_format::refusal::refuse;
 ghost use mathlib.Core.Path.{_≡_};
 ghost use Rattle.local_format.specs.Maps.{refusalOf, refusalOut};
-ghost use Rattle.semcode_records.specs.Maps.{activationIs, executionIs, eventIs, eventOut, pathOut};
+ghost use Rattle.semcode_records.specs.Maps.{activationIs, executionIs, eventIs, eventOut, frontOut, pathOut};
 ghost use Rattle.semcode_records.specs.Records.{taken};
-ghost use Rattle.semcode_records.specs.Path.{borrowed, kindOfEvent, written, activationAt, executionAt, eventOf, headAt};
+ghost use Rattle.semcode_records.specs.Path.{borrowed, kindOfEvent, written, activationAt, executionAt, eventOf, frontAt, headAt};
 
 pub const SEMCODE_OWNERSHIP_ANCHOR_MIN_REVISION: u16 = 21;
 
@@ -182,6 +182,79 @@ pub fn after_event_kind(kind: u8, bytes: &[u8], at: usize, header_rev: u16) -> E
 
 // ---- The path
 
+// What stands in front of a path's components: the byte of its event's kind, its event, its root, how many components it has, and where they
+// start.
+pub enum Front {
+    Whole {
+        kind: u8,
+        kinded: Kinded,
+        root_symbol_id: u32,
+        component_count: u16,
+        components_start: usize,
+    },
+    Refused(Refusal),
+}
+
+fn front_refusal(answer: Front) -> Refusal
+    ensures { λ r. ⌜ refusalOut r ≡ refusalOf (frontOut answer) ⌝ }
+{
+    match answer {
+        Front::Refused(r) => r,
+        Front::Whole {
+            kind: _,
+            kinded: _,
+            root_symbol_id: _,
+            component_count: _,
+            components_start: _,
+        } => refuse(0, 0),
+    }
+}
+
+// It has one caller, so that it is compiled into it.
+fn read_front(bytes: &[u8], at: usize, header_rev: u16) -> Front
+    ensures { λ r. ⌜ frontOut r ≡ frontAt «header_rev» (now (bytes .entry)) at ⌝ }
+{
+    let first = read_u8(bytes, at);
+    let U8::Value {
+        value: kind,
+        next: mode_at,
+    } = first
+    else {
+        return Front::Refused(refuse(41, at));
+    };
+    let moded = after_event_kind(kind, bytes, mode_at, header_rev);
+    let Event::Whole {
+        kinded,
+        next: root_at,
+    } = moded
+    else {
+        return Front::Refused(event_refusal(moded));
+    };
+    let root = read_u32_le(bytes, root_at);
+    let U32::Value {
+        value: root_symbol_id,
+        next: count_at,
+    } = root
+    else {
+        return Front::Refused(refuse(48, root_at));
+    };
+    let count = read_u16_le(bytes, count_at);
+    let U16::Value {
+        value: component_count,
+        next: components_start,
+    } = count
+    else {
+        return Front::Refused(refuse(49, count_at));
+    };
+    Front::Whole {
+        kind,
+        kinded,
+        root_symbol_id,
+        component_count,
+        components_start,
+    }
+}
+
 pub enum Path {
     Whole {
         path: DecodedAccessPath,
@@ -202,39 +275,18 @@ pub fn path_refusal(answer: Path) -> Refusal
 pub fn read_path(bytes: &[u8], at: usize, header_rev: u16) -> Path
     ensures { λ r. ⌜ pathOut r ≡ headAt «header_rev» (now (bytes .entry)) at ⌝ }
 {
-    let first = read_u8(bytes, at);
-    let U8::Value {
-        value: kind,
-        next: mode_at,
-    } = first
-    else {
-        return Path::Refused(refuse(41, at));
-    };
-    let moded = after_event_kind(kind, bytes, mode_at, header_rev);
-    let Event::Whole {
+    let front = read_front(bytes, at, header_rev);
+    let Front::Whole {
+        kind,
         kinded,
-        next: root_at,
-    } = moded
+        root_symbol_id,
+        component_count,
+        components_start,
+    } = front
     else {
-        return Path::Refused(event_refusal(moded));
+        return Path::Refused(front_refusal(front));
     };
-    let root = read_u32_le(bytes, root_at);
-    let U32::Value {
-        value: root_symbol_id,
-        next: count_at,
-    } = root
-    else {
-        return Path::Refused(refuse(48, root_at));
-    };
-    let count = read_u16_le(bytes, count_at);
-    let U16::Value {
-        value: component_count,
-        next: components_start,
-    } = count
-    else {
-        return Path::Refused(refuse(49, count_at));
-    };
-    let components = skip_components(bytes, components_start, component_count, header_rev, kind);
+    let components = components_end(bytes, components_start, component_count, header_rev, kind);
     let Components::Whole { end } = components else {
         return Path::Refused(components_refusal(components));
     };

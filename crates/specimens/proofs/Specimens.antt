@@ -5,7 +5,7 @@ use mathlib.Core.List.{List, [], _∷_, map, _++_}
 use borrow.Author.Tests.{le-leb, lt-leb}
 use Rattle.local_format.specs.Number.{numbered}
 use Rattle.semcode_records.specs.Records.{records}
-use Rattle.semcode_records.specs.Path.{activationAt, eventOf, pathAt}
+use Rattle.semcode_records.specs.Path.{activationAt, eventOf, frontAt, pathAt}
 use Rattle.semcode_decode.specs.Block.{stringTable, pathTable, sectionAt, familyTable, signatureAt, blockOf}
 use Rattle.semcode_decode.specs.Number.{pathNumber}
 use Rattle.specimens.specs.Build.{Free}
@@ -21,7 +21,7 @@ sections free byte = refl
 
 blocks : (base revision low high : ℕ) → low < 20 → 20 ≤ high
     → map (semcode.answered base) (semcode.specimens base revision low high) ≡ semcode.specimens base revision low high
-unfolding decoded records activationAt eventOf pathAt stringTable pathTable sectionAt familyTable signatureAt blockOf numbered pathNumber
+unfolding decoded records activationAt eventOf frontAt pathAt stringTable pathTable sectionAt familyTable signatureAt blockOf numbered pathNumber
 blocks base revision low high l h = rw (lt-leb 20 low l, le-leb 20 high h)
 
 each : (base : ℕ) (xs : List evr0.Specimen) (ys : List semcode.Specimen) → map (answered base) (map section xs ++ map block ys)

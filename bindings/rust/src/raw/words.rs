@@ -1,5 +1,5 @@
 //! The fields of records that start at given places, as words of a lent table: crates/falgnust/src/words.rt. Each function answers true where
-//! every record is there and all its words fit, and else leaves zeros.
+//! every record is there and all its words fit, and else leaves zeros; that of paths, how many fit.
 
 /// A function that reads records by their starts.
 pub type OfStarts = unsafe extern "C" fn(
@@ -59,6 +59,17 @@ unsafe extern "C" {
         words: *mut u64,
         words_len: usize,
     ) -> bool;
+    /// Of each path of a block 4 words, event, site, root and how many components, and a word for each component: kind, first and second number
+    /// from the lowest bits on, 2, 32 and 16 of them. As many paths as are there and fit, from the first on: how many.
+    pub fn falgnust_path_words(
+        code: *const u8,
+        code_len: usize,
+        header_rev: u16,
+        starts: *const u64,
+        starts_len: usize,
+        words: *mut u64,
+        words_len: usize,
+    ) -> usize;
     /// The parent cells from a place on, a word each.
     pub fn falgnust_parent_words(
         payload: *const u8,

@@ -12,7 +12,8 @@ use super::{
 };
 use crate::calls;
 use crate::raw;
-use crate::read::{Read, accepted, records, text, there};
+use crate::read::{Read, Words, accepted, records, text, there, whole};
+use std::hint::select_unpredictable;
 
 impl Block<'_> {
     /// An accepted block: every record is read at its place.
@@ -21,13 +22,14 @@ impl Block<'_> {
         let code = self.code;
         let mut borrowed_paths = Vec::with_capacity(answer.path_count);
         let mut write_paths = Vec::with_capacity(answer.path_count);
-        for at in &lent.starts.paths[..answer.path_count] {
-            let read = calls::read_path(code, *at as usize, self.header_rev);
-            match there(self.path(read)) {
-                DecodedEvent::Borrow(path) => borrowed_paths.push(path),
-                DecodedEvent::Write(path) => write_paths.push(path),
-            }
-        }
+        let (paths, end) = (
+            &lent.starts.paths[..answer.path_count],
+            answer.instr_start_offset,
+        );
+        self.paths(paths, end, |path| match path {
+            DecodedEvent::Borrow(path) => borrowed_paths.push(path),
+            DecodedEvent::Write(path) => write_paths.push(path),
+        });
         StringTableDebugOwnershipParse {
             strings: records(
                 &mut [0; 80],
@@ -53,6 +55,48 @@ impl Block<'_> {
         }
     }
 
+    /// The paths that start at these places and have ended at `end`, by their words, some at a time; where they are long, all at once.
+    #[inline]
+    fn paths(&self, starts: &[u64], end: usize, each: impl FnMut(DecodedEvent)) {
+        let Some(first) = starts.first() else {
+            return;
+        };
+        let most = (end - *first as usize) / 3 + 4 * starts.len(); // a component has 3 bytes at least
+        if most > 80 * starts.len() {
+            self.paths_by(starts, &mut vec![0; most], each);
+        } else {
+            let words: &mut Words = &mut [0; 80];
+            self.paths_by(starts, words, each);
+        }
+    }
+
+    /// One that has more words than there is room for is read by itself.
+    #[inline]
+    fn paths_by(&self, mut starts: &[u64], words: &mut [u64], mut each: impl FnMut(DecodedEvent)) {
+        while let Some(first) = starts.first() {
+            let done = calls::path_words(self.code, self.header_rev, starts, words);
+            let mut left = &words[..];
+            for _ in 0..done {
+                let (path, more) = left.split_at(4 + left[3] as usize);
+                each(path_of(path));
+                left = more;
+            }
+            starts = &starts[done..];
+            if done == 0 {
+                each(self.long_path(*first));
+                starts = &starts[1..];
+            }
+        }
+    }
+
+    #[cold]
+    fn long_path(&self, start: u64) -> DecodedEvent {
+        let read = calls::read_path(self.code, start as usize, self.header_rev);
+        let mut words = vec![0; 4 + read.component_count as usize];
+        whole(calls::path_words(self.code, self.header_rev, &[start], &mut words) == 1);
+        path_of(&words)
+    }
+
     pub fn string(&self, read: raw::Text) -> Read<String> {
         accepted(read.accepted, read.refusal)?;
         Ok(accepted_text(self.code, read.start, read.len))
@@ -76,11 +120,52 @@ impl Block<'_> {
             activation,
             write_execution,
         };
-        Ok(match kind {
-            0 => DecodedEvent::Borrow(path),
-            _ => DecodedEvent::Write(path),
-        })
+        Ok(of_kind(kind, path))
     }
+}
+
+/// The path of these words.
+#[inline]
+fn path_of(words: &[u64]) -> DecodedEvent {
+    let (kind, activation, write_execution) = event(raw::Event {
+        event: words[0] as u8,
+        site: words[1] as u32,
+    });
+    let path = DecodedAccessPath {
+        root_symbol_id: words[2] as u32,
+        components: words[4..].iter().map(|word| of_word(*word)).collect(),
+        activation,
+        write_execution,
+    };
+    of_kind(kind, path)
+}
+
+#[inline]
+fn of_kind(kind: u8, path: DecodedAccessPath) -> DecodedEvent {
+    match kind {
+        0 => DecodedEvent::Borrow(path),
+        _ => DecodedEvent::Write(path),
+    }
+}
+
+/// The component of a word. Kinds are mixed, so that no branch for them is foreseen: all four are made, and one is taken.
+#[inline]
+fn of_word(word: u64) -> DecodedAccessPathComponent {
+    let (kind, first, second) = (word % 4, (word >> 2) as u32, (word >> 34) as u16);
+    let odd = select_unpredictable(
+        kind == 1,
+        DecodedAccessPathComponent::FieldSymbol(first),
+        DecodedAccessPathComponent::SequenceIndexStatic(first),
+    );
+    let even = select_unpredictable(
+        kind == 0,
+        DecodedAccessPathComponent::TupleIndex(first as u16),
+        DecodedAccessPathComponent::AdtPayload {
+            variant: first,
+            index: second,
+        },
+    );
+    select_unpredictable(kind % 2 == 1, odd, even)
 }
 
 /// The kind byte, 0 for a borrow and 1 for a write, and what the event carries.

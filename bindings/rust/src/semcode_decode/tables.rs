@@ -55,6 +55,7 @@ impl Block<'_> {
     /// The count of the strings, which ends at place 2, or one of the others, which may be any; each refusal is of a later one.
     fn lend_more<T>(&self, refused: Refusal, mut call: impl FnMut(Lent) -> Read<T>) -> Read<T> {
         let (mut refused, mut strings, mut others) = (refused, FEW, FEW);
+        let mut starts = [0; MAX_STRINGS_PER_FUNCTION];
         loop {
             let count = self.count_before(refused);
             match self.place(refused) {
@@ -68,7 +69,7 @@ impl Block<'_> {
                     others.min(MAX_DEBUG_SYMBOLS_PER_FUNCTION)
                 ],
                 starts: BlockTables {
-                    strings: &mut vec![0; strings.min(MAX_STRINGS_PER_FUNCTION)],
+                    strings: &mut starts[..strings.min(MAX_STRINGS_PER_FUNCTION)],
                     paths: &mut vec![0; others],
                     families: &mut vec![0; others.min(MAX_SIGNATURE_PARAMETERS_PER_FUNCTION)],
                 },

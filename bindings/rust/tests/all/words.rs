@@ -2,11 +2,12 @@
 
 use crate::written::{Proof, section, section_of};
 use falgnust::calls::{
-    SectionTables, decode_evr0_unmarked, parent_place, parent_words, proof_words,
-    proposition_words, read_parent, read_proof, read_proposition, read_text, read_witness,
-    text_words, witness_place, witness_words,
+    SectionTables, decode_evr0_unmarked, parent_place, parent_words, path_words, proof_words,
+    proposition_words, read_component, read_parent, read_path, read_proof, read_proposition,
+    read_text, read_witness, text_words, witness_place, witness_words,
 };
 use falgnust::raw::Witness;
+use falgnust::semcode_decode::{DecodedEvent, parse_string_table_debug_and_ownership, path_number};
 
 fn proof(rule: &'static str, witness: Option<u8>, parents: Vec<u32>) -> Proof {
     Proof {
@@ -178,4 +179,124 @@ fn what_is_cut_or_does_not_fit_has_zeros() {
     let mut words = [9; 3];
     assert!(!text_words(&file, &[78, 81], &mut words));
     assert_eq!(words, [0; 3]);
+}
+
+// ---- Paths
+
+const COMPONENTS: [&[u8]; 4] = [
+    b"\x00\xff\xfe",
+    b"\x01\xff\xfe\xfd\xfc",
+    b"\x03\x01\x02\x03\x04",
+    b"\x02\xff\xfe\xfd\xfc\xfb\xfa",
+];
+
+/// A path of revision 22, by the bytes of its event and of its components.
+fn path(event: &[u8], components: &[&[u8]]) -> Vec<u8> {
+    let count = components.len() as u16;
+    [
+        event,
+        &[7, 0, 0, 0xf0],
+        &count.to_le_bytes(),
+        &components.concat(),
+    ]
+    .concat()
+}
+
+/// Two borrows with a component of each kind and two writes with one of each that they can have, and where these start.
+fn paths() -> (Vec<u8>, [u64; 4]) {
+    let (mut code, mut starts) = (vec![], [0; 4]);
+    let events: [(&[u8], usize); 4] = [
+        (b"\x00\x00", 4),
+        (b"\x00\x01\x09\x00\x00\x80", 4),
+        (b"\x01\x00\x08\x00\x00\x00", 3),
+        (b"\x01\x01\x07\x00\x00\x00", 3),
+    ];
+    for ((event, components), start) in events.into_iter().zip(&mut starts) {
+        *start = code.len() as u64;
+        code.extend(path(event, &COMPONENTS[..components]));
+    }
+    (code, starts)
+}
+
+/// The words by the readers of one record.
+fn read_one_by_one(code: &[u8], start: u64) -> Vec<u64> {
+    let read = read_path(code, start as usize, 22);
+    assert!(read.accepted);
+    let mut words = vec![
+        read.event.event.into(),
+        read.event.site.into(),
+        read.root_symbol_id.into(),
+        read.component_count.into(),
+    ];
+    let mut at = read.components_start;
+    for _ in 0..read.component_count {
+        let read = read_component(code, at, 22, words[0] as u8 / 3);
+        let part = read.component;
+        let second = u64::from(part.second);
+        words.push(u64::from(part.kind) + 4 * u64::from(part.first) + 17_179_869_184 * second);
+        at = read.next;
+    }
+    words
+}
+
+#[test]
+fn words_of_paths() {
+    let (code, starts) = paths();
+    let each = starts.map(|start| read_one_by_one(&code, start));
+    for room in 0..40 {
+        let mut words = vec![9; room];
+        let done = path_words(&code, 22, &starts, &mut words);
+        let mut fit = each[..done].concat();
+        assert!(fit.len() <= room);
+        assert!(done == 4 || fit.len() + each[done].len() > room);
+        fit.resize(room, 0);
+        assert_eq!(words, fit);
+    }
+}
+
+#[test]
+fn a_path_that_is_refused_ends_them() {
+    let (code, starts) = paths();
+    for (code, revision, starts, done) in [
+        (&code[..code.len() - 1], 22, starts, 3),
+        (&code, 21, starts, 0),
+        (&code, 22, [0, u64::MAX, 0, 0], 1),
+        (&code, 22, [code.len() as u64; 4], 0),
+    ] {
+        let mut words = [9; 40];
+        assert_eq!(path_words(code, revision, &starts, &mut words), done);
+        let sizes = starts[..done]
+            .iter()
+            .map(|at| read_one_by_one(code, *at).len());
+        assert!(words[sizes.sum()..].iter().all(|word| *word == 0));
+    }
+}
+
+/// One that has more components than the crate reads at a time, behind a few short ones and behind many.
+#[test]
+fn a_long_path() {
+    for (before, count) in [(1, 1000), (60, 100)] {
+        let components: Vec<&[u8]> = COMPONENTS.into_iter().cycle().take(count).collect();
+        let short = path(b"\x00\x00", &COMPONENTS);
+        let block = [
+            &b"\x00\x00OWN0"[..],
+            &[before as u8 + 2, 0],
+            &short.repeat(before)[..],
+            &path(b"\x00\x00", &components),
+            &short,
+            b"SIG0\x00\x00",
+        ]
+        .concat();
+        let parse = parse_string_table_debug_and_ownership(0, &block, 22).unwrap();
+        let counts = parse
+            .borrowed_paths
+            .iter()
+            .map(|path| path.components.len());
+        let expected = [vec![4; before], vec![count, 4]].concat();
+        assert_eq!(counts.collect::<Vec<_>>(), expected);
+        for (number, path) in parse.borrowed_paths.into_iter().enumerate() {
+            let read = path_number(0, &block, 22, number).unwrap();
+            assert_eq!(read, Some(DecodedEvent::Borrow(path)));
+        }
+    }
 }

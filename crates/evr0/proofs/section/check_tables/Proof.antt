@@ -13,14 +13,15 @@ use Rattle.evr0_section.specs.Section.{tablesAfter}
 use Rattle.evr0_rules.specs.Maps.{rulesIn}
 use Rattle.evr0_head.specs.Maps.{countsOut}
 use Rattle.evr0_tables.specs.PayloadMaps.{placesOut, Reads}
+use Rattle.evr0_pass.specs.View.{PolaritiesThere}
 use Rattle.evr0.specs.Answer.{Lent, lentOf}
-use Rattle.evr0.proofs.CheckLaws.{ready, reads-as, tables-refused, may-derive, named, derived, not-derived}
+use Rattle.evr0.proofs.CheckLaws.{ready, reads-as, tables-refused, may-derive, polarities, derived, not-derived}
 use Rattle.evr0.proofs.section.check_tables as f
 use f.Tie as tie
 
 -- ---- The stages
 abbrev sized-at : tie.After-read-tables → tie.After-witness-size
-sized-at c = c .before .before .before
+sized-at c = c .before .before .before .before
 
 abbrev start : tie.After-read-tables → tie.Start
 start c = let on = sized-at c .before .before .before in on .before .before .before .before
@@ -34,11 +35,12 @@ brought c = let a = start c .args in lentOf (a .propositions .now) (a .proofs .n
 -- the tables were read
 module _ (c : tie.After-tables2) where
   abbrev at : tie.After-read-tables
-  at = c .before .before .before .before .before .before
+  at = c .before .before .before .before .before .before .before .before
 
   reads : let a = start at .args in
       Reads (tablesAfter (among at) (spanWidth (a .schema)) (countsOut (a .counts)) (a .payload .now) (a .at)) (a .propositions .now) (a .proofs .now)
       (at .read-tables .last .1 .1 .1 .1 .1 .1 .1 .0) (at .read-tables .last .1 .1 .1 .1 .1 .1 .1 .1 .0)
+      (at .read-tables .last .1 .1 .1 .1 .1 .1 .1 .1 .1 .0)
       (ok (record { witnessesAt = c .tables2 .given .0 .0; parentsAt = c .tables2 .given .0 .1 .0 }))
   reads = reads-as (at .read-tables .ensures) (ap placesOut (c .tables2 .given .1))
 
@@ -50,32 +52,43 @@ module _ (c : tie.After-tables2) where
       let r = ready _ _ _ _ _ (start at .pre .0) in
       omega (arith, r .proofs, at .read-tables .kept .1 .1 .1 .1 .1 .1 .1 .1 .0)
 
+  depths-kept : length (at .read-tables .last .1 .1 .1 .1 .1 .1 .1 .1 .1 .0) ≡ length (start at .args .depths .now)
+  depths-kept = at .read-tables .kept .1 .1 .1 .1 .1 .1 .1 .1 .1 .0
+
+  depths-fit : start at .args .counts .proofs ≤ length (at .read-tables .last .1 .1 .1 .1 .1 .1 .1 .1 .1 .0)
+  depths-fit =
+      let r = ready _ _ _ _ _ (start at .pre .0) in
+      omega (arith, r .depths, depths-kept)
+
   proofs-total : length (take (start at .args .counts .proofs) (at .read-tables .last .1 .1 .1 .1 .1 .1 .1 .1 .0)) ≡ start at .args .counts .proofs
   proofs-total = simp length-take (omega (arith, proofs-fit))
+
+  asked : PolaritiesThere (among at) (start at .args .payload .now)
+      (take (start at .args .counts .proofs) (at .read-tables .last .1 .1 .1 .1 .1 .1 .1 .1 .0)) (at .read-tables .last .1 .1 .1 .1 .1 .1 .1 .1 .1 .0)
+  asked = polarities (among at) (brought at) (brought at) _ _ _ _ (start at .pre .0) sized reads
 
 -- ---- The answers
 returns : tie.Need-returns
 returns c =
     let k = c .before .before in
     let t = k .before .before .before in
-    let r = t .before .before .before .before .before .before in
+    let r = t .before .before .before .before .before .before .before .before in
     λ end. tables-refused (among r) (brought r) _ _ _ _ _ (start r .pre .0) (rw (t .tables .given .1) at (r .read-tables .ensures)) refl refl
-    (k .clear .ensures) end
+    (k .clear .ensures ∙ ap (λ (n : ℕ). lent n []) (r .read-tables .kept .1 .1 .1 .1 .1 .1 .1 .1 .1 .0)) end
 
 pub check-tables-spec : {M : Type 1} → f.Statement.statement M
 check-tables-spec =
     tie.close (tie.spec (search needs)
-    (λ c κs. let on = c .before .before .before .before .before in
+    (λ c κs. let on = c .before .before .before .before .before .before in
     let s = on .before .before .before .before in
     let r = ready _ _ _ _ _ (s .pre .0) in
-    ((r .propositions, r .proofs), (r .parents, r .within, s .pre .1))) (search needs) (search needs) (search needs)
+    ((r .propositions, r .proofs, r .depths), (r .parents, r .within, s .pre .1))) (search needs) (search needs) (search needs)
     (λ c. proofs-fit (c .before))
     (λ c. sym (proofs-total (c .before .before)))
     (λ c κs. let t = c .before .before .before in
-    let s = start (at t) in
-    let r = ready _ _ _ _ _ (s .pre .0) in (
-      (may-derive (among (at t)) (brought (at t)) (brought (at t)) _ _ _ _ (s .pre .0) (sized t) (reads t), omega (arith, r .depths, proofs-total t)),
-      (s .pre .1, named (among (at t)) (brought (at t)) (brought (at t)) _ _ _ _ (s .pre .0) (sized t) (reads t)),
+    let s = start (at t) in (
+      may-derive (among (at t)) (brought (at t)) (brought (at t)) _ _ _ _ (s .pre .0) (sized t) (reads t),
+      omega (arith, depths-fit t, proofs-total t),
     )) (search needs) (search needs)
     (search needs) (search needs) (search needs) (search needs) (search needs) returns (search needs) (search needs) (search needs)
     (λ c. let third = c .before .before in
@@ -84,11 +97,13 @@ check-tables-spec =
     let d = r .before .before .before .before in
     let t = d .before .before .before .before in
     let k = at t .read-tables .kept in
-    λ end. not-derived (among (at t)) (brought (at t)) _ _ _ _ _ (start (at t) .pre .0) (sized t) (reads t) (rw (r .derived .given .1) at (d .derive .ensures))
+    λ end. not-derived (among (at t)) (brought (at t)) _ _ _ _ _ (start (at t) .pre .0) (sized t) (reads t) (depths-kept t)
+    (rw (r .derived .given .1) at (d .derive .ensures (among (at t)) (asked t)))
     (second .clear2 .ensures ∙ ap (λ (n : ℕ). lent n []) (k .1 .1 .1 .1 .1 .1 .1 .0))
     (third .clear3 .ensures ∙ ap (λ (n : ℕ). lent n []) (k .1 .1 .1 .1 .1 .1 .1 .1 .0)) refl end)
     (search needs) (search needs) (search needs)
     (λ c. let d = c .before .before .before .before in
     let t = d .before .before .before .before in
-    λ end. derived (among (at t)) (brought (at t)) _ _ _ _ _ (start (at t) .pre .0) (sized t) (reads t) (rw (c .enum-told .given .1) at (d .derive .ensures))
+    λ end. derived (among (at t)) (brought (at t)) _ _ _ _ _ (start (at t) .pre .0) (sized t) (reads t) (depths-kept t)
+    (rw (c .enum-told .given .1) at (d .derive .ensures (among (at t)) (asked t)))
     refl refl refl end))

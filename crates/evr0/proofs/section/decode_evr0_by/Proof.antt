@@ -2,12 +2,12 @@
 use borrow.Author.Needs.{needs}
 use mathlib.Core.Path.{refl, sym, ap}
 use native.Mathlib.Omega.{arith}
-use Prim.Native.Nat.{_≤_}
+use Prim.Native.Nat.{_+_, _≤_}
 use lib.ListN.{length}
 use lib.Seq.{length-take-le}
 use Rattle.rule_table.specs.ByTable.{four, table}
 use Rattle.evr0_rules.specs.Maps.{loadingOut}
-use Rattle.evr0.proofs.DecodeLaws.{leaves-by, not-by, not-loaded, LoadedAt, loaded-at}
+use Rattle.evr0.proofs.DecodeLaws.{leaves-by, not-by, no-rules, not-loaded, LoadedAt, loaded-at}
 use Rattle.evr0.proofs.section.decode_evr0_by as f
 use f.Tie as tie
 
@@ -25,13 +25,15 @@ module _ (c : tie.After-loading2) where
   loads : LoadedAt (start .args .table .now) (load .load-into .last .1 .0) (c .loading2 .given .0 .0)
   loads = loaded-at (load .load-into .ensures) (ap loadingOut (c .loading2 .given .1))
 
-  fit : c .loading2 .given .0 .0 ≤ length (load .load-into .last .1 .0)
+  fit : 256 + c .loading2 .given .0 .0 ≤ length (load .load-into .last .1 .0)
   fit = omega (arith, loads .most, load .load-into .kept .1 .0)
 
 pub decode-evr0-by-spec : {M : Type 1} → f.Statement.statement M
 decode-evr0-by-spec =
-    tie.close (tie.spec (search needs) (search needs) (search needs) (search needs) (search needs) (search needs) (search needs) (search needs)
+    tie.close (tie.spec (search needs) (search needs) (search needs)
+    (λ c κs. no-rules _) (search needs) (search needs) (search needs) (search needs)
     (search needs) (search needs) (search needs) (search needs) (search needs)
+    (λ c. omega (arith, loads (c .before) .most))
     (λ c. fit (c .before))
     (λ c. sym (length-take-le _ (load (c .before .before) .load-into .last .1 .0) (fit (c .before .before))))
     (λ c κs. loads (c .before .before .before .before .before) .there) (search needs) (search needs) (search needs)

@@ -22,16 +22,16 @@ use Rattle.evr0_pass.proofs.ViewLaws.{parent-at, agrees-at}
 use Rattle.evr0_pass.proofs.pass.parents_from.Statement.{statement}
 use Rattle.evr0_pass.proofs.pass.parents_from.Tie as tie
 
-abbrev from : List Rule → List ℕ → List ℕ → List ℕ → Layout → List ℕ → SettledProof → ℕ → ℕ → ℕ → ℕ → Out ℕ
-from rules name payload starts tables depths proof =
-    pass.parentsFrom (tables .«parents_at») (tablesIn rules payload starts tables) (proofOut name proof) (take (proof .«proof_id» .0) depths)
+abbrev from : List Rule → Rule → List ℕ → List ℕ → Layout → List ℕ → SettledProof → ℕ → ℕ → ℕ → ℕ → Out ℕ
+from rules rule payload starts tables depths proof =
+    pass.parentsFrom (tables .«parents_at») (tablesIn rules payload starts tables) (proofOut rule proof) (take (proof .«proof_id» .0) depths)
 
 abbrev Inv-loop : tie.InvT-loop
 Inv-loop payload starts tables depths proof number cell₀ end least₀ deepest₀ cell least deepest =
     (number ≡ proof .«proof_id» .0)
     × (end ≤ tables .counts .parents)
-    × ((rules : List Rule) (name : List ℕ) → from rules name payload starts tables depths proof (end - cell) cell least deepest
-    ≡ from rules name payload starts tables depths proof (proof .«parent_count») (proof .«parent_first») 0 0)
+    × ((rules : List Rule) (rule : Rule) → from rules rule payload starts tables depths proof (end - cell) cell least deepest
+    ≡ from rules rule payload starts tables depths proof (proof .«parent_count») (proof .«parent_first») 0 0)
 
 abbrev μ-loop : tie.MeasureT-loop
 μ-loop payload starts tables depths proof number cell₀ end least₀ deepest₀ cell least deepest = end - cell
@@ -41,7 +41,7 @@ loop-holds c =
     let start = c .before .before .before .before .before .before in
     let a = start .args in
     let e : c .before .wide .result + c .wide2 .result - c .before .wide .result ≡ a .proof .«parent_count» = omega arith in
-    (c .before .before .place .ensures, omega arith, λ rules name. rw (e, c .before .wide .ensures))
+    (c .before .before .place .ensures, omega arith, λ rules rule. rw (e, c .before .wide .ensures))
 
 tests-same : {a b m n : ℕ} (k : ℕ) → a ≡ b → m ≡ n → (ltb a m && leb k a) ≡ (ltb b n && leb k b)
 tests-same k e f = rw (e, f)
@@ -78,15 +78,15 @@ module _ (c : tie.After-rises Inv-loop μ-loop) where
       omega (arith, ltb-true (c .before .place2 .result) number (test .0))
 
 returns : tie.Need-returns Inv-loop μ-loop
-returns c rules name =
+returns c rules rule =
     let t = c .before .before in
     let a = start-at t .args in
     let l = loop-at t .loop in
     ap refused (c .refuse .ensures)
-    ∙ sym (parents-25 (a .tables .«parents_at») (s t rules) (proofOut name (a .proof)) (take (a .proof .«proof_id» .0) (a .depths .now)) _ (l .cell) (l .least)
+    ∙ sym (parents-25 (a .tables .«parents_at») (s t rules) (proofOut rule (a .proof)) (take (a .proof .«proof_id» .0) (a .depths .now)) _ (l .cell) (l .least)
     (l .deepest) (omega arith)
     (rise-is t rules ∙ not-true (t .rises .result) (c .before .if1 .taken)))
-    ∙ l .inv .2 rules name
+    ∙ l .inv .2 rules rule
 
 -- ---- A turn, once the parent is compared with its proof
 module _ (c : tie.After-agrees Inv-loop μ-loop) where
@@ -96,13 +96,13 @@ module _ (c : tie.After-agrees Inv-loop μ-loop) where
   rise : turn .rises .result ≡ true
   rise = not-false (turn .rises .result) (c .before .before .if1 .left)
 
-  agree-is : (rules : List Rule) (name : List ℕ) → let a = start-at turn .args in
-      pass.agrees (s turn rules) (proofOut name (a .proof)) (parentAt (s turn rules) (loop-at turn .loop .cell)) ≡ c .agrees .result
-  agree-is rules name =
+  agree-is : (rules : List Rule) (rule : Rule) → let a = start-at turn .args in
+      pass.agrees (s turn rules) (proofOut rule (a .proof)) (parentAt (s turn rules) (loop-at turn .loop .cell)) ≡ c .agrees .result
+  agree-is rules rule =
       let start = start-at turn in
       let a = start .args in
-      ap (pass.agrees (s turn rules) (proofOut name (a .proof))) (parent-is turn rules)
-      ∙ agrees-at rules (a .payload .now) (a .starts .now) (layoutOut (a .tables)) (proofOut name (a .proof)) (turn .before .place2 .result)
+      ap (pass.agrees (s turn rules) (proofOut rule (a .proof))) (parent-is turn rules)
+      ∙ agrees-at rules (a .payload .now) (a .starts .now) (layoutOut (a .tables)) (proofOut rule (a .proof)) (turn .before .place2 .result)
       (omega (arith, start .pre .started, below turn rise))
       ∙ sym (c .agrees .ensures)
 
@@ -122,16 +122,16 @@ agrees-requires c κs =
     (omega (arith, start .pre .started, below t (not-false (t .rises .result) (c .before .if1 .left)))) .inside
 
 returns-2 : tie.Need-returns-2 Inv-loop μ-loop
-returns-2 c rules name =
+returns-2 c rules rule =
     let g = c .before .before in
     let t = turn g in
     let a = start-at t .args in
     let l = loop-at t .loop in
     ap refused (c .refuse2 .ensures)
-    ∙ sym (parents-26 (a .tables .«parents_at») (s t rules) (proofOut name (a .proof)) (take (a .proof .«proof_id» .0) (a .depths .now)) _ (l .cell) (l .least)
+    ∙ sym (parents-26 (a .tables .«parents_at») (s t rules) (proofOut rule (a .proof)) (take (a .proof .«proof_id» .0) (a .depths .now)) _ (l .cell) (l .least)
     (l .deepest) (omega arith)
-    (rise-is t rules ∙ rise g) (agree-is g rules name ∙ not-true (g .agrees .result) (c .before .if2 .taken)))
-    ∙ l .inv .2 rules name
+    (rise-is t rules ∙ rise g) (agree-is g rules rule ∙ not-true (g .agrees .result) (c .before .if2 .taken)))
+    ∙ l .inv .2 rules rule
 
 shared-slice-read-larger : tie.Need-shared-slice-read-larger Inv-loop μ-loop
 shared-slice-read-larger c = let g = c .before .before in omega (
@@ -153,23 +153,23 @@ loop-again c =
     let left : end - (l .cell + 1) ≡ end - l .cell - 1 = omega arith in (
       l .inv .0,
       l .inv .1,
-      λ rules name. rw (left, c .larger .ensures)
+      λ rules rule. rw (left, c .larger .ensures)
           (sym (rw (parent-is t rules, getD-take (a .proof .«proof_id» .0) (a .depths .now) (t .before .place2 .result) 0 (below t (rise g)))
-          at (parents-turn (a .tables .«parents_at») (s t rules) (proofOut name (a .proof)) (take (a .proof .«proof_id» .0) (a .depths .now)) (end - l .cell)
+          at (parents-turn (a .tables .«parents_at») (s t rules) (proofOut rule (a .proof)) (take (a .proof .«proof_id» .0) (a .depths .now)) (end - l .cell)
           (l .cell) (l .least) (l .deepest) (omega arith)
-          (rise-is t rules ∙ rise g) (agree-is g rules name ∙ not-false (g .agrees .result) (c .before .before .if2 .left))))
-          ∙ l .inv .2 rules name),
+          (rise-is t rules ∙ rise g) (agree-is g rules rule ∙ not-false (g .agrees .result) (c .before .before .if2 .left))))
+          ∙ l .inv .2 rules rule),
     )
 
 returns-3 : tie.Need-returns-3 Inv-loop μ-loop
-returns-3 c rules name =
+returns-3 c rules rule =
     let on = c .before .before .before .before .before .before in
     let start = on .before .before in
     let a = start .args in
     let l = c .before .loop in
-    sym (parents-none (a .tables .«parents_at») (tablesIn rules (a .payload .now) (a .starts .now) (a .tables)) (proofOut name (a .proof))
+    sym (parents-none (a .tables .«parents_at») (tablesIn rules (a .payload .now) (a .starts .now) (a .tables)) (proofOut rule (a .proof))
     (take (a .proof .«proof_id» .0) (a .depths .now)) _ (l .cell) (l .least) (l .deepest) (omega arith))
-    ∙ l .inv .2 rules name
+    ∙ l .inv .2 rules rule
 
 pub parents-from-spec : {M : Type 1} → statement M
 parents-from-spec =

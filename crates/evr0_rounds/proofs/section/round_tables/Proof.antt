@@ -20,7 +20,7 @@ use f.Tie as tie
 
 -- ---- The stages
 abbrev sized-at : tie.After-read-tables → tie.After-witness-size
-sized-at c = c .before .before .before
+sized-at c = c .before .before .before .before
 
 abbrev start : tie.After-read-tables → tie.Start
 start c = let on = sized-at c .before .before .before in on .before .before .before .before
@@ -34,11 +34,12 @@ brought c = let a = start c .args in lentOf (a .propositions .now) (a .proofs .n
 -- the tables were read
 module _ (c : tie.After-tables2) where
   abbrev at : tie.After-read-tables
-  at = c .before .before .before .before .before .before
+  at = c .before .before .before .before .before .before .before .before
 
   reads : let a = start at .args in
       Reads (tablesAfter (among at) (spanWidth (a .schema)) (countsOut (a .counts)) (a .payload .now) (a .at)) (a .propositions .now) (a .proofs .now)
       (at .read-tables .last .1 .1 .1 .1 .1 .1 .1 .0) (at .read-tables .last .1 .1 .1 .1 .1 .1 .1 .1 .0)
+      (at .read-tables .last .1 .1 .1 .1 .1 .1 .1 .1 .1 .0)
       (ok (record { witnessesAt = c .tables2 .given .0 .0; parentsAt = c .tables2 .given .0 .1 .0 }))
   reads = reads-as (at .read-tables .ensures) (ap placesOut (c .tables2 .given .1))
 
@@ -50,6 +51,9 @@ module _ (c : tie.After-tables2) where
       let r = ready _ _ _ _ _ (start at .pre .0) in
       omega (arith, r .proofs, at .read-tables .kept .1 .1 .1 .1 .1 .1 .1 .1 .0)
 
+  rounds-kept : length (at .read-tables .last .1 .1 .1 .1 .1 .1 .1 .1 .1 .0) ≡ length (start at .args .rounds .now)
+  rounds-kept = at .read-tables .kept .1 .1 .1 .1 .1 .1 .1 .1 .1 .0
+
   proofs-total : length (take (start at .args .counts .proofs) (at .read-tables .last .1 .1 .1 .1 .1 .1 .1 .1 .0)) ≡ start at .args .counts .proofs
   proofs-total = simp length-take (omega (arith, proofs-fit))
 
@@ -57,29 +61,29 @@ module _ (c : tie.After-tables2) where
 returns : tie.Need-returns
 returns c =
     let t = c .before in
-    let r = t .before .before .before .before .before .before in
+    let r = t .before .before .before .before .before .before .before .before in
     λ end. tables-refused (among r) (brought r) _ _ _ _ _ (start r .pre .0) (rw (t .tables .given .1) at (r .read-tables .ensures)) end
 
 returns-2 : tie.Need-returns-2
 returns-2 c =
     let d = c .before .before in
     let t = d .before .before .before .before in
-    λ end. rounds-made (among (at t)) (brought (at t)) _ _ _ _ _ (start (at t) .pre .0) (sized t) (reads t) (d .fill-rounds .ensures (among (at t))) refl refl
-    refl end
+    λ end. rounds-made (among (at t)) (brought (at t)) _ _ _ _ _ (start (at t) .pre .0) (sized t) (reads t) (rounds-kept t)
+    (d .fill-rounds .ensures (among (at t))) refl refl refl end
 
 pub round-tables-spec : {M : Type 1} → f.Statement.statement M
 round-tables-spec =
     tie.close (tie.spec (search needs)
-    (λ c κs. let on = c .before .before .before .before .before in
+    (λ c κs. let on = c .before .before .before .before .before .before in
     let s = on .before .before .before .before in
     let r = ready _ _ _ _ _ (s .pre .0) in
-    ((r .propositions, r .proofs), (r .parents, r .within, s .pre .1))) (search needs) (search needs)
+    ((r .propositions, r .proofs, r .depths), (r .parents, r .within, s .pre .1))) (search needs) (search needs)
     (λ c. proofs-fit (c .before))
     (λ c. sym (proofs-total (c .before .before)))
     (λ c κs. let t = c .before .before .before in
     let s = start (at t) in
     let r = ready _ _ _ _ _ (s .pre .0) in (
       may-derive (among (at t)) (brought (at t)) (brought (at t)) _ _ _ _ (s .pre .0) (sized t) (reads t),
-      omega (arith, r .depths, proofs-total t),
+      omega (arith, r .depths, rounds-kept t, proofs-total t),
     ))
-    (search needs) (search needs) returns (search needs) (search needs) (search needs) returns-2)
+    (search needs) (search needs) (search needs) returns (search needs) (search needs) (search needs) returns-2)

@@ -6,4 +6,4 @@ use f.Tie as tie
 
 pub polarity-fits-spec : {M : Type 1} → f.Statement.statement M
 unfolding polarityFits
-polarity-fits-spec = tie.close (tie.spec (search needs) (λ c name. c .either .ensures))
+polarity-fits-spec = tie.close (tie.spec (search needs) (λ c rule. c .either .ensures))

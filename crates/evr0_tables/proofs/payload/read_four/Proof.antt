@@ -20,13 +20,13 @@ use Rattle.evr0_rules.specs.Maps.{rulesIn}
 use Rattle.evr0_records.specs.Maps.{unownedOut}
 use Rattle.evr0_tables.specs.Maps.{tableOut, proofTableOut, nextIn, ownedIn}
 use Rattle.evr0_tables.specs.PayloadMaps.{placesIn}
-use Rattle.evr0_tables.proofs.PayloadLaws.{next-within, owned-next, tables-kept, unread, both-begun}
+use Rattle.evr0_tables.proofs.PayloadLaws.{next-within, owned-next, tables-kept, unread, all-begun}
 use Rattle.evr0_tables.proofs.payload.read_four as f
 use f.Tie as tie
 
 -- ---- The stages
 abbrev start : tie.After-read-propositions → tie.Start
-start c = c .before .before .before .before .before .before .before
+start c = c .before .before .before .before .before .before .before .before
 
 abbrev among : tie.After-read-propositions → List Rule
 among c = let a = start c .args in rulesIn (a .rules) (a .table .now) (a .places .now)
@@ -38,10 +38,10 @@ abbrev first-at : tie.After-first2 → tie.After-read-propositions
 first-at c = c .before .before .before .before
 
 abbrev opened : tie.After-read-proofs → tie.After-first2
-opened c = c .before .before .before
+opened c = c .before .before .before .before
 
 abbrev second-at : tie.After-second2 → tie.After-read-proofs
-second-at c = c .before .before .before .before
+second-at c = c .before .before .before .before .before .before
 
 first-is : (f : tie.After-first2) → let a = start (first-at f) .args in
     nextIn (rows propositionRow (a .counts .propositions) first (a .payload .now) (a .at)) ≡ ok (f .first2 .given .0 .0)
@@ -67,14 +67,15 @@ returns c =
     let p = first-at f in
     let e : placesIn (whole p) ≡ refused (refusalOut (c .refuse .result)) =
     rw (tables-kept, first-is f, second-is s, ← o .all-owned .ensures, not-true (o .all-owned .result) (c .before .if1 .taken), c .refuse .ensures) in
-    unread e _ _
+    unread e _ _ _
 
 pub read-four-spec : {M : Type 1} → f.Statement.statement M
 read-four-spec =
     tie.close (tie.spec (search needs) (search needs) (search needs)
-    (λ c κs. let f = c .before .before in
-    (start (first-at f) .pre .0 .1, first-within f, start (first-at f) .pre .1 .2)) (search needs) (search needs) (search needs) (search needs)
-    (search needs) (search needs) returns
+    (λ c κs. let f = c .before .before .before in
+    let pre = start (first-at f) .pre in
+    ((pre .0 .1, pre .0 .2), (first-within f, pre .1 .2))) (search needs) (search needs) (search needs) (search needs)
+    (search needs) (search needs) (search needs) returns
     (λ c κs. let s = c .before .before .before in
     let f = opened (second-at s) in
     let a = start (first-at f) .args in (
@@ -87,13 +88,13 @@ read-four-spec =
     (λ c. let p = c .before .before .before .before .before in
     let e : placesIn (whole p) ≡ refused (refusalOut (c .before .first .given .0 .0)) =
     rw (tables-kept, told tableOut (p .read-propositions .ensures .0) (c .before .first .given .1)) in
-    unread e _ _) (search needs) (search needs)
-    (λ c. let q = c .before .before .before .before .before in
+    unread e _ _ _) (search needs) (search needs) (search needs)
+    (λ c. let q = c .before .before .before .before .before .before .before in
     let f = opened q in
     let p = first-at f in
     let e : placesIn (whole p) ≡ refused (refusalOut (c .before .second .given .0 .0)) =
     rw (tables-kept, first-is f, told proofTableOut (q .read-proofs .ensures .0) (c .before .second .given .1)) in
-    unread e _ _) (search needs) (search needs)
+    unread e _ _ _) (search needs) (search needs) (search needs)
     (λ c. let r = c .before in
     let i = r .before .before .before in
     let s = i .before .before .before in
@@ -109,7 +110,7 @@ read-four-spec =
       not-false (i .before .all-owned .result) (i .if1 .left),
       told tableOut (r .before .before .read-rest .ensures) (r .rest .given .1),
     ) in
-    unread e _ _) (search needs) (search needs)
+    unread e _ _ _) (search needs) (search needs) (search needs)
     (λ c. let r = c .before in
     let i = r .before .before .before in
     let s = i .before .before .before in
@@ -125,5 +126,5 @@ read-four-spec =
       not-false (i .before .all-owned .result) (i .if1 .left),
       told tableOut (r .before .before .read-rest .ensures) (r .rest2 .given .1),
     ) in
-    both-begun _ _ _ _ _ e (sym (first-is f)) (p .read-propositions .ensures .1)
-    (q .read-proofs .ensures .1)))
+    all-begun _ _ _ _ _ e (sym (first-is f)) (p .read-propositions .ensures .1)
+    (q .read-proofs .ensures .1 .0) (q .read-proofs .ensures .1 .1)))

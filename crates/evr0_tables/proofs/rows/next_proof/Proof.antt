@@ -55,7 +55,10 @@ next-proof-spec =
     (λ c. let k = c .before .before .before in
     row-unsettled _ _ _ _ (read-is (read-at k) ∙ ap proofOut (named k .before .before .read2 .given .1))
     (settled-is k ∙ ap (settledOut _) (c .before .settled .given .1)))
-    (λ c. let k = c .before .before .before in
-    ap (λ (u : of.Unowned). ok (record { size = named k .before .before .read2 .given .0 .1 .0; state = u })) (c .after-proof .ensures)
+    (λ c. let k = c .before .before .before .before in
+    ap (λ (u : of.Unowned). ok (record {
+      polarity = c .before .before .settled2 .given .0 .0 .polarity;
+      kept = record { size = named k .before .before .read2 .given .0 .1 .0; state = u };
+    })) (c .after-proof .ensures)
     ∙ row-settled _ _ _ _ (read-is (read-at k) ∙ ap proofOut (named k .before .before .read2 .given .1))
-    (settled-is k ∙ ap (settledOut _) (c .before .enum-told .given .1))))
+    (settled-is k ∙ ap (settledOut _) (c .before .before .settled2 .given .1))))

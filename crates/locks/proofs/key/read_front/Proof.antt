@@ -1,20 +1,20 @@
 -- Meets its contract: each return puts the fields read so far into the definition of a path.
 use borrow.Author.Needs.{needs}
 use Rattle.local_format.proofs.OutLaws.{told, never}
-use Rattle.semcode_records.specs.Path.{pathAt}
+use Rattle.semcode_records.specs.Path.{frontAt, pathAt}
 use Rattle.semcode_records.specs.Maps.{eventOut}
 use Rattle.locks.proofs.KeyLaws.{front-is}
 use Rattle.locks.proofs.key.read_front as f
 use f.Tie as tie
 
 returns : tie.Need-returns
-unfolding pathAt
+unfolding frontAt pathAt
 returns c t e =
     let told = c .before in
     absurd (never (rw (← told .before .before .read-u8 .ensures, told .enum-told .given .1) at e))
 
 returns-2 : tie.Need-returns-2
-unfolding pathAt
+unfolding frontAt pathAt
 returns-2 c t e =
     let told = c .before in
     let event = told .before .before in
@@ -27,7 +27,7 @@ returns-2 c t e =
     ) at e))
 
 returns-3 : tie.Need-returns-3
-unfolding pathAt
+unfolding frontAt pathAt
 returns-3 c t e =
     let told = c .before in
     let root = told .before .before in
@@ -43,7 +43,7 @@ returns-3 c t e =
     ) at e))
 
 returns-4 : tie.Need-returns-4
-unfolding pathAt
+unfolding frontAt pathAt
 returns-4 c t e =
     let told = c .before in
     let count = told .before .before in
@@ -62,7 +62,7 @@ returns-4 c t e =
     ) at e))
 
 returns-5 : tie.Need-returns-5
-unfolding pathAt
+unfolding frontAt pathAt
 returns-5 c t e =
     let count = c .before in
     let root = count .before .before .before .before in

@@ -1,4 +1,4 @@
--- Meets its contract: each return puts the fields and tests so far into the definition.
+-- Meets its contract: each return puts the steps so far into the definition.
 use borrow.Author.Needs.{needs}
 use Rattle.semcode_records.proofs.PathLaws.{head-steps}
 use Rattle.semcode_records.proofs.path.read_path as f
@@ -7,94 +7,36 @@ use f.Tie as tie
 pub read-path-spec : {M : Type 1} → f.Statement.statement M
 read-path-spec =
     tie.close (tie.spec (search needs) (search needs) (search needs) (search needs)
-    (λ c. let p2 = c .before .before .before in
-    rw (head-steps, c .refuse .ensures, ← p2 .read-u8 .ensures, c .before .enum-told .given .1)) (search needs) (search needs) (search needs) (search needs)
+    (λ c. rw (head-steps, c .front-refusal .ensures, ← c .before .before .before .read-front .ensures, c .before .enum-told .given .1)) (search needs)
+    (search needs) (search needs) (search needs)
     (λ c. let p2 = c .before .before .before in
     let p3 = p2 .before .before in
-    let p4 = p3 .before .before in
-    rw (head-steps, c .event-refusal .ensures, ← p4 .read-u8 .ensures, p3 .first .given .1, ← p2 .after-event-kind .ensures, c .before .enum-told2 .given .1))
-    (search needs) (search needs) (search needs) (search needs)
-    (λ c. let p2 = c .before .before .before in
-    let p4 = p2 .before .before .before .before in
-    rw (
-      head-steps,
-      c .refuse2 .ensures,
-      ← p4 .before .before .before .before .read-u8 .ensures,
-      p4 .before .before .first .given .1,
-      ← p4 .after-event-kind .ensures,
-      p2 .before .before .moded .given .1,
-      ← p2 .read-u32-le .ensures,
-      c .before .enum-told3 .given .1,
-    )) (search needs) (search needs) (search needs) (search needs)
-    (λ c. let p2 = c .before .before .before in
-    let p4 = p2 .before .before .before .before in
-    let p6 = p4 .before .before .before .before in
-    rw (
-      head-steps,
-      c .refuse3 .ensures,
-      ← p6 .before .before .before .before .read-u8 .ensures,
-      p6 .before .before .first .given .1,
-      ← p6 .after-event-kind .ensures,
-      p4 .before .before .moded .given .1,
-      ← p4 .read-u32-le .ensures,
-      p2 .before .before .root .given .1,
-      ← p2 .read-u16-le .ensures,
-      c .before .enum-told4 .given .1,
-    )) (search needs) (search needs) (search needs) (search needs)
-    (λ c. let p2 = c .before .before .before in
-    let p4 = p2 .before .before .before .before in
-    let p6 = p4 .before .before .before .before in
-    let p8 = p6 .before .before .before .before in
     rw (
       head-steps,
       c .components-refusal .ensures,
-      ← p8 .before .before .before .before .read-u8 .ensures,
-      p8 .before .before .first .given .1,
-      ← p8 .after-event-kind .ensures,
-      p6 .before .before .moded .given .1,
-      ← p6 .read-u32-le .ensures,
-      p4 .before .before .root .given .1,
-      ← p4 .read-u16-le .ensures,
-      p2 .before .before .count .given .1,
-      ← p2 .skip-components .ensures,
-      c .before .enum-told5 .given .1,
+      ← p3 .before .before .read-front .ensures,
+      p3 .front .given .1,
+      ← p2 .components-end .ensures,
+      c .before .enum-told2 .given .1,
     )) (search needs) (search needs) (search needs)
     (λ c. let p2 = c .before .before .before .before in
     let p4 = p2 .before .before .before .before in
-    let p6 = p4 .before .before .before .before in
-    let p8 = p6 .before .before .before .before in
-    let p10 = p8 .before .before .before .before in
     rw (
       head-steps,
-      c .refuse4 .ensures,
-      ← p10 .before .before .read-u8 .ensures,
-      p10 .first .given .1,
-      ← p8 .before .before .after-event-kind .ensures,
-      p8 .moded .given .1,
-      ← p6 .before .before .read-u32-le .ensures,
-      p6 .root .given .1,
-      ← p4 .before .before .read-u16-le .ensures,
-      p4 .count .given .1,
-      ← p2 .before .before .skip-components .ensures,
+      c .refuse .ensures,
+      ← p4 .before .before .read-front .ensures,
+      p4 .front .given .1,
+      ← p2 .before .before .components-end .ensures,
       p2 .components .given .1,
-      c .before .enum-told6 .given .1,
+      c .before .enum-told3 .given .1,
     ))
     (λ c. let p2 = c .before .before .before .before in
     let p4 = p2 .before .before .before .before in
-    let p6 = p4 .before .before .before .before in
-    let p8 = p6 .before .before .before .before in
-    let p10 = p8 .before .before .before .before in
     rw (
       head-steps,
-      ← p10 .before .before .read-u8 .ensures,
-      p10 .first .given .1,
-      ← p8 .before .before .after-event-kind .ensures,
-      p8 .moded .given .1,
-      ← p6 .before .before .read-u32-le .ensures,
-      p6 .root .given .1,
-      ← p4 .before .before .read-u16-le .ensures,
-      p4 .count .given .1,
-      ← p2 .before .before .skip-components .ensures,
+      ← p4 .before .before .read-front .ensures,
+      p4 .front .given .1,
+      ← p2 .before .before .components-end .ensures,
       p2 .components .given .1,
       c .before .kinded .given .1,
     )))
