@@ -1,9 +1,11 @@
 //! Times the Rust and the port on the same inputs, in one run of one driver, and checks that their results are equal in it.
 
 mod asked;
+mod asked_blocks;
 mod blocks;
 mod columns;
 mod compare;
+mod evidence;
 mod functions;
 mod locks;
 mod marks;
@@ -22,7 +24,8 @@ use rows::{Row, Side};
 const USAGE: &str = "usage: bench                           times of every row
        bench ROW                       times of the rows whose names start so
        bench --list                    the rows' names
-       bench --once ROW SIDE COUNT     one side (rust or port) of a row, so many times, to count instructions";
+       bench --once ROW SIDE COUNT     one side (rust or port) of a row, so many times, to count instructions
+       bench --evidence                the lines of `evidence` for a section on standard input, from the Rust";
 
 fn main() {
     let args: Vec<String> = std::env::args().skip(1).collect();
@@ -33,6 +36,7 @@ fn main() {
             .iter()
             .for_each(|plan| println!("{}", plan.name)),
         ["--once", row, side, count] => once(row, side, count),
+        ["--evidence"] => evidence::by_the_rust(),
         [row] if !row.starts_with('-') => table(row),
         _ => {
             eprintln!("{USAGE}");

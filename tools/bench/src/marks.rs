@@ -3,16 +3,17 @@
 
 use crate::rows::{Calls, Plan, Row, calls, plan};
 use crate::sections::{Make, SHAPES, port_summary, rust_summary};
-use inputs::marked::{joins_upon_joins, with_a_second_proposition};
+use inputs::marked::{chain_of_joins, joins_upon_joins, with_a_second_proposition};
 use inputs::random::Random;
 use inputs::shapes;
 use port::section::{authorised, decode_evr0_section, decode_evr0_unmarked};
 use std::cell::RefCell;
 use std::hint::black_box;
 
-/// Two witnesses and two joins in each of 100 layers, and a chain of as many proofs.
+/// Two witnesses and two joins in each of 100 layers, and chains of as many proofs: of OPs, and of joins, which have as many bytes.
 const JOINS: Make = |r| joins_upon_joins(r, 100, [true, false]);
 const CHAIN: Make = |r| shapes::chain(r, 202);
+const CHAINED: Make = |r| chain_of_joins(r, 200, [true, false]);
 
 /// 40,000 proofs of mark 1, and a last proposition that has none.
 const UNPROVED: Make = |r| with_a_second_proposition(shapes::ops_on_one(r, 40_000));
@@ -35,8 +36,10 @@ pub fn rows() -> Vec<Plan> {
         let name = format!("against no marks, {name}");
         rows.push(against(&name, (make, Lent::unmarked), (make, Lent::marked)));
     }
-    let name = "against a chain of 202 proofs, 200 joins upon joins";
-    rows.push(against(name, (CHAIN, decoded), (JOINS, decoded)));
+    for (name, chain) in [("202 proofs", CHAIN), ("200 joins", CHAINED)] {
+        let name = format!("against a chain of {name}, 200 joins upon joins");
+        rows.push(against(&name, (chain, decoded), (JOINS, decoded)));
+    }
     for (name, make) in SHAPES {
         let name = format!("against the decoder with marks, authorised, {name}");
         rows.push(against(&name, (make, decoded), (make, asked)));

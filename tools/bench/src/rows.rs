@@ -59,6 +59,8 @@ pub fn all() -> Vec<Plan> {
     rows.extend(crate::wide::rows());
     rows.extend(crate::columns::rows());
     rows.extend(crate::asked::rows());
+    rows.extend(crate::asked_blocks::rows());
     rows.extend(crate::rust_crate::rows());
+    rows.extend(crate::evidence::rows());
     rows
 }

@@ -4,7 +4,9 @@
 use crate::rows::{Calls, Plan, Row, calls, plan};
 use crate::sections::{Make, SHAPES, port_summary, rust_summary, summary};
 use inputs::random::Random;
-use inputs::ruled::{self, Rule, Table, by, names_alike, names_alike_at_both_ends};
+use inputs::ruled::{
+    self, Rule, Table, by, names_alike, names_alike_at_both_ends, names_of_one_hint,
+};
 use inputs::section::Section;
 use inputs::shapes;
 use oracle::evr0_ruled;
@@ -24,12 +26,13 @@ const FEWER_SHAPES: [(&str, Make); 3] = [
 
 type Names = fn(usize) -> Vec<Vec<u8>>;
 
-const NAMES: [(&str, Names); 3] = [
+const NAMES: [(&str, Names); 4] = [
     ("32 names that share 62 bytes", names_alike),
     (
         "32 names that differ in the middle",
         names_alike_at_both_ends,
     ),
+    ("32 names of one hint", names_of_one_hint),
     ("32 short names", |count| {
         (0..count).map(|n| vec![b'A' + n as u8]).collect()
     }),

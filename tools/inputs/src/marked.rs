@@ -43,6 +43,18 @@ pub fn joins_upon_joins(r: &mut Random, layers: u32, sides: [bool; 2]) -> Sectio
     s
 }
 
+/// Two witness proofs and a chain of joins, each of the first proof and the one before: the ways down are one more at each.
+pub fn chain_of_joins(r: &mut Random, joins: u32, sides: [bool; 2]) -> Section {
+    let mut s = with_one_proposition(r);
+    for positive in sides {
+        s.witness(r, 0, 7, positive);
+    }
+    for before in 1..=joins {
+        s.join(0, before);
+    }
+    s
+}
+
 /// A section with one proposition, and another after it.
 pub fn with_a_second_proposition(mut s: Section) -> Section {
     s.propositions.push(proposition(b"l", [0, 0, 0]));
