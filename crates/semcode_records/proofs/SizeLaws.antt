@@ -10,7 +10,8 @@ use lib.ListN.{length, getD}
 use Rattle.local_format.specs.Field.{le}
 use Rattle.local_format.proofs.FieldLaws.{field-there, le-1}
 use Rattle.semcode_records.specs.Records.{taken}
-use Rattle.semcode_records.specs.Component.{Component, tupleIndex, fieldSymbol, variant, sequenceIndex, tupleIndexAt, fieldSymbolAt, variantAt, sequenceIndexAt, componentOf, componentAt}
+use Rattle.semcode_records.specs.Component.{Component, tupleIndex, fieldSymbol, variant, sequenceIndex}
+use Rattle.semcode_records.specs.Component.{tupleIndexAt, fieldSymbolAt, variantAt, sequenceIndexAt, componentOf, componentAt}
 use Rattle.semcode_records.specs.Sizes.{sizes, sizeIn}
 
 -- a component of so many bytes, by its kind
