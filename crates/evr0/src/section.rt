@@ -302,7 +302,7 @@ pub fn decode_evr0_unmarked(
         (lentOf (now (propositions .entry)) (now (proofs .entry)) (now (depths .entry)))
         (lentOf (now (propositions .exit)) (now (proofs .exit)) (now (depths .exit))) (answerOut r) ⌝ }
 {
-    let places = [0u64; 1];
+    let places = [0u64; 0];
     decode_with(
         Rules::Four,
         &bytes[..0],
@@ -331,7 +331,7 @@ pub fn decode_evr0_by(
 {
     match rules {
         Rules::Four => {
-            let none = [0u64; 1];
+            let none = [0u64; 0];
             decode_with(
                 rules,
                 table,

@@ -250,7 +250,7 @@ fn round_by(
 {
     match rules {
         Rules::Four => {
-            let none = [0u64; 1];
+            let none = [0u64; 0];
             round_with(
                 rules,
                 table,

@@ -28,6 +28,17 @@ fn clear_few(table: &mut [u64])
     table[3] = 0;
 }
 
+// Zeros in the whole table, by a loop.
+pub fn clear_many(table: &mut [u64])
+    ensures { λ r. ⌜ now (table .exit) ≡ lent (length (now (table .entry))) [] ⌝ }
+{
+    let mut i = 0;
+    while i < table.len() {
+        table[i] = 0;
+        i += 1;
+    }
+}
+
 // Zeros in the whole table.
 pub fn clear(table: &mut [u64])
     ensures { λ r. ⌜ now (table .exit) ≡ lent (length (now (table .entry))) [] ⌝ }
@@ -36,11 +47,7 @@ pub fn clear(table: &mut [u64])
         clear_few(table);
         return;
     }
-    let mut i = 0;
-    while i < table.len() {
-        table[i] = 0;
-        i += 1;
-    }
+    clear_many(table);
 }
 
 // Zeros from an index on, which may be any number.

@@ -9,13 +9,13 @@ use lib.Dec.{eqb, leb}
 use lib.ListN.{length, getD}
 use borrow.Author.Tests.{eqb-true, eqb-false, eq-eqb, ne-eqb, leb-true, leb-false}
 use Rattle.local_format.specs.Tag.{equal}
-use Rattle.lock_rules.specs.Lock.{Part, samePart, begins, touches, hinders}
+use Rattle.lock_rules.specs.Lock.{Part, Lock, samePart, begins, touches, hinders}
 use Rattle.lock_rules.specs.Register.{any}
-use Rattle.lock_rules.proofs.ListLaws.{any-append}
+use Rattle.lock_rules.proofs.ListLaws.{no, any-append}
 use Rattle.lock_rules.proofs.LockLaws.{eqb-comm}
-use Rattle.lock_rules.specs.Source.{sameRoot}
+use Rattle.lock_rules.specs.Source.{Root, sameRoot}
 use Rattle.lock_words.specs.Words.{partIn, partsIn, slot, symbolIn, sourceIn, rootIn, lockIn, locksTo}
-use Rattle.lock_register.specs.Meet.{eitherBegins, metAt, metBy, Passed}
+use Rattle.lock_register.specs.Meet.{eitherBegins, metBy, Other, Looked}
 use Rattle.lock_register.proofs.ReadLaws.{parts-length, part-at}
 
 -- ---- A part
@@ -129,14 +129,30 @@ module _ (a b : List ℕ) (l : length a ≡ 24) (m : length b ≡ 24) where
 
 -- ---- Two locks
 
+and-false : (o : Bool) → (o && false) ≡ false
+and-false true = refl
+and-false false = refl
+
+other-root : (a b : Lock Root) → eqb (a .root .symbol) (b .root .symbol) ≡ false → hinders sameRoot a b ≡ false
+unfolding hinders touches sameRoot
+other-root a b e = rw (e, and-false, and-false)
+
+-- no lock has the root's symbol
+pub no-root : (held : List (Lock Root)) (b : Lock Root) → any (λ l. eqb (l .root .symbol) (b .root .symbol)) held ≡ false → metBy b held ≡ false
+unfolding any
+no-root [] b e = refl
+no-root (a ∷ held) b e = go (eqb (a .root .symbol) (b .root .symbol)) refl e (no-root held b)
+  where
+    go : (x : Bool) → eqb (a .root .symbol) (b .root .symbol) ≡ x → (x || any (λ l. eqb (l .root .symbol) (b .root .symbol)) held) ≡ false
+        → (any (λ l. eqb (l .root .symbol) (b .root .symbol)) held ≡ false → metBy b held ≡ false)
+        → (hinders sameRoot a b || metBy b held) ≡ false
+    go true p h rest = no h
+    go false p h rest = rw (other-root a b p, rest h)
+
 module _ (a b : List ℕ) where
   pub own : getD a 0 0 % 4294967296 ≡ getD b 0 0 % 4294967296 → false ≡ hinders sameRoot (lockIn a) (lockIn b)
   unfolding hinders lockIn
   own e = rw (eq-eqb _ _ e)
-
-  and-false : (o : Bool) → (o && false) ≡ false
-  and-false true = refl
-  and-false false = refl
 
   pub reads : getD a 1 0 ≡ 0 → getD b 1 0 ≡ 0 → false ≡ hinders sameRoot (lockIn a) (lockIn b)
   unfolding hinders lockIn
@@ -148,8 +164,8 @@ module _ (a b : List ℕ) where
       both o x y t p q = rw (p, q) (sym (and-false o))
 
   pub other-symbol : (symbolIn a ≡ symbolIn b → ⊥) → false ≡ hinders sameRoot (lockIn a) (lockIn b)
-  unfolding hinders touches lockIn rootIn sameRoot
-  other-symbol d = rw (ne-eqb _ _ d, and-false, and-false)
+  unfolding lockIn rootIn
+  other-symbol d = sym (other-root (lockIn a) (lockIn b) (ne-eqb _ _ d))
 
   pub other-parts : eitherBegins a b ≡ false → false ≡ hinders sameRoot (lockIn a) (lockIn b)
   unfolding hinders touches lockIn
@@ -175,73 +191,80 @@ or-true : (b : Bool) → (b || true) ≡ true
 or-true true = refl
 or-true false = refl
 
-module _ (words : List ℕ) (key : List ℕ) where
-  -- one of the first n stands against the key
-  pub met : (i n : ℕ) → i < n → metAt words i key ≡ true → true ≡ metBy (lockIn key) (locksTo n words)
+module _ (f : Lock Root → Bool) (words : List ℕ) where
+  -- one of the first n
+  pub some-lock : (i n : ℕ) → i < n → f (lockIn (slot words i)) ≡ true → true ≡ any f (locksTo n words)
   unfolding locksTo any
-  met i zero h e = absurd (omega arith)
-  met i (suc n) h e = sym (any-append (λ l. hinders sameRoot l (lockIn key)) (locksTo n words) _ ∙ go (eqb i n) refl (λ l. met i n l e))
+  some-lock i zero h e = absurd (omega arith)
+  some-lock i (suc n) h e = sym (any-append f (locksTo n words) _ ∙ go (eqb i n) refl (λ l. some-lock i n l e))
     where
-      go : (b : Bool) → eqb i n ≡ b → (i < n → true ≡ metBy (lockIn key) (locksTo n words))
-          → (metBy (lockIn key) (locksTo n words) || (metAt words n key || false)) ≡ true
+      go : (b : Bool) → eqb i n ≡ b → (i < n → true ≡ any f (locksTo n words))
+          → (any f (locksTo n words) || (f (lockIn (slot words n)) || false)) ≡ true
       go true p rest =
           let q : i ≡ n = eqb-true i n p in
-          let e′ : metAt words n key ≡ true = rw q at e in
-          rw e′ (or-true (metBy (lockIn key) (locksTo n words)))
+          let e′ : f (lockIn (slot words n)) ≡ true = rw q at e in
+          rw e′ (or-true (any f (locksTo n words)))
       go false p rest =
           let q : i ≡ n → ⊥ = eqb-false i n p in
           rw (← rest (omega arith))
 
-  -- none of them does
-  pub none-met : (n : ℕ) → ((j : ℕ) → j < n → metAt words j key ≡ false) → false ≡ metBy (lockIn key) (locksTo n words)
+  -- none of them
+  pub no-lock : (n : ℕ) → ((j : ℕ) → j < n → f (lockIn (slot words j)) ≡ false) → false ≡ any f (locksTo n words)
   unfolding locksTo any
-  none-met zero e = refl
-  none-met (suc n) e =
-      sym (any-append (λ l. hinders sameRoot l (lockIn key)) (locksTo n words) _ ∙ rw (← none-met n (λ j h. e j (omega arith)), e n (omega arith)))
+  no-lock zero e = refl
+  no-lock (suc n) e =
+      sym (any-append f (locksTo n words) _ ∙ rw (← no-lock n (λ j h. e j (omega arith)), e n (omega arith)))
 
-  -- ---- Locks that are passed
+-- what holds of those before i and of lock i holds of those before i + 1
+pub one-more : (P : ℕ → Type 0) (i : ℕ) → ((j : ℕ) → j < i → P j) → P i → (j : ℕ) → j < i + 1 → P j
+one-more P i before here j h = go (eqb j i) refl
+  where
+    go : (b : Bool) → eqb j i ≡ b → P j
+    go true e = let q : j ≡ i = eqb-true j i e in rw q here
+    go false e = let q : j ≡ i → ⊥ = eqb-false j i e in before j (omega arith)
 
-  pub passed-none : (i most : ℕ) → i ≤ most → Passed words i i most key
-  passed-none i most h = record { on = omega arith; within = h; none = λ j a b. absurd (omega arith) }
+-- ---- Symbols
 
-  passed-more : (from i most : ℕ) → Passed words from i most key → i < most
-      → (getD (slot words i) 2 0 % 4294967296 ≡ getD key 2 0 % 4294967296 → ⊥) → Passed words from (i + 1) most key
-  passed-more from i most p h d =
-      record { on = let o = p .on in omega arith; within = omega arith; none = λ j a b. go j a b (eqb j i) refl }
-    where
-      go : (j : ℕ) → from ≤ j → j < i + 1 → (b : Bool) → eqb j i ≡ b → metAt words j key ≡ false
-      go j a b true e = let q : j ≡ i = eqb-true j i e in rw q (sym (other-symbol (slot words i) key d))
-      go j a b false e = let q : j ≡ i → ⊥ = eqb-false j i e in p .none j a (omega arith)
+module _ (words : List ℕ) (symbol : ℕ) where
+  has-symbol : (i : ℕ) (b : Bool) → eqb (symbolIn (slot words i)) symbol ≡ b → eqb (lockIn (slot words i) .root .symbol) symbol ≡ b
+  unfolding lockIn rootIn
+  has-symbol i b e = e
 
-  pub passed-four : (from i most : ℕ) → Passed words from i most key → i + 3 < most
-      → (getD (slot words i) 2 0 % 4294967296 ≡ getD key 2 0 % 4294967296 → ⊥)
-      → (getD (slot words (i + 1)) 2 0 % 4294967296 ≡ getD key 2 0 % 4294967296 → ⊥)
-      → (getD (slot words (i + 2)) 2 0 % 4294967296 ≡ getD key 2 0 % 4294967296 → ⊥)
-      → (getD (slot words (i + 3)) 2 0 % 4294967296 ≡ getD key 2 0 % 4294967296 → ⊥) → Passed words from (i + 4) most key
-  passed-four from i most p h d0 d1 d2 d3 =
-      let p1 = passed-more from i most p (omega arith) d0 in
-      let p2 : Passed words from (i + 2) most key = rw (plus-two i) at (passed-more from (i + 1) most p1 (omega arith) d1) in
-      let p3 : Passed words from (i + 3) most key = rw (plus-three i) at (passed-more from (i + 2) most p2 (omega arith) d2) in
-      rw (plus-four i) at (passed-more from (i + 3) most p3 (omega arith) d3)
-    where
-      plus-two : (i : ℕ) → i + 1 + 1 ≡ i + 2
-      plus-two i = omega arith
+  pub symbol-found : (i n : ℕ) → i < n → symbolIn (slot words i) ≡ symbol → true ≡ any (λ l. eqb (l .root .symbol) symbol) (locksTo n words)
+  symbol-found i n h e = some-lock (λ l. eqb (l .root .symbol) symbol) words i n h (has-symbol i true (eq-eqb _ _ e))
 
-      plus-three : (i : ℕ) → i + 2 + 1 ≡ i + 3
-      plus-three i = omega arith
+  pub no-symbol : (n : ℕ) → ((j : ℕ) → j < n → Other words symbol j) → false ≡ any (λ l. eqb (l .root .symbol) symbol) (locksTo n words)
+  no-symbol n e = no-lock (λ l. eqb (l .root .symbol) symbol) words n (λ j h. has-symbol j false (ne-eqb _ _ (e j h)))
 
-      plus-four : (i : ℕ) → i + 3 + 1 ≡ i + 4
-      plus-four i = omega arith
+  module _ (i : ℕ) where
+    pub one-found : (j : ℕ) → j < i + 4 → symbolIn (slot words j) ≡ symbol → Looked words i symbol true
+    one-found j h e = record { found = λ t. (j, (h, e)); others = λ t. no t }
 
-  -- after those before i, and lock i itself
-  pub passed-on : (i next most : ℕ) → ((j : ℕ) → j < i → metAt words j key ≡ false) → metAt words i key ≡ false
-      → Passed words (i + 1) next most key → (j : ℕ) → j < next → metAt words j key ≡ false
-  passed-on i next most before here p j h = go (leb (i + 1) j) (eqb j i) refl refl
-    where
-      go : (a b : Bool) → leb (i + 1) j ≡ a → eqb j i ≡ b → metAt words j key ≡ false
-      go true b e f = p .none j (leb-true (i + 1) j e) h
-      go false true e f = let q : j ≡ i = eqb-true j i f in rw q here
-      go false false e f =
-          let q : j ≡ i → ⊥ = eqb-false j i f in
-          let l : j < i + 1 = leb-false (i + 1) j e in
-          before j (omega arith)
+    pub last-of-four : Other words symbol i → Other words symbol (i + 1) → Other words symbol (i + 2) → (b : Bool)
+        → eqb (symbolIn (slot words (i + 3))) symbol ≡ b → Looked words i symbol b
+    last-of-four d0 d1 d2 true e = one-found (i + 3) (omega arith) (eqb-true _ _ e)
+    last-of-four d0 d1 d2 false e =
+        record { found = λ t. no (sym t); others = λ t j l h. go j l h (eqb j i) (eqb j (i + 1)) (eqb j (i + 2)) refl refl refl }
+      where
+        go : (j : ℕ) → i ≤ j → j < i + 4 → (a b c : Bool) → eqb j i ≡ a → eqb j (i + 1) ≡ b → eqb j (i + 2) ≡ c → Other words symbol j
+        go j l h true b c p q r = let k : j ≡ i = eqb-true _ _ p in rw k d0
+        go j l h false true c p q r = let k : j ≡ i + 1 = eqb-true _ _ q in rw k d1
+        go j l h false false true p q r = let k : j ≡ i + 2 = eqb-true _ _ r in rw k d2
+        go j l h false false false p q r =
+            let x : j ≡ i → ⊥ = eqb-false _ _ p in
+            let y : j ≡ i + 1 → ⊥ = eqb-false _ _ q in
+            let z : j ≡ i + 2 → ⊥ = eqb-false _ _ r in
+            let k : j ≡ i + 3 = omega arith in
+            rw k (eqb-false _ _ e)
+
+    module _ {r : Bool} (looked : Looked words i symbol r) where
+      pub four-found : (n : ℕ) → i + 4 ≤ n → r ≡ true → true ≡ any (λ l. eqb (l .root .symbol) symbol) (locksTo n words)
+      four-found n h e = let j = looked .found e in symbol-found (j .0) n (omega arith) (j .1 .1)
+
+      -- the locks before i, and four more
+      pub four-more : ((j : ℕ) → j < i → Other words symbol j) → r ≡ false → (j : ℕ) → j < i + 4 → Other words symbol j
+      four-more before e j h = go (leb i j) refl
+        where
+          go : (b : Bool) → leb i j ≡ b → Other words symbol j
+          go true p = looked .others e j (leb-true i j p) h
+          go false p = before j (leb-false i j p)

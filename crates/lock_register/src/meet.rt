@@ -1,39 +1,33 @@
-// Whether a lock that is held stands against one that is asked for: a key, which has the same 24 words.
+// Whether a lock that is held stands against one that is asked for: a key. A lock and a key have 24 words each.
 use lock_words::words::count;
 use lock_words::words::parts;
 use lock_words::words::word;
 ghost use mathlib.Core.Path.{_≡_};
-ghost use Prim.Native.Nat.{_≤_, min};
+ghost use Prim.Native.Nat.{_+_, _<_, min};
 ghost use lib.ListN.{length};
 ghost use lib.Dec.{eqb};
 ghost use Rattle.local_format.specs.Tag.{equal};
-ghost use Rattle.lock_words.specs.Words.{slot, symbolIn, sourceIn, lockIn, locksIn};
-ghost use Rattle.lock_words.specs.Place.{Register, Place};
-ghost use Rattle.lock_register.specs.Meet.{eitherBegins, metAt, metBy, Passed};
+ghost use Rattle.lock_rules.specs.Lock.{hinders};
+ghost use Rattle.lock_rules.specs.Register.{any};
+ghost use Rattle.lock_rules.specs.Source.{sameRoot};
+ghost use Rattle.lock_words.specs.Words.{sourceIn, lockIn, locksIn};
+ghost use Rattle.lock_words.specs.Place.{Register};
+ghost use Rattle.lock_register.specs.Meet.{eitherBegins, metBy, Looked};
 
-fn same_symbol(words: &[u64], lock: usize, key: &[u64]) -> bool
-    requires { ⌜ Place (now words) lock ⌝ }
-    requires { ⌜ length (now key) ≡ 24 ⌝ }
-    ensures { λ r. ⌜ r ≡ eqb (symbolIn (slot (now (words .entry)) lock)) (symbolIn (now (key .entry))) ⌝ }
+fn same_source(lock: &[u64], key: &[u64]) -> bool
+    requires { ⌜ (length (now lock) ≡ 24) × (length (now key) ≡ 24) ⌝ }
+    ensures { λ r. ⌜ r ≡ equal (sourceIn (now (lock .entry))) (sourceIn (now (key .entry))) ⌝ }
 {
-    word(words, lock, 2) % 4294967296 == key[2] % 4294967296
-}
-
-fn same_source(words: &[u64], lock: usize, key: &[u64]) -> bool
-    requires { ⌜ Place (now words) lock ⌝ }
-    requires { ⌜ length (now key) ≡ 24 ⌝ }
-    ensures { λ r. ⌜ r ≡ equal (sourceIn (slot (now (words .entry)) lock)) (sourceIn (now (key .entry))) ⌝ }
-{
-    if word(words, lock, 4) != key[4] {
+    if lock[4] != key[4] {
         return false;
     }
-    if word(words, lock, 5) != key[5] {
+    if lock[5] != key[5] {
         return false;
     }
-    if word(words, lock, 6) != key[6] {
+    if lock[6] != key[6] {
         return false;
     }
-    if word(words, lock, 7) != key[7] {
+    if lock[7] != key[7] {
         return false;
     }
     true
@@ -46,69 +40,39 @@ fn shorter(a: usize, b: usize) -> usize
 }
 
 // Both have the same parts up to the shorter. Paths of one record differ in their last part more often than in their first.
-fn parts_touch(words: &[u64], lock: usize, key: &[u64]) -> bool
-    requires { ⌜ Place (now words) lock ⌝ }
-    requires { ⌜ length (now key) ≡ 24 ⌝ }
-    ensures { λ r. ⌜ r ≡ eitherBegins (slot (now (words .entry)) lock) (now (key .entry)) ⌝ }
+fn parts_touch(lock: &[u64], key: &[u64]) -> bool
+    requires { ⌜ (length (now lock) ≡ 24) × (length (now key) ≡ 24) ⌝ }
+    ensures { λ r. ⌜ r ≡ eitherBegins (now (lock .entry)) (now (key .entry)) ⌝ }
 {
-    let n = shorter(parts(word(words, lock, 3)), parts(key[3]));
-    let mut k = n;
+    let mut k = shorter(parts(lock[3]), parts(key[3]));
     while 0 < k {
-        k -= 1;
-        if word(words, lock, 8 + k) % 1125899906842624 != key[8 + k] % 1125899906842624 {
+        if lock[7 + k] % 1125899906842624 != key[7 + k] % 1125899906842624 {
             return false;
         }
+        k -= 1;
     }
     true
 }
 
-// A lock with the key's symbol stands against it.
-fn meets(words: &[u64], lock: usize, key: &[u64]) -> bool
-    requires { ⌜ Place (now words) lock ⌝ }
-    requires { ⌜ length (now key) ≡ 24 ⌝ }
-    requires { ⌜ symbolIn (slot (now words) lock) ≡ symbolIn (now key) ⌝ }
-    ensures { λ r. ⌜ r ≡ metAt (now (words .entry)) lock (now (key .entry)) ⌝ }
+fn meets(lock: &[u64], key: &[u64]) -> bool
+    requires { ⌜ (length (now lock) ≡ 24) × (length (now key) ≡ 24) ⌝ }
+    ensures { λ r. ⌜ r ≡ hinders sameRoot (lockIn (now (lock .entry))) (lockIn (now (key .entry))) ⌝ }
 {
-    if word(words, lock, 0) % 4294967296 == key[0] % 4294967296 {
+    if lock[2] % 4294967296 != key[2] % 4294967296 {
         return false;
     }
-    if word(words, lock, 1) == 0 {
+    if lock[0] % 4294967296 == key[0] % 4294967296 {
+        return false;
+    }
+    if lock[1] == 0 {
         if key[1] == 0 {
             return false;
         }
     }
-    if parts_touch(words, lock, key) {
-        return same_source(words, lock, key);
+    if parts_touch(lock, key) {
+        return same_source(lock, key);
     }
     false
-}
-
-// Passes locks with another symbol, four at a time.
-fn pass(words: &[u64], from: usize, n: usize, key: &[u64]) -> usize
-    requires { ⌜ Register (now words) ⌝ }
-    requires { ⌜ n ≤ 256 ⌝ }
-    requires { ⌜ from ≤ n ⌝ }
-    requires { ⌜ length (now key) ≡ 24 ⌝ }
-    ensures { λ r. ⌜ Passed (now (words .entry)) from r n (now (key .entry)) ⌝ }
-{
-    let symbol = key[2] % 4294967296;
-    let mut i = from;
-    while 3 < n - i {
-        if word(words, i, 2) % 4294967296 == symbol {
-            return i;
-        }
-        if word(words, i + 1, 2) % 4294967296 == symbol {
-            return i;
-        }
-        if word(words, i + 2, 2) % 4294967296 == symbol {
-            return i;
-        }
-        if word(words, i + 3, 2) % 4294967296 == symbol {
-            return i;
-        }
-        i += 4;
-    }
-    i
 }
 
 // Some lock that is held stands against the key.
@@ -117,17 +81,57 @@ pub fn hindered(words: &[u64], key: &[u64]) -> bool
     requires { ⌜ length (now key) ≡ 24 ⌝ }
     ensures { λ r. ⌜ r ≡ metBy (lockIn (now (key .entry))) (locksIn (now (words .entry))) ⌝ }
 {
-    let n = count(words);
-    let mut i = 0;
-    while i < n {
-        if same_symbol(words, i, key) {
-            if meets(words, i, key) {
-                return true;
-            }
-            i += 1;
-        } else {
-            i = pass(words, i + 1, n, key);
+    let end = 1 + 24 * count(words);
+    let mut at = 1;
+    while at < end {
+        if meets(&words[at..at + 24], key) {
+            return true;
         }
+        at += 24;
+    }
+    false
+}
+
+// One of the four locks from `i` on has this symbol.
+fn symbol_in_four(words: &[u64], i: usize, symbol: u64) -> bool
+    requires { ⌜ Register (now words) ⌝ }
+    requires { ⌜ i + 3 < 256 ⌝ }
+    ensures { λ r. ⌜ Looked (now (words .entry)) i symbol r ⌝ }
+{
+    if word(words, i, 2) % 4294967296 == symbol {
+        return true;
+    }
+    if word(words, i + 1, 2) % 4294967296 == symbol {
+        return true;
+    }
+    if word(words, i + 2, 2) % 4294967296 == symbol {
+        return true;
+    }
+    word(words, i + 3, 2) % 4294967296 == symbol
+}
+
+// Some lock that is held has this symbol. Eight are looked at by turns.
+pub fn symbol_held(words: &[u64], symbol: u32) -> bool
+    requires { ⌜ Register (now words) ⌝ }
+    ensures { λ r. ⌜ r ≡ any (λ l. eqb (l .root .symbol) symbol) (locksIn (now (words .entry))) ⌝ }
+{
+    let n = count(words);
+    let wanted = symbol as u64;
+    let mut i = 0;
+    while i + 7 < n {
+        if symbol_in_four(words, i, wanted) {
+            return true;
+        }
+        if symbol_in_four(words, i + 4, wanted) {
+            return true;
+        }
+        i += 8;
+    }
+    while i < n {
+        if word(words, i, 2) % 4294967296 == wanted {
+            return true;
+        }
+        i += 1;
     }
     false
 }

@@ -5,7 +5,7 @@ use native.Mathlib.Omega.{arith}
 use native.Mathlib.Numerals.{add-one}
 use mathlib.Core.List.{List, [], _∷_, _++_, map, append-assoc, append-nil}
 use mathlib.Core.Bool.{Bool, true, false, not, _||_}
-use lib.Dec.{leb}
+use lib.Dec.{eqb, leb}
 use lib.ListN.{length, getD, set, take, length-set, length-append, length-map}
 use lib.Seq.{take-suc, take-all}
 use borrow.Author.Tests.{le-leb, lt-leb}
@@ -21,6 +21,7 @@ use Rattle.lock_words.specs.Place.{Placed}
 use Rattle.lock_register.specs.Meet.{metBy}
 use Rattle.locks.specs.Phase.{Front, FrontOf, KeyOf, noPath, Listed, LongAnswer, MetAnswer, Stored, TriedPaths}
 use Rattle.lock_register.proofs.LockLaws.{locks-length, locks-put, locks-counted}
+use Rattle.lock_register.proofs.MeetLaws.{no-root}
 
 -- ---- Some of a list
 
@@ -99,6 +100,17 @@ module _ (revision : ℕ) (s starts : List ℕ) (count : ℕ) where
     pub free-none : Free 0
     unfolding Free
     free-none paths l e = none-before meets paths
+
+    -- no lock has the root's symbol
+    pub free-other : (i : ℕ) → i < count → (f : Front) → FrontOf (pathAt revision s (getD starts i 0)) f
+        → any (λ l. eqb (l .root .symbol) (f .root)) (locksIn words) ≡ false → Free i → Free (i + 1)
+    unfolding Free
+    free-other i h f is none free paths l e =
+        let m = l .many in
+        let p = l .each i h in
+        let r : f .root ≡ getD paths i noPath .root = ap (λ (f : Front). f .root) (is (record { value = _; next = p .next }) (p .is-read)) in
+        none-more meets paths i noPath (omega arith) (free paths l e)
+        (no-root (locksIn words) (lockOf (rootUnder source) owner (getD paths i noPath)) (rw r at none))
 
     module _ (i : ℕ) (h : i < count) (key : List ℕ) (k : KeyOf (pathAt revision s (getD starts i 0)) source owner key) where
       key-is : (paths : List Path) → Listed revision s starts count paths → any longPath paths ≡ false

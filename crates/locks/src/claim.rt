@@ -6,6 +6,7 @@ use lent_table::clear_bytes;
 use local_format::refusal::Refusal;
 use local_format::refusal::refuse;
 use lock_register::meet::hindered;
+use lock_register::meet::symbol_held;
 use lock_words::place::put_lock;
 use lock_words::source::Source;
 use lock_words::source::source_words;
@@ -55,9 +56,13 @@ fn any_met(
 {
     let mut i = 0;
     while i < paths {
-        let key = path_key(code, starts[i] as usize, header_rev, source, owner);
-        if hindered(words, &key) {
-            return true;
+        let at = starts[i] as usize;
+        let path = read_front(code, at, header_rev);
+        if symbol_held(words, path.root) {
+            let key = path_key(code, at, header_rev, source, owner);
+            if hindered(words, &key) {
+                return true;
+            }
         }
         i += 1;
     }

@@ -19,8 +19,8 @@ ghost use Rattle.record_words.specs.Words.{
 };
 ghost use Rattle.evr0_section.specs.Head.{spanWidth, witnessSize};
 use evr0_fields::schema::witness_size;
-use lent_table::clear;
 use lent_table::clear_from;
+use lent_table::clear_many;
 use local_format::field::u16_at;
 use local_format::field::u32_at;
 use local_format::field::u64_at;
@@ -107,11 +107,11 @@ fn read_texts(bytes: &[u8], starts: &[u64], front: usize, back: usize, words: &m
         let at = starts[i] as usize;
         let rest = after_text(bytes, at, front, back);
         if rest == 0 {
-            clear(words);
+            clear_many(words);
             return false;
         }
         if words.len() - to < size {
-            clear(words);
+            clear_many(words);
             return false;
         }
         put_text(bytes, at, rest, front, back, words, to);
@@ -184,11 +184,11 @@ pub fn read_witnesses(payload: &[u8], schema: u16, starts: &[u64], words: &mut [
     while i < starts.len() {
         let at = starts[i] as usize;
         if left(payload.len(), at) < size {
-            clear(words);
+            clear_many(words);
             return false;
         }
         if words.len() - to < 7 {
-            clear(words);
+            clear_many(words);
             return false;
         }
         put_witness(payload, at, schema, words, to);
@@ -205,7 +205,7 @@ pub fn read_parents(payload: &[u8], at: usize, words: &mut [u64]) -> bool
 {
     let count = words.len();
     if left(payload.len(), at) / 4 < count {
-        clear(words);
+        clear_many(words);
         return false;
     }
     put_fields(payload, at, count, words, 0);

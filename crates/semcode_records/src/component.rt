@@ -241,7 +241,8 @@ struct Passed {
     next: usize,
 }
 
-// Passes components while one of any kind would be there whole, with no branch for its kind.
+// Passes components while one of any kind would be there whole. A size is looked up where the kind changes, with no branch for each kind; where
+// it does not, the next component is not waited for.
 fn pass_components(
     bytes: &[u8],
     at: usize,
@@ -260,13 +261,19 @@ fn pass_components(
     }
     let last = bytes.len() - 7;
     let table = component_sizes(header_rev, kind);
+    let mut known = OWNERSHIP_PATH_COMPONENT_TUPLE_INDEX;
+    let mut size = component_size(table, known);
     while 0 < left {
         if last < cursor {
             return Passed { left, next: cursor };
         }
-        let size = component_size(table, bytes[cursor]);
-        if size == 0 {
-            return Passed { left, next: cursor };
+        let component_kind = bytes[cursor];
+        if component_kind != known {
+            known = component_kind;
+            size = component_size(table, known);
+            if size == 0 {
+                return Passed { left, next: cursor };
+            }
         }
         cursor += size;
         left -= 1;

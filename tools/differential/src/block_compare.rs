@@ -7,7 +7,7 @@ use answers::Answer;
 use answers::block::{Block, Event, Layout, Path, Symbol};
 use answers::refusal::{Kind, Refusal};
 use falgnust::calls::BlockTables;
-use inputs::block_conditions::{accepted, condition};
+use inputs::block_conditions::{accepted, condition, signatures};
 use inputs::cases::BlockCase;
 use port::block::{
     DebugSymbol, parse_string_table_debug_and_ownership, read_component, read_debug_symbol,
@@ -40,6 +40,9 @@ pub fn compare(tally: &mut Tally, case: &BlockCase) {
         Ok(_) => (0, accepted(case.revision)),
         Err(refusal) => (refusal.number, condition(&case.code, case.base, refusal)),
     });
+    for value in signatures(&case.code, case.base, case.revision, &rust) {
+        tally.value(value);
+    }
     let rooms = rooms(case);
     with_rooms(tally, case, rooms, &rust);
     block_binding::compare(tally, case);

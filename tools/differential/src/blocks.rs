@@ -1,9 +1,9 @@
 //! Blocks: all short ones, every cut and byte change of small ones at each revision, faults one and two at once, limits, and large ones.
 
 use crate::block_compare;
-use crate::tally::{Outcome, Tally};
+use crate::tally::{LEAST, Outcome, Tally};
 use inputs::block::{self, Block, REVISIONS};
-use inputs::block_conditions::{REACHABLE, condition};
+use inputs::block_conditions::{REACHABLE, SIGNATURES, condition};
 use inputs::cases::{self, BASES, BlockCase};
 use inputs::random::Random;
 use inputs::text::Text;
@@ -12,7 +12,7 @@ use inputs::text::Text;
 const TRIES: usize = 20;
 
 pub fn run(r: &mut Random, count: usize) -> Tally {
-    let mut tally = Tally::of("blocks", &REACHABLE);
+    let mut tally = Tally::of("blocks", &REACHABLE).counting(&SIGNATURES);
     exhaustive(&mut tally);
     for revision in REVISIONS {
         let small = block::each_form(r, revision);
@@ -20,6 +20,9 @@ pub fn run(r: &mut Random, count: usize) -> Tally {
         byte_changes(&mut tally, &small);
     }
     large(&mut tally, r);
+    for _ in 0..LEAST {
+        signed(&mut tally, r);
+    }
     for _ in 0..count {
         let case = cases::block(r);
         block_compare::compare(&mut tally, &case);
@@ -78,6 +81,31 @@ fn signature(first: u8, second: u8) -> Vec<u8> {
     let mut block = b"\0\0OWN0\0\0SIG0\x01\0".to_vec();
     block.extend([first, second]);
     block
+}
+
+/// Small blocks with a signature of each value that is counted.
+fn signed(tally: &mut Tally, r: &mut Random) {
+    for count in 4095..=4097 {
+        let families = (0..count).map(|_| r.within(1, 15) as u8).collect();
+        with_families(tally, r, families);
+    }
+    for family in [0, 1, 15, 16, 255] {
+        let mut families = vec![7; r.below(3)];
+        families.insert(r.below(families.len() + 1), family);
+        with_families(tally, r, families);
+    }
+    let mut unread = block::small_at(r, 19);
+    unread.more = b"SIG0\x01\0\x07".to_vec();
+    compare(tally, &unread.bytes(), 1000, 19);
+}
+
+fn with_families(tally: &mut Tally, r: &mut Random, families: Vec<u8>) {
+    let revision = r.pick(&[20, 21, 22]);
+    let mut block = block::small_at(r, revision);
+    if let Some(signature) = &mut block.signature {
+        signature.items = families;
+    }
+    compare(tally, &block.bytes(), 1000, revision);
 }
 
 fn compare(tally: &mut Tally, code: &[u8], base: usize, revision: u16) {

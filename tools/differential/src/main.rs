@@ -73,12 +73,16 @@ Schema 2 has none either: it is compared with a model, and where a section has a
 Rounds have none either: they are compared with plain lines, and with the Rust's depths where it accepts.
 Sections by column have none either: they are compared with plain lines, and what is rebuilt from columns with the Rust or the model.";
 
-/// Whether every condition that can be reached was met often enough, and a tenth of the sections, of the blocks and of the files was accepted.
+/// Whether every condition that can be reached, and every value that is counted, was met often enough, and a tenth of the sections, of the blocks and of the files was accepted.
 fn enough(tallies: &[Tally]) -> bool {
     let mut enough = true;
     for tally in tallies {
         for ((number, condition), count) in tally.too_few() {
             println!("fewer than {LEAST}: {number} {condition}, {count}");
+            enough = false;
+        }
+        for (value, count) in tally.too_few_values() {
+            println!("fewer than {LEAST}: {value}, {count}");
             enough = false;
         }
         let (both, accepted) = tally.with_rust_side();

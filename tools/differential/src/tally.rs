@@ -23,6 +23,8 @@ pub struct Tally {
     outcomes: BTreeMap<Outcome, u64>,
     /// The conditions that can be reached.
     reachable: &'static [Outcome],
+    /// What is counted beside the outcomes.
+    values: BTreeMap<&'static str, u64>,
     /// Whether the Rust is asked.
     rust: bool,
     shown: Instant,
@@ -43,6 +45,7 @@ impl Tally {
             differences: 0,
             outcomes: BTreeMap::new(),
             reachable,
+            values: BTreeMap::new(),
             rust: true,
             shown: Instant::now(),
         }
@@ -54,6 +57,25 @@ impl Tally {
             rust: false,
             ..Tally::of(part, reachable)
         }
+    }
+
+    /// A part that counts these values too, beside the outcomes.
+    pub fn counting(mut self, values: &[&'static str]) -> Self {
+        self.values = values.iter().map(|&value| (value, 0)).collect();
+        self
+    }
+
+    /// The input has one of the values that are counted.
+    pub fn value(&mut self, value: &'static str) {
+        if let Some(count) = self.values.get_mut(value) {
+            *count += 1;
+        }
+    }
+
+    /// The values that too few inputs had.
+    pub fn too_few_values(&self) -> Vec<(&'static str, u64)> {
+        let counts = self.values.iter().map(|(&value, &count)| (value, count));
+        counts.filter(|(_, count)| *count < LEAST).collect()
     }
 
     /// One input.
@@ -155,6 +177,12 @@ impl Tally {
                 .map(|((_, condition), count)| (*condition, *count))
                 .collect();
             print_number(number, &all);
+        }
+        if !self.values.is_empty() {
+            println!("    values");
+        }
+        for (value, count) in &self.values {
+            println!("            {count:>9}  {value}");
         }
     }
 }

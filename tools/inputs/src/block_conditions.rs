@@ -1,5 +1,7 @@
 //! Which condition of document 01's table a block met. Only for counts and for picking inputs; no comparison rests on it.
 
+use answers::Answer;
+use answers::block::Block;
 use answers::refusal::{Kind, Refusal};
 
 /// Every condition that a block can meet, but for 61.
@@ -81,5 +83,62 @@ pub fn accepted(revision: u16) -> &'static str {
         20 => "revision 20",
         21 => "revision 21",
         _ => "from revision 22",
+    }
+}
+
+/// What is counted of signatures beside the conditions: families, how many there are, and a signature that is not read.
+pub const SIGNATURES: [&str; 9] = [
+    "family 0",
+    "family 1",
+    "family 15",
+    "family 16",
+    "family 255",
+    "4,095 families",
+    "4,096 families",
+    "4,097 families",
+    "SIG0 behind a block below revision 20",
+];
+
+/// Those of them that an input has, by the Rust's answer.
+pub fn signatures(
+    code: &[u8],
+    base: usize,
+    revision: u16,
+    answer: &Answer<Block>,
+) -> Vec<&'static str> {
+    match answer {
+        Ok(block) if revision < 20 => {
+            let behind = code[block.layout.instructions..].starts_with(b"SIG0");
+            Vec::from_iter(behind.then_some("SIG0 behind a block below revision 20"))
+        }
+        Ok(block) => {
+            let first = block.families.contains(&1).then_some("family 1");
+            let last = block.families.contains(&15).then_some("family 15");
+            let many = match block.families.len() {
+                4095 => Some("4,095 families"),
+                4096 => Some("4,096 families"),
+                _ => None,
+            };
+            [first, last, many].into_iter().flatten().collect()
+        }
+        Err(refusal) if refusal.offset == usize::MAX => Vec::new(),
+        Err(refusal) => {
+            let at = refusal.offset - base;
+            Vec::from_iter(refused_signature(code, at, refusal.number))
+        }
+    }
+}
+
+/// An unknown family stands where it is refused, and a count that is too large in front of that.
+fn refused_signature(code: &[u8], at: usize, number: u8) -> Option<&'static str> {
+    match number {
+        72 if signature_condition(code, at) == "family unknown" => match code[at] {
+            0 => Some("family 0"),
+            16 => Some("family 16"),
+            255 => Some("family 255"),
+            _ => None,
+        },
+        73 if code[at - 2..at] == 4097u16.to_le_bytes() => Some("4,097 families"),
+        _ => None,
     }
 }

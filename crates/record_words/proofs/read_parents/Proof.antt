@@ -9,7 +9,7 @@ returns : tie.Need-returns
 returns c =
     let asked = c .before .before .before .before .before in
     let a = asked .before .before .before .args in
-    runs-none (a .payload .now) (a .at) (a .words .now) _ (omega (arith, asked .left .ensures)) (c .before .before .clear .ensures)
+    runs-none (a .payload .now) (a .at) (a .words .now) _ (omega (arith, asked .left .ensures)) (c .before .before .clear-many .ensures)
 
 put-fields-requires : tie.Need-put-fields-requires
 put-fields-requires c κs = (omega (arith, c .before .before .left .ensures), omega arith)

@@ -1,8 +1,8 @@
 -- Meets its contract. The invariant: the words of i records are written, and the rest follows.
 use borrow.Author.Needs.{needs}
-use Prim.Native.Nat.{ℕ, _+_, _-_, _≤_, _<_}
+use Prim.Native.Nat.{ℕ, _-_, _≤_}
 use mathlib.Core.Path.{_≡_, refl, ap, _∙_}
-use mathlib.Core.Bool.{Bool, true, false}
+use mathlib.Core.Bool.{Bool, false}
 use mathlib.Core.List.{List, []}
 use native.Mathlib.Omega.{arith}
 use lib.ListN.{length, getD}
@@ -69,7 +69,7 @@ returns c =
     let l = read .before .before .before in
     let e = witness-cut (width l) (bytes l) (start l) (omega (arith, read .left .ensures, l .before .witness-size .ensures .0)) in
     nothing l _ (fill-cut (whole l) (words l) (starts l) (l .loop .i) (l .loop .to) (l .loop .words) (l .loop .inv .3) (table l) (omega arith) e)
-    (c .before .before .clear .ensures)
+    (c .before .before .clear-many .ensures)
 
 returns-2 : tie.Need-returns-2 Inv-loop μ-loop
 returns-2 c =
@@ -77,7 +77,7 @@ returns-2 c =
     let l = read .before .before .before in
     let n = witness-size (width l) (bytes l) (start l) in
     nothing l _ (fill-short (whole l) (words l) (starts l) (l .loop .i) (l .loop .to) (l .loop .words) (l .loop .inv .3) (table l) (omega arith) (omega arith)
-    (omega arith)) (c .before .before .clear2 .ensures)
+    (omega arith)) (c .before .before .clear-many2 .ensures)
 
 put-witness-requires : tie.Need-put-witness-requires Inv-loop μ-loop
 put-witness-requires c κs =

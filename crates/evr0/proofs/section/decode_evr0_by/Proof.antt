@@ -30,7 +30,7 @@ module _ (c : tie.After-loading2) where
 
 pub decode-evr0-by-spec : {M : Type 1} → f.Statement.statement M
 decode-evr0-by-spec =
-    tie.close (tie.spec (search needs) (search needs) (search needs)
+    tie.close (tie.spec (search needs) (search needs)
     (λ c κs. no-rules _) (search needs) (search needs) (search needs) (search needs)
     (search needs) (search needs) (search needs) (search needs) (search needs)
     (λ c. omega (arith, loads (c .before) .most))

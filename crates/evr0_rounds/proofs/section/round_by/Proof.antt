@@ -50,7 +50,7 @@ returns-3 c =
 
 pub round-by-spec : {M : Type 1} → f.Statement.statement M
 round-by-spec =
-    tie.close (tie.spec (search needs) (search needs) (search needs)
+    tie.close (tie.spec (search needs) (search needs)
     (λ c κs. no-rules _) (search needs) (search needs) (search needs) (search needs)
     (search needs) (search needs)
     (λ c. omega (arith, loads (c .before) .most))
