@@ -54,11 +54,15 @@ fn parts_touch(lock: &[u64], key: &[u64]) -> bool
     true
 }
 
+// Symbol and parts first: they tell most locks apart, and stand in few lines of memory.
 fn meets(lock: &[u64], key: &[u64]) -> bool
     requires { ⌜ (length (now lock) ≡ 24) × (length (now key) ≡ 24) ⌝ }
     ensures { λ r. ⌜ r ≡ hinders sameRoot (lockIn (now (lock .entry))) (lockIn (now (key .entry))) ⌝ }
 {
     if lock[2] % 4294967296 != key[2] % 4294967296 {
+        return false;
+    }
+    if !parts_touch(lock, key) {
         return false;
     }
     if lock[0] % 4294967296 == key[0] % 4294967296 {
@@ -69,10 +73,7 @@ fn meets(lock: &[u64], key: &[u64]) -> bool
             return false;
         }
     }
-    if parts_touch(lock, key) {
-        return same_source(lock, key);
-    }
-    false
+    same_source(lock, key)
 }
 
 // Some lock that is held stands against the key.
