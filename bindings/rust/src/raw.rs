@@ -30,6 +30,3 @@ pub use rules::*;
 pub use section::*;
 pub use text::*;
 pub use words::*;
-
-/// A function that reads at a place of some bytes.
-pub type AtPlace<T> = unsafe extern "C" fn(bytes: *const u8, len: usize, at: usize) -> T;

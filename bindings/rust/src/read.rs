@@ -1,6 +1,7 @@
 //! What the answers of the proved functions have in common.
 
 use crate::raw::Refusal;
+use std::mem::MaybeUninit;
 
 /// A record, or why there is none.
 pub type Read<T> = Result<T, Refusal>;
@@ -17,22 +18,29 @@ pub fn there<T>(read: Read<T>) -> T {
 }
 
 /// Room for the words of some records, which are read at a time, so that they stay near.
-pub type Words = [u64; 80];
+pub type Room = [MaybeUninit<u64>; 80];
+
+#[inline]
+pub fn room() -> Room {
+    [MaybeUninit::uninit(); 80]
+}
 
 /// The records that start at these places, of what was accepted: each by its `N` words, which `read` writes for some starts at a time.
 #[inline]
 pub fn records<const N: usize, T>(
-    words: &mut Words,
+    bytes: &[u8],
     starts: &[u64],
-    read: impl Fn(&[u64], &mut [u64]) -> bool,
+    read: impl for<'a> Fn(&[u8], &[u64], &'a mut [MaybeUninit<u64>]) -> (bool, &'a [u64]),
     record: impl Fn([u64; N]) -> T,
 ) -> Vec<T> {
     let mut records = Vec::with_capacity(starts.len());
-    let (words, _) = words.as_chunks_mut::<N>();
-    for starts in starts.chunks(words.len()) {
-        let words = &mut words[..starts.len()];
-        whole(read(starts, words.as_flattened_mut()));
-        records.extend(words.iter().map(|words| record(*words)));
+    let mut room = room();
+    for starts in starts.chunks(room.len() / N) {
+        let (there, words) = read(bytes, starts, &mut room[..N * starts.len()]);
+        whole(there);
+        for words in words.as_chunks().0 {
+            records.push(record(*words));
+        }
     }
     records
 }

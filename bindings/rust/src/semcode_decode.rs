@@ -21,7 +21,7 @@ pub use functions::*;
 pub use number::*;
 pub(crate) use records::of_parts;
 pub use signature::*;
-use tables::Lent;
+use tables::{Few, Lent};
 
 /// The most functions of a file.
 pub const MAX_FUNCTIONS: usize = 1024;
@@ -137,12 +137,20 @@ pub fn parse_string_table_debug_and_ownership(
     header_rev: u16,
 ) -> Result<StringTableDebugOwnershipParse, DecodeError> {
     let block = Block::new(base_offset, code, header_rev);
-    block
-        .lend(|mut lent| {
+    let mut few = Few::new();
+    let (answer, lists) =
+        calls::parse_string_table_debug_and_ownership_in(base_offset, code, header_rev, few.room());
+    if answer.accepted {
+        return Ok(block.records(&answer, &lists));
+    }
+    match answer.refusal {
+        refusal if refusal.number == 61 => block.lend_more(refusal, |mut lent| {
             let answer = block.decode(lent.again())?;
-            Ok(block.records(&answer, &lent))
-        })
-        .map_err(|refusal| block.error(refusal))
+            Ok(block.records(&answer, &lent.lists()))
+        }),
+        refusal => Err(refusal),
+    }
+    .map_err(|refusal| block.error(refusal))
 }
 
 /// What is decoded.

@@ -9,7 +9,6 @@ use Rattle.local_format.specs.Out.{Out, ok, refused, moved, atOffset}
 use Rattle.local_format.specs.Text.{bytesAt}
 use Rattle.local_format.proofs.OutLaws.{never, ok-same, bind-ok}
 use Rattle.evr0_section.proofs.Stages.{section-within}
-use Rattle.lent_table.specs.Lent.{lent}
 use Rattle.derivation.specs.Rule.{Rule, fourRules}
 use Rattle.evr0_section.specs.Section.{Section, Frame, frameAt, sectionAt, decodeSection}
 use Rattle.evr0_section.proofs.Demand.{demand-3}
@@ -78,14 +77,6 @@ module _ (rules : List Rule) (s : List ℕ) (start len cursor : ℕ) (before aft
 -- ---- The section at a cursor
 
 module _ (rules : List Rule) (s : List ℕ) (cursor : ℕ) (before after : Lent) {given : Answer} where
-  pub no-frame : (q : Refusal) → frameAt s cursor ≡ refused q → given ≡ answerOf cursor (refused q)
-      → after .propositions ≡ lent (length (before .propositions)) [] → after .proofs ≡ lent (length (before .proofs)) []
-      → after .depths ≡ lent (length (before .depths)) [] → Ends (sectionBy rules before s cursor) cursor before after given
-  unfolding sectionAt
-  no-frame q e g a b c =
-      let x : sectionBy rules before s cursor ≡ refused q = rw e in
-      refusal-ends x (record { propositions = a; proofs = b; depths = c }) cursor g
-
   pub framed : (f : Frame) → frameAt s cursor ≡ ok f
       → Ends (moved (f .start) (payloadIn rules before (bytesAt s (f .start) (f .len)) (f .start + f .len))) cursor before after given
       → Ends (sectionBy rules before s cursor) cursor before after given
@@ -107,16 +98,11 @@ module _ {s : List ℕ} {cursor : ℕ} {before after : Lent} {given : Answer} wh
       let d = decodes-by which (roomOf before) s cursor rules e in
       record { answer = x .answer ∙ ap (answerOf cursor) (sym d); tables = rw d (x .tables); holds = holds-by which (roomOf before) s cursor }
 
-  pub not-by : (which : Given) (q : Refusal) → rulesGiven which ≡ refused q → given ≡ answerOf cursor (refused q)
-      → after .propositions ≡ lent (length (before .propositions)) [] → after .proofs ≡ lent (length (before .proofs)) []
-      → after .depths ≡ lent (length (before .depths)) [] → LeavesBy which s cursor before after given
-  not-by which q e g a b c =
+  pub not-by : (which : Given) (q : Refusal) → rulesGiven which ≡ refused q → Ends (refused q) cursor before after given
+      → LeavesBy which s cursor before after given
+  not-by which q e x =
       let d = table-refused which (roomOf before) s cursor q e in
-      record {
-        answer = g ∙ ap (answerOf cursor) (sym d);
-        tables = rw d (record { propositions = a; proofs = b; depths = c });
-        holds = holds-by which (roomOf before) s cursor;
-      }
+      record { answer = x .answer ∙ ap (answerOf cursor) (sym d); tables = rw d (x .tables); holds = holds-by which (roomOf before) s cursor }
 
 -- ---- A loaded table
 
@@ -133,8 +119,8 @@ not-loaded {t} {q = q} l h = go (rulesOf t) (sym h ∙ l .answer)
 
 pub record LoadedAt (t places : List ℕ) (n : ℕ) : Type 0 where
   pub most : n ≤ 32
-  pub is : rulesOf t ≡ ok (map (ruleIn t) (startsIn (take (256 + n) places)))
-  pub there : RulesThere t (take (256 + n) places)
+  pub is : rulesOf t ≡ ok (map (ruleIn t) (startsIn (take (96 + n) places)))
+  pub there : RulesThere t (take (96 + n) places)
 
 pub loaded-at : {t places : List ℕ} {g : Out ℕ} {n : ℕ} → Loads t places g → g ≡ ok n → LoadedAt t places n
 loaded-at {t} {places} {n = n} l h =
@@ -142,6 +128,6 @@ loaded-at {t} {places} {n = n} l h =
     let m : length rs ≡ n = ok-same k in
     record {
       most = omega (arith, m, loaded t rs e .most);
-      is = e ∙ ap ok (l .are rs e ∙ ap (λ (i : ℕ). map (ruleIn t) (startsIn (take (256 + i) places))) m);
+      is = e ∙ ap ok (l .are rs e ∙ ap (λ (i : ℕ). map (ruleIn t) (startsIn (take (96 + i) places))) m);
       there = rw m at (l .there rs e);
     }

@@ -10,7 +10,8 @@ ghost use Rattle.evr0_rules.specs.Maps.{rulesIn, RulesThere};
 ghost use Rattle.evr0_head.specs.Maps.{countsOut};
 ghost use Rattle.evr0.specs.Answer.{lentOf, roomOf, answerOf, Leaves, LeavesBy};
 ghost use Rattle.evr0.specs.AnswerMaps.{acceptedOut, headOutcome, answerOut, givenOut};
-ghost use Rattle.evr0.specs.Steps.{payloadIn, sectionBy, HeadThere, Passes, Ends};
+ghost use Rattle.evr0.specs.Maps.{frameOut};
+ghost use Rattle.evr0.specs.Steps.{payloadIn, sectionBy, Opens, HeadThere, Passes, Ends};
 use crate::frame::Frame;
 use evr0_fields::check::Checked;
 use evr0_head::counts::Counts;
@@ -18,7 +19,7 @@ use evr0_head::head::Head;
 use evr0_head::head::HeadAnswer;
 use evr0_head::head::Room;
 use evr0_pass::pass::Layout;
-use evr0_rules::find::HINTS;
+use evr0_rules::find::TREE;
 use evr0_rules::load::Loading;
 use evr0_rules::load::load_into;
 use evr0_rules::settle::Rules;
@@ -59,6 +60,24 @@ fn refused_section(refusal: Refusal, cursor: usize) -> DecodedEvr0
         cursor,
         outcome: Outcome::Refused(refusal),
     }
+}
+
+// The same, with zeros left in the lent tables.
+fn no_section(
+    refusal: Refusal,
+    cursor: usize,
+    propositions: &mut [u64],
+    proofs: &mut [u64],
+    depths: &mut [u64],
+) -> DecodedEvr0
+    ensures { λ r. ⌜ Ends (refused (refusalOut refusal)) cursor
+        (lentOf (now (propositions .entry)) (now (proofs .entry)) (now (depths .entry)))
+        (lentOf (now (propositions .exit)) (now (proofs .exit)) (now (depths .exit))) (answerOut r) ⌝ }
+{
+    lent_table::clear(propositions);
+    lent_table::clear(proofs);
+    lent_table::clear(depths); // of a refused section
+    refused_section(refusal, cursor)
 }
 
 fn accept(head: Head) -> Accepted
@@ -168,12 +187,7 @@ fn decode_payload(
     let read = evr0_head::head::read_checked_head(payload, room);
     let answer = read.answer;
     match answer {
-        HeadAnswer::Refused(refusal) => {
-            lent_table::clear(propositions);
-            lent_table::clear(proofs);
-            lent_table::clear(depths); // of a refused head
-            refused_section(refusal, cursor)
-        }
+        HeadAnswer::Refused(refusal) => no_section(refusal, cursor, propositions, proofs, depths),
         HeadAnswer::Read(head) => {
             let counts = head.counts;
             let checked = check_tables(
@@ -247,18 +261,20 @@ fn decode_at(
     read
 }
 
-// The section at `cursor`, by the four or by the rules of the table, for which `places` has hints and then where they start.
-fn decode_with(
+// The section at `cursor`, whose opening was read, by the four or by the rules of the table, for which `places` has a search tree and then
+// where they start.
+fn decode_opened(
     rules: Rules,
     table: &[u8],
     places: &[u64],
     bytes: &[u8],
+    opening: Frame,
     cursor: usize,
     propositions: &mut [u64],
     proofs: &mut [u64],
     depths: &mut [u64],
 ) -> DecodedEvr0
-    requires { ⌜ RulesThere (now table) (now places) ⌝ }
+    requires { ⌜ Opens (now bytes) cursor (frameOut opening) × RulesThere (now table) (now places) ⌝ }
     ensures { λ r. ⌜ Ends
         (sectionBy (rulesIn rules (now (table .entry)) (now (places .entry)))
         (lentOf (now (propositions .entry)) (now (proofs .entry)) (now (depths .entry)))
@@ -266,14 +282,8 @@ fn decode_with(
         cursor (lentOf (now (propositions .entry)) (now (proofs .entry)) (now (depths .entry)))
         (lentOf (now (propositions .exit)) (now (proofs .exit)) (now (depths .exit))) (answerOut r) ⌝ }
 {
-    let frame = crate::frame::read_frame(bytes, cursor);
-    match frame {
-        Frame::Refused(refusal) => {
-            lent_table::clear(propositions);
-            lent_table::clear(proofs);
-            lent_table::clear(depths);
-            refused_section(refusal, cursor)
-        }
+    match opening {
+        Frame::Refused(refusal) => no_section(refusal, cursor, propositions, proofs, depths),
         Frame::Payload { start, len } => decode_at(
             rules,
             table,
@@ -302,17 +312,24 @@ pub fn decode_evr0_unmarked(
         (lentOf (now (propositions .entry)) (now (proofs .entry)) (now (depths .entry)))
         (lentOf (now (propositions .exit)) (now (proofs .exit)) (now (depths .exit))) (answerOut r) ⌝ }
 {
-    let places = [0u64; 0];
-    decode_with(
-        Rules::Four,
-        &bytes[..0],
-        &places[..0],
-        bytes,
-        cursor,
-        propositions,
-        proofs,
-        depths,
-    )
+    let opening = crate::frame::read_opening(bytes, cursor);
+    match opening {
+        Frame::Refused(refusal) => no_section(refusal, cursor, propositions, proofs, depths),
+        Frame::Payload { start, len } => {
+            let places = [0u64; 0];
+            decode_opened(
+                Rules::Four,
+                &bytes[..0],
+                &places[..0],
+                bytes,
+                Frame::Payload { start, len },
+                cursor,
+                propositions,
+                proofs,
+                depths,
+            )
+        }
+    }
 }
 
 // The same by the rules of a call: the four, or those of a table, which is loaded first.
@@ -329,14 +346,16 @@ pub fn decode_evr0_by(
         (lentOf (now (propositions .entry)) (now (proofs .entry)) (now (depths .entry)))
         (lentOf (now (propositions .exit)) (now (proofs .exit)) (now (depths .exit))) (answerOut r) ⌝ }
 {
+    let opening = crate::frame::read_opening(bytes, cursor);
     match rules {
         Rules::Four => {
             let none = [0u64; 0];
-            decode_with(
+            decode_opened(
                 rules,
                 table,
                 &none[..0],
                 bytes,
+                opening,
                 cursor,
                 propositions,
                 proofs,
@@ -344,22 +363,24 @@ pub fn decode_evr0_by(
             )
         }
         Rules::Table => {
-            let mut places = [0u64; 288];
+            let mut places = [0u64; 128];
             let loading = load_into(table, &mut places);
             match loading {
-                Loading::Refused(refusal) => {
-                    lent_table::clear(propositions);
-                    lent_table::clear(proofs);
-                    lent_table::clear(depths); // of a refused table
-                    refused_section(refusal, cursor)
-                }
+                Loading::Refused(refusal) => no_section(
+                    refusal,
+                    cursor,
+                    propositions,
+                    proofs,
+                    depths,
+                ),
                 Loading::Loaded(count) => {
-                    let end = HINTS + count;
-                    decode_with(
+                    let end = TREE + count;
+                    decode_opened(
                         rules,
                         table,
                         &places[..end],
                         bytes,
+                        opening,
                         cursor,
                         propositions,
                         proofs,

@@ -1,2 +1,3 @@
+pub mod PartLaws
 pub mod PlaceLaws
 pub mod Steps

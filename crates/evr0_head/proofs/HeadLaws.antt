@@ -1,5 +1,5 @@
 -- Laws of a payload's head and of the checks after its counts.
-use Prim.Native.Nat.{ℕ, _+_, _-_, _≤_}
+use Prim.Native.Nat.{ℕ, _+_, _-_, _*_, _/_, _≤_, _<_}
 use mathlib.Core.Path.{_≡_, refl, ap, sym, subst, _∙_}
 use mathlib.Core.List.{List}
 use native.Mathlib.Omega.{arith}
@@ -7,7 +7,8 @@ use lib.Dec.{eqb}
 use lib.ListN.{length}
 use borrow.Author.Tests.{leb-true, le-leb}
 use Rattle.local_format.specs.Refusal.{Refusal}
-use Rattle.local_format.specs.Out.{Out, ok, refused, _>>=_, _>>_}
+use Rattle.local_format.specs.Out.{Out, ok, refused, refuse, _>>=_, _>>_}
+use Rattle.local_format.specs.Field.{le}
 use Rattle.local_format.specs.Text.{Span, sectionField, textAt}
 use Rattle.local_format.proofs.OutLaws.{ok-same, bind-ok, checked-ok}
 use Rattle.local_format.proofs.FieldLaws.{field-ok}
@@ -20,6 +21,7 @@ use Rattle.evr0_head.specs.Maps.{headIn, headOut, headBeside}
 use Rattle.evr0_head.specs.declared.head.HeadAnswer.{HeadAnswer}
 use Rattle.evr0_head.specs.declared.head.HeadRead.{HeadRead}
 use Rattle.evr0_fields.proofs.PlaceLaws.{digest-ok}
+use Rattle.evr0_fields.proofs.PartLaws.{by-field}
 
 module _ (c : Counts) (at : ℕ) where
   pub within : Limited c → withinLimits (listed c) countLimits at ≡ ok tt
@@ -45,6 +47,30 @@ module _ (c : Counts) (at : ℕ) where
         witnesses = leb-true (c .witnesses) 262144 (d .0);
         parents = leb-true (c .parents) 262144 (f .0);
       }
+
+-- ---- The counts, by whether their 16 bytes are there; else the first that is cut is named
+module _ (p : List ℕ) (at : ℕ) where
+  pub by-counts : {x : Out Counted}
+      → (at + 16 ≤ length p
+      → x ≡ ok (record {
+        counts = record { propositions = le 4 p at; proofs = le 4 p (at + 4); witnesses = le 4 p (at + 8); parents = le 4 p (at + 12) };
+        next = at + 16;
+      })) → (length p < at + 16 → x ≡ refuse 5 (at + (length p - at) / 4 * 4)) → x ≡ countsAt p at
+  unfolding countsAt
+  by-counts {x} there short =
+      let e8 : at + 4 + 4 ≡ at + 8 = omega arith in
+      let e12 : at + 8 + 4 ≡ at + 12 = omega arith in
+      let e16 : at + 12 + 4 ≡ at + 16 = omega arith in
+      by-field 4 p at _ (λ h0. by-field 4 p (at + 4) _ (λ h1. rw e8 (by-field 4 p (at + 8) _ (λ h2. rw e12 (by-field 4 p (at + 12) _ (λ h3.
+      rw e16 (there (omega arith))) (λ l. at-cut (at + 12) (omega arith) (omega arith)))) (λ l. at-cut (at + 8) (omega arith) (omega arith))))
+      (λ l. at-cut (at + 4) (omega arith) (omega arith))) (λ l. at-cut at (omega arith) (omega arith))
+    where
+      at-cut : (k : ℕ) → length p < at + 16 → at + (length p - at) / 4 * 4 ≡ k → x ≡ refuse 5 k
+      at-cut k h e = short h ∙ ap (refuse 5) e
+
+  pub counts-there : {t u v w : ℕ} → at + 16 ≤ length p → t ≡ le 4 p (at + 0) → u ≡ le 4 p (at + 4) → v ≡ le 4 p (at + 8) → w ≡ le 4 p (at + 12)
+      → ok (record { counts = record { propositions = t; proofs = u; witnesses = v; parents = w }; next = at + 16 }) ≡ countsAt p at
+  counts-there all a b c d = let m : at + 0 ≡ at = omega arith in by-counts (λ h. rw (a, m, b, c, d)) (λ h. absurd (omega arith))
 
 -- ---- Where a head that was read lies
 module _ (p : List ℕ) (at : ℕ) where

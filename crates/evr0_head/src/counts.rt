@@ -34,40 +34,50 @@ pub fn counted_refusal(counted: Counted) -> Refusal
     }
 }
 
+// Where their 16 bytes are there, the counts are read in a part that is just these; else the first that is cut is told by how many bytes are left.
 pub fn read_counts(payload: &[u8], at: usize) -> Counted
     ensures { λ r. ⌜ countedOut r ≡ countsAt (now (payload .entry)) at ⌝ }
 {
-    let first = local_format::field::read_u32_le(payload, at);
+    if payload.len() < at {
+        return cut(at);
+    }
+    let left = payload.len() - at;
+    if left < 16 {
+        return cut(at + left / 4 * 4);
+    }
+    let end = at + 16;
+    let part = &payload[at..end];
+    let first = local_format::field::read_u32_le(part, 0);
     let U32::Value {
         value: propositions,
-        next: proofs_at,
+        next: _,
     } = first
     else {
         return cut(at);
     };
-    let second = local_format::field::read_u32_le(payload, proofs_at);
+    let second = local_format::field::read_u32_le(part, 4);
     let U32::Value {
         value: proofs,
-        next: witnesses_at,
+        next: _,
     } = second
     else {
-        return cut(proofs_at);
+        return cut(at + 4);
     };
-    let third = local_format::field::read_u32_le(payload, witnesses_at);
+    let third = local_format::field::read_u32_le(part, 8);
     let U32::Value {
         value: witnesses,
-        next: parents_at,
+        next: _,
     } = third
     else {
-        return cut(witnesses_at);
+        return cut(at + 8);
     };
-    let fourth = local_format::field::read_u32_le(payload, parents_at);
+    let fourth = local_format::field::read_u32_le(part, 12);
     let U32::Value {
         value: parents,
-        next,
+        next: _,
     } = fourth
     else {
-        return cut(parents_at);
+        return cut(at + 12);
     };
     Counted::Read {
         counts: Counts {
@@ -76,6 +86,6 @@ pub fn read_counts(payload: &[u8], at: usize) -> Counted
             witnesses: evr0_fields::number::wide(witnesses),
             parents: evr0_fields::number::wide(parents),
         },
-        next,
+        next: end,
     }
 }

@@ -1,13 +1,12 @@
 // Proof records and their checks.
 ghost use mathlib.Core.Path.{_≡_};
-ghost use Prim.Native.Nat.{ℕ, _+_, _≤_};
+ghost use Prim.Native.Nat.{ℕ};
 ghost use mathlib.Core.List.{List};
-ghost use lib.ListN.{length, getD};
 ghost use Rattle.local_format.specs.Out.{refuse};
 ghost use Rattle.local_format.specs.Text.{textAt};
 ghost use Rattle.local_format.specs.Maps.{textOut};
-ghost use Rattle.evr0_section.specs.Proof.{zerosAt, restOf, proofOf, hasNumbers, checkProof};
-ghost use Rattle.evr0_fields.specs.Maps.{placeOut, spanOut};
+ghost use Rattle.evr0_section.specs.Proof.{restOf, proofOf, hasNumbers, checkProof};
+ghost use Rattle.evr0_fields.specs.Maps.{spanOut};
 ghost use Rattle.evr0_head.specs.Maps.{countsOut};
 ghost use Rattle.evr0_records.specs.Checks.{isNext, isContiguous, endsWithin};
 ghost use Rattle.evr0_records.specs.Maps.{unownedOut, proofRecord, proofOut, settledOut};
@@ -17,17 +16,14 @@ use evr0_fields::number::ProofNumber;
 use evr0_fields::number::PropositionIndex;
 use evr0_fields::number::WitnessNumber;
 use evr0_fields::number::wide;
-use evr0_fields::place::Place;
 use evr0_fields::span::Span;
 use evr0_head::counts::Counts;
 use evr0_rules::find::Named;
 use evr0_rules::rule::Rule;
 use evr0_rules::settle::Rules;
 use evr0_rules::settle::settle;
-use local_format::field::U8;
 use local_format::field::U16;
 use local_format::field::U32;
-use local_format::field::u32_at;
 use local_format::refusal::Refusal;
 use local_format::text::Text;
 
@@ -66,60 +62,8 @@ fn cut(at: usize) -> ProofRead
     ProofRead::Refused(local_format::refusal::refuse(5, at))
 }
 
-// The three reserved bytes after the byte `first` at `at`, read with it as one field of four.
-fn zeros_after(bytes: &[u8], first: u8, at: usize, zeros_at: usize) -> Place
-    requires { ⌜ (first ≡ getD (now bytes) at 0) × («zeros_at» ≡ at + 1) × (at + 1 ≤ length (now bytes)) ⌝ }
-    ensures { λ r. ⌜ placeOut r ≡ zerosAt (now (bytes .entry)) «zeros_at» ⌝ }
-{
-    let four = local_format::field::read_u32_le(bytes, at);
-    let U32::Value { value, next } = four else {
-        return Place::Refused(local_format::refusal::refuse(5, zeros_at));
-    };
-    if value != first as u32 {
-        return Place::Refused(local_format::refusal::refuse(9, next));
-    }
-    Place::Next(next)
-}
-
-// What follows a proof's rule where all 24 bytes of it are there.
-fn read_whole_rest(
-    tail: &[u8],
-    proof_id: ProofNumber,
-    proposition_index: PropositionIndex,
-    rule_id: Span,
-) -> ProofRead
-    requires { ⌜ «rule_id» .next + 24 ≤ length (now tail) ⌝ }
-    ensures { λ r. ⌜ proofOut r ≡ restOf (now (tail .entry)) («proof_id» .0) («proposition_index» .0) (spanOut «rule_id») ⌝ }
-{
-    let at = rule_id.next;
-    let authority_context = u32_at(tail, at);
-    let witness_first = u32_at(tail, at + 4);
-    let witness_count = u32_at(tail, at + 8);
-    let parent_first = u32_at(tail, at + 12);
-    let parent_count = u32_at(tail, at + 16);
-    let authorized_operation = tail[at + 20];
-    let last = u32_at(tail, at + 20);
-    let size = at + 24;
-    if last != local_format::field::le32(authorized_operation, 0, 0, 0) {
-        return ProofRead::Refused(local_format::refusal::refuse(9, size));
-    }
-    ProofRead::Read {
-        proof: Proof {
-            proof_id,
-            proposition_index,
-            rule_id,
-            authority_context,
-            witness_first: WitnessNumber(witness_first),
-            witness_count,
-            parent_first,
-            parent_count,
-            authorized_operation,
-        },
-        size,
-    }
-}
-
-// What follows a proof's rule, field by field.
+// What follows a proof's rule. Where its 24 bytes are there, the fields are read in a part that is just these; the operation and the
+// three reserved bytes after it are one field. Else the first field that is cut is told by how many bytes are left.
 fn read_rest(
     tail: &[u8],
     proof_id: ProofNumber,
@@ -128,58 +72,70 @@ fn read_rest(
 ) -> ProofRead
     ensures { λ r. ⌜ proofOut r ≡ restOf (now (tail .entry)) («proof_id» .0) («proposition_index» .0) (spanOut «rule_id») ⌝ }
 {
-    let authority = local_format::field::read_u32_le(tail, rule_id.next);
+    let at = rule_id.next;
+    if tail.len() < at {
+        return cut(at);
+    }
+    let left = tail.len() - at;
+    if left < 24 {
+        if 20 < left {
+            return cut(at + 21);
+        }
+        return cut(at + left / 4 * 4);
+    }
+    let end = at + 24;
+    let part = &tail[at..end];
+    let authority = local_format::field::read_u32_le(part, 0);
     let U32::Value {
         value: authority_context,
-        next: witness_first_at,
+        next: _,
     } = authority
     else {
-        return cut(rule_id.next);
+        return cut(at);
     };
-    let first_witness = local_format::field::read_u32_le(tail, witness_first_at);
+    let first_witness = local_format::field::read_u32_le(part, 4);
     let U32::Value {
         value: witness_first,
-        next: witness_count_at,
+        next: _,
     } = first_witness
     else {
-        return cut(witness_first_at);
+        return cut(at + 4);
     };
-    let witnesses = local_format::field::read_u32_le(tail, witness_count_at);
+    let witnesses = local_format::field::read_u32_le(part, 8);
     let U32::Value {
         value: witness_count,
-        next: parent_first_at,
+        next: _,
     } = witnesses
     else {
-        return cut(witness_count_at);
+        return cut(at + 8);
     };
-    let first_parent = local_format::field::read_u32_le(tail, parent_first_at);
+    let first_parent = local_format::field::read_u32_le(part, 12);
     let U32::Value {
         value: parent_first,
-        next: parent_count_at,
+        next: _,
     } = first_parent
     else {
-        return cut(parent_first_at);
+        return cut(at + 12);
     };
-    let parents = local_format::field::read_u32_le(tail, parent_count_at);
+    let parents = local_format::field::read_u32_le(part, 16);
     let U32::Value {
         value: parent_count,
-        next: operation_at,
+        next: _,
     } = parents
     else {
-        return cut(parent_count_at);
+        return cut(at + 16);
     };
-    let operation = local_format::field::read_u8(tail, operation_at);
-    let U8::Value {
-        value: authorized_operation,
-        next: zeros_at,
-    } = operation
+    let last = local_format::field::read_u32_le(part, 20);
+    let U32::Value {
+        value: operation,
+        next: _,
+    } = last
     else {
-        return cut(operation_at);
+        return cut(at + 20);
     };
-    let zeros = zeros_after(tail, authorized_operation, operation_at, zeros_at);
-    let Place::Next(size) = zeros else {
-        return ProofRead::Refused(evr0_fields::place::place_refusal(zeros));
-    };
+    if 255 < operation {
+        return ProofRead::Refused(local_format::refusal::refuse(9, end));
+    }
     ProofRead::Read {
         proof: Proof {
             proof_id,
@@ -190,9 +146,9 @@ fn read_rest(
             witness_count,
             parent_first,
             parent_count,
-            authorized_operation,
+            authorized_operation: operation as u8,
         },
-        size,
+        size: end,
     }
 }
 
@@ -259,10 +215,7 @@ pub fn read_proof(tail: &[u8]) -> ProofRead
     };
     let proof_id = ProofNumber(proof_id);
     let proposition_index = PropositionIndex(proposition_index);
-    if tail.len() - authority_at < 24 {
-        return read_rest(tail, proof_id, proposition_index, rule_id);
-    }
-    read_whole_rest(tail, proof_id, proposition_index, rule_id)
+    read_rest(tail, proof_id, proposition_index, rule_id)
 }
 
 fn unsettled(number: u8) -> Settled

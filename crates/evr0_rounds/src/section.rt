@@ -23,7 +23,7 @@ use evr0_head::counts::Counts;
 use evr0_head::head::HeadAnswer;
 use evr0_head::head::Room;
 use evr0_pass::pass::Layout;
-use evr0_rules::find::HINTS;
+use evr0_rules::find::TREE;
 use evr0_rules::load::Loading;
 use evr0_rules::load::load_into;
 use evr0_rules::settle::Rules;
@@ -196,7 +196,7 @@ fn round_at(
     }
 }
 
-// The section at `cursor`, by the four or by the rules of the table, for which `places` has hints and then where they start.
+// The section at `cursor`, by the four or by the rules of the table, for which `places` has a search tree and then where they start.
 fn round_with(
     rules: Rules,
     table: &[u8],
@@ -263,12 +263,12 @@ fn round_by(
             )
         }
         Rules::Table => {
-            let mut places = [0u64; 288];
+            let mut places = [0u64; 128];
             let loading = load_into(table, &mut places);
             match loading {
                 Loading::Refused(refusal) => refused_rounds(refusal, cursor),
                 Loading::Loaded(count) => {
-                    let end = HINTS + count;
+                    let end = TREE + count;
                     round_with(
                         rules,
                         table,

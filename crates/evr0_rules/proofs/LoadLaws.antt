@@ -8,19 +8,19 @@ use mathlib.Core.Logic.{⊎-elim}
 use native.Mathlib.Omega.{arith}
 use native.Mathlib.Numerals.{add-one}
 use native.Mathlib.Nat.{zero-add, suc-add}
-use lib.ListN.{length, getD, take, drop, set, length-map, length-append, length-take, length-drop, List·getD-append}
-use lib.Seq.{getD-append-seam, getD-drop, getD-take, take-suc-set, take-nil}
+use lib.ListN.{length, getD, take, drop, set, length-map, length-append, length-drop, List·getD-append}
+use lib.Seq.{getD-append-seam, take-suc-set, take-nil}
 use borrow.Author.Tests.{le-leb, lt-leb, eq-eqb, ne-eqb}
 use Rattle.local_format.specs.Refusal.{Refusal}
 use Rattle.local_format.specs.Out.{Out, ok, refused, refuse, check, _>>=_, _>>_}
-use Rattle.local_format.specs.Field.{le, fieldAt}
+use Rattle.local_format.specs.Field.{fieldAt}
 use Rattle.local_format.proofs.OutLaws.{never, ok-same, bind-ok}
 use Rattle.local_format.proofs.FieldLaws.{le-1, field-there}
 use Rattle.derivation.specs.Rule.{Rule, known, unknown, ruleNamed}
 use Rattle.derivation.proofs.Tests.{order}
 use Rattle.rule_table.specs.Load.{outsideBounds, givenTwice, ruleIn, Loaded, ruleAt, outside, namedIn, rulesFrom, rulesOf, Distinct, none}
 use Rattle.rule_table.proofs.Load.{outside-ok, loaded}
-use Rattle.evr0_rules.specs.Maps.{StartsThere, RulesThere, countIn, Starts, Loads}
+use Rattle.evr0_rules.specs.Maps.{StartsThere, countIn, Starts, Loads}
 use Rattle.evr0_rules.proofs.NameLaws.{known-given, unknown-new, given-last, distinct-last}
 use Rattle.evr0_rules.proofs.RuleLaws.{RuleRead, rule-read, name-is}
 
@@ -60,7 +60,7 @@ onto-none : (x : Out (List Rule)) → x ≡ onto [] x
 onto-none (ok rs) = refl
 onto-none (refused q) = refl
 
--- a start stored behind hints
+-- a start stored behind other words
 start-set : (places : List ℕ) (n i x : ℕ) → drop n (set places (n + i) x) ≡ set (drop n places) i x
 start-set places zero i x = rw (zero-add i)
 start-set [] (suc n) i x = refl
@@ -70,6 +70,9 @@ pub drop-take : (n k : ℕ) (l : List ℕ) → drop n (take (n + k) l) ≡ take 
 drop-take zero k l = rw (zero-add k)
 drop-take (suc n) k [] = rw (suc-add n k) (sym (take-nil k))
 drop-take (suc n) k (x ∷ l) = rw (suc-add n k) (drop-take n k l)
+
+read-so-far : (i : ℕ) → 96 + i - 96 ≡ i
+read-so-far i = omega arith
 
 module _ (t : List ℕ) where
   -- so many rules are read, at the places xs, and the next one stands at a place
@@ -160,14 +163,15 @@ module _ (t : List ℕ) where
           }
 
   -- those that were read can be looked up
-  pub known-so-far : {count i at : ℕ} (places : List ℕ) → Stands count i at (take i (drop 256 places)) → RulesThere t (take (256 + i) places)
-  known-so-far {i = i} places s = record { starts = rw (drop-take 256 i places) (s .there); distinct = rw (drop-take 256 i places) (s .distinct) }
+  pub known-so-far : {count i at : ℕ} (places : List ℕ) → Stands count i at (take i (drop 96 places))
+      → StartsThere t (take (96 + i - 96) (drop 96 places))
+  known-so-far {i = i} places s = rw (read-so-far i) (s .there)
 
   pub so-far : (places name : List ℕ) (i : ℕ)
-      → ruleNamed (map (ruleIn t) (drop 256 (take (256 + i) places))) name ≡ ruleNamed (map (ruleIn t) (take i (drop 256 places))) name
-  so-far places name i = rw (drop-take 256 i places)
+      → ruleNamed (map (ruleIn t) (take (96 + i - 96) (drop 96 places))) name ≡ ruleNamed (map (ruleIn t) (take i (drop 96 places))) name
+  so-far places name i = rw (read-so-far i)
 
-  -- the place is kept, behind hints
+  -- the place is kept, behind a tree
   pub stored : {count at : ℕ} (place : ℕ) (places : List ℕ) (n i : ℕ) → n + i < length places
       → Stands count (i + 1) at (take i (drop n places) ++ (place ∷ [])) → Stands count (i + 1) at (take (i + 1) (drop n (set places (n + i) place)))
   stored place places n i h s =
@@ -205,35 +209,25 @@ module _ (t : List ℕ) where
         there = λ rs f. subst (λ (rs : List Rule). StartsThere t (take (length rs) starts)) (ok-same (sym r ∙ f)) (rw n (s .there));
       }
 
--- ---- Hints
+-- ---- Behind a tree
 
--- the starts behind the hints, once a hint is stored
-pub hint-set : (places : List ℕ) (n hint i : ℕ) → hint < n → drop n (set places hint i) ≡ drop n places
-hint-set places zero hint i h = absurd (omega arith)
-hint-set [] (suc n) hint i h = refl
-hint-set (x ∷ places) (suc n) zero i h = refl
-hint-set (x ∷ places) (suc n) (suc hint) i h = hint-set places n hint i (omega arith)
+-- the starts, once a word before them is stored
+pub word-set : (places : List ℕ) (n at x : ℕ) → at < n → drop n (set places at x) ≡ drop n places
+word-set places zero at x h = absurd (omega arith)
+word-set [] (suc n) at x h = refl
+word-set (y ∷ places) (suc n) zero x h = refl
+word-set (y ∷ places) (suc n) (suc at) x h = word-set places n at x (omega arith)
 
--- the rule at a start behind the hints lies in the table, also where hints were stored since
-pub start-there : (t places brought : List ℕ) (n count i : ℕ) → drop n places ≡ drop n brought → StartsThere t (take count (drop n brought)) → i < count
-    → n + count ≤ length brought → getD places (n + i) 0 + 6 + le 2 t (getD places (n + i) 0) ≤ length t
-start-there t places brought n count i e there h l =
-    let k : i < length (take count (drop n brought)) = rw (length-take, length-drop) (omega arith) in
-    let same : getD places (n + i) 0 ≡ getD (take count (drop n brought)) i 0 =
-    sym (getD-drop n places i 0) ∙ ap (λ (xs : List ℕ). getD xs i 0) e ∙ sym (getD-take count (drop n brought) i 0 h) in
-    rw same (there i k)
+pub loaded-most : {t starts : List ℕ} {count : ℕ} → Starts t starts (ok count) → count ≤ 32
+loaded-most {t} s =
+    let a = bind-ok (rulesOf t) _ (sym (s .answer)) in omega (arith, loaded t (a .0) (a .1) .most, ok-same (a .2))
 
-pub loaded-starts : {t starts : List ℕ} {count : ℕ} → Starts t starts (ok count) → (count ≤ 32) × StartsThere t (take count starts)
-loaded-starts {t} s =
-    let a = bind-ok (rulesOf t) _ (sym (s .answer)) in
-    (omega (arith, loaded t (a .0) (a .1) .most, ok-same (a .2)), rw (ok-same (a .2)) at (s .there (a .0) (a .1)))
-
--- what is loaded stands behind the hints
-pub behind : {t starts : List ℕ} {given : Out ℕ} (places : List ℕ) → drop 256 places ≡ starts → Starts t starts given → Loads t places given
+-- what is loaded stands behind the tree
+pub behind : {t starts : List ℕ} {given : Out ℕ} (places : List ℕ) → drop 96 places ≡ starts → Starts t starts given → Loads t places given
 behind {t} {starts} places e s =
-    let part : (rs : List Rule) → drop 256 (take (256 + length rs) places) ≡ take (length rs) starts =
-    λ rs. drop-take 256 (length rs) places ∙ ap (take (length rs)) e in
-    let are : (rs : List Rule) → rulesOf t ≡ ok rs → rs ≡ map (ruleIn t) (drop 256 (take (256 + length rs) places)) = λ rs k. rw (part rs) (s .are rs k) in
+    let part : (rs : List Rule) → drop 96 (take (96 + length rs) places) ≡ take (length rs) starts =
+    λ rs. drop-take 96 (length rs) places ∙ ap (take (length rs)) e in
+    let are : (rs : List Rule) → rulesOf t ≡ ok rs → rs ≡ map (ruleIn t) (drop 96 (take (96 + length rs) places)) = λ rs k. rw (part rs) (s .are rs k) in
     record {
       answer = s .answer;
       are = are;

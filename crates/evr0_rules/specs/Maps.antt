@@ -38,9 +38,9 @@ StartsThere t starts = (i : ℕ) → i < length starts → getD starts i 0 + 6 +
 
 -- ---- The rules of a call
 
--- of the places of a table's rules, those at which they start; the 256 before them are hints, which may be any numbers
+-- of the places of a table's rules, those at which they start; the 96 words before them are a search tree's, and may be any numbers
 abbrev pub startsIn : List ℕ → List ℕ
-startsIn places = drop 256 places
+startsIn places = drop 96 places
 
 -- the rules lie in the table, and no two have one name
 pub record RulesThere (t places : List ℕ) : Type 0 where
@@ -74,8 +74,8 @@ pub record Starts (t starts : List ℕ) (given : Out ℕ) : Type 0 where
   pub are : (rs : List rules.Rule) → rulesOf t ≡ ok rs → rs ≡ map (ruleIn t) (take (length rs) starts)
   pub there : (rs : List rules.Rule) → rulesOf t ≡ ok rs → StartsThere t (take (length rs) starts)
 
--- the same behind 256 hints
+-- the same behind the words of a tree
 pub record Loads (t places : List ℕ) (given : Out ℕ) : Type 0 where
   pub answer : given ≡ countIn (rulesOf t)
-  pub are : (rs : List rules.Rule) → rulesOf t ≡ ok rs → rs ≡ map (ruleIn t) (startsIn (take (256 + length rs) places))
-  pub there : (rs : List rules.Rule) → rulesOf t ≡ ok rs → RulesThere t (take (256 + length rs) places)
+  pub are : (rs : List rules.Rule) → rulesOf t ≡ ok rs → rs ≡ map (ruleIn t) (startsIn (take (96 + length rs) places))
+  pub there : (rs : List rules.Rule) → rulesOf t ≡ ok rs → RulesThere t (take (96 + length rs) places)

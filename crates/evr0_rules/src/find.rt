@@ -1,7 +1,7 @@
 // The rule of a name in a loaded table.
 ghost use mathlib.Core.Path.{_≡_};
 ghost use mathlib.Core.List.{map};
-ghost use Prim.Native.Nat.{_+_, _≤_, _<_};
+ghost use Prim.Native.Nat.{_+_, _≤_};
 ghost use lib.ListN.{length};
 ghost use Rattle.local_format.specs.Field.{le};
 ghost use Rattle.local_format.specs.Tag.{equal};
@@ -10,10 +10,13 @@ ghost use Rattle.rule_table.specs.Load.{ruleIn};
 ghost use Rattle.evr0_rules.specs.Maps.{namedOut, StartsThere, startsIn, RulesThere};
 use crate::rule::Rule;
 use crate::rule::numbers_at;
+use crate::tree::tree_end;
 use local_format::field::u16_at;
-use local_format::field::u32_at;
 use local_format::field::u64_at;
 use local_format::tag::same;
+
+// How many words of a search tree stand before the starts of a table's rules.
+pub const TREE: usize = 96;
 
 pub enum Named {
     Known(Rule),
@@ -71,62 +74,19 @@ pub fn rule_named_in(table: &[u8], starts: &[u64], name: &[u8]) -> Named
     Named::Unknown
 }
 
-// How many hints stand before the starts of a table's rules.
-pub const HINTS: usize = 256;
-
-fn low_number(a: u8, b: u8, c: u8) -> u64 {
-    (a as u64) + 256 * (b as u64) + 65536 * (c as u64)
-}
-
-// A number of all bytes of a name that has fewer than eight.
-fn short_number(name: &[u8]) -> u64 {
-    let len = name.len();
-    if 4 <= len {
-        return (u32_at(name, 0) as u64) + 4294967296 * (u32_at(name, len - 4) as u64);
-    }
-    if 1 <= len {
-        return low_number(name[0], name[len / 2], name[len - 1]);
-    }
-    0
-}
-
-fn below_256(mixed: u64) -> usize
-    ensures { λ r. ⌜ r < 256 ⌝ }
-{
-    let low = (mixed ^ (mixed >> 31)) % 4294967296;
-    (((low * 3039394381) >> 24) % 256) as usize
-}
-
-// The place of a name's hint, by its length and all its bytes. Names of one table mostly have different ones.
-pub fn hint_place(name: &[u8]) -> usize
-    ensures { λ r. ⌜ r < 256 ⌝ }
-{
-    let len = name.len();
-    if len < 8 {
-        return below_256((len as u64) ^ short_number(name));
-    }
-    let end = len - 8;
-    let mut mixed = len as u64;
-    let mut i: usize = 0;
-    while i < end {
-        mixed = mixed ^ u64_at(name, i);
-        i += 8;
-    }
-    below_256(mixed ^ (mixed >> 7) ^ u64_at(name, end))
-}
-
-// The rule with this name among those of a table: the one that the name's hint says, where it has the name, else by all.
-pub fn rule_hinted(table: &[u8], places: &[u64], name: &[u8]) -> Named
+// The rule with this name among those of a table: the one at which it ends in the tree, where that has the name, else by all.
+pub fn rule_sought(table: &[u8], places: &[u64], name: &[u8]) -> Named
     requires { ⌜ RulesThere (now table) (now places) ⌝ }
-    ensures { λ r. ⌜ namedOut (now (name .entry)) r ≡ ruleNamed (map (ruleIn (now (table .entry))) (startsIn (now (places .entry)))) (now (name .entry)) ⌝ }
+    ensures { λ r. ⌜ namedOut (now (name .entry)) r
+        ≡ ruleNamed (map (ruleIn (now (table .entry))) (startsIn (now (places .entry)))) (now (name .entry)) ⌝ }
 {
-    if places.len() < HINTS {
+    if places.len() < TREE {
         return Named::Unknown;
     }
-    let hint = places[hint_place(name)] as usize;
-    let starts = &places[HINTS..];
-    if hint < starts.len() {
-        let at = starts[hint] as usize;
+    let rule = tree_end(places, name);
+    let starts = &places[TREE..];
+    if rule < starts.len() {
+        let at = starts[rule] as usize;
         if has_name(table, at, name) {
             return Named::Known(numbers_at(table, at));
         }

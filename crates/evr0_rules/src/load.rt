@@ -1,17 +1,15 @@
 // Loading a table of rules.
 ghost use mathlib.Core.Path.{_≡_};
-ghost use Prim.Native.Nat.{_+_, _≤_};
-ghost use lib.ListN.{length, take};
+ghost use lib.ListN.{length};
 ghost use Rattle.local_format.specs.Out.{refuse};
 ghost use Rattle.rule_table.specs.Load.{ruleAt, outside, rulesOf};
-ghost use Rattle.evr0_rules.specs.Maps.{ruleAtOut, loadingOut, countIn, StartsThere, startsIn, Starts, Loads};
-use crate::find::HINTS;
+ghost use Rattle.evr0_rules.specs.Maps.{ruleAtOut, loadingOut, countIn, startsIn, Starts, Loads};
 use crate::find::Named;
-use crate::find::hint_place;
-use crate::find::rule_hinted;
+use crate::find::TREE;
+use crate::find::rule_named_in;
+use crate::grow::fill_tree;
 use crate::rule::is_bounded;
 use crate::rule::numbers_at;
-use local_format::field::u16_at;
 use local_format::refusal::Refusal;
 use local_format::text::Text;
 
@@ -57,9 +55,9 @@ fn rule_at(table: &[u8], at: usize) -> RuleAt
     RuleAt::Outside
 }
 
-// The rules of a table, by the places at which they start, after the hints, which are not filled yet.
+// The rules of a table, by the places at which they start, after the nodes, which are not made yet.
 fn load_starts(table: &[u8], places: &mut [u64]) -> Loading
-    requires { ⌜ length (now places) ≡ 288 ⌝ }
+    requires { ⌜ length (now places) ≡ 128 ⌝ }
     ensures { λ r. ⌜ Starts (now (table .entry)) (startsIn (now (places .exit))) (loadingOut r) ⌝ }
 {
     if table.len() < 1 {
@@ -83,8 +81,8 @@ fn load_starts(table: &[u8], places: &mut [u64]) -> Loading
             RuleAt::Read(next) => {
                 let start = at + 2;
                 let end = next - 4;
-                let known = HINTS + i;
-                let earlier = rule_hinted(table, &places[..known], &table[start..end]);
+                let known = TREE + i;
+                let earlier = rule_named_in(table, &places[TREE..known], &table[start..end]);
                 match earlier {
                     Named::Known(_) => {
                         return refused(70);
@@ -108,37 +106,20 @@ fn load_starts(table: &[u8], places: &mut [u64]) -> Loading
 pub fn load_rules(table: &[u8]) -> Loading
     ensures { λ r. ⌜ loadingOut r ≡ countIn (rulesOf (now (table .entry))) ⌝ }
 {
-    let mut places = [0u64; 288];
+    let mut places = [0u64; 128];
     load_starts(table, &mut places)
 }
 
-// The index of each rule in the hint of its name; of rules with one hint, that of the last.
-fn fill_hints(table: &[u8], places: &mut [u64], count: usize)
-    requires { ⌜ 256 + count ≤ length (now places) ⌝ }
-    requires { ⌜ StartsThere (now table) (take count (startsIn (now places))) ⌝ }
-    ensures { λ r. ⌜ startsIn (now (places .exit)) ≡ startsIn (now (places .entry)) ⌝ }
-{
-    let mut i: usize = 0;
-    while i < count {
-        let at = places[HINTS + i] as usize;
-        let start = at + 2;
-        let end = start + (u16_at(table, at) as usize);
-        let hint = hint_place(&table[start..end]);
-        places[hint] = i as u64;
-        i += 1;
-    }
-}
-
-// The rules of a table, by the places at which they start, after hints.
+// The rules of a table, by the places at which they start, after the nodes of a tree.
 pub fn load_into(table: &[u8], places: &mut [u64]) -> Loading
-    requires { ⌜ length (now places) ≡ 288 ⌝ }
+    requires { ⌜ length (now places) ≡ 128 ⌝ }
     ensures { λ r. ⌜ Loads (now (table .entry)) (now (places .exit)) (loadingOut r) ⌝ }
 {
     let loading = load_starts(table, places);
     match loading {
         Loading::Refused(refusal) => Loading::Refused(refusal),
         Loading::Loaded(count) => {
-            fill_hints(table, places, count);
+            fill_tree(table, places, count);
             Loading::Loaded(count)
         }
     }

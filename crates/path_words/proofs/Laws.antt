@@ -8,32 +8,20 @@ use native.Mathlib.Nat.{add-assoc, sub-zero}
 use native.Mathlib.Numerals.{add-one}
 use lib.Dec.{leb}
 use lib.ListN.{length, take, drop, getD, set, length-append, length-set}
-use lib.Seq.{take-suc-set, drop-cons, drop-length, take-suc}
+use lib.Seq.{take-suc-set, take-set-le, drop-cons, drop-length, take-suc, take-take, take-at, length-take-le}
 use borrow.Author.Tests.{le-leb, lt-leb, leb-true}
-use Rattle.local_format.specs.Refusal.{Refusal}
-use Rattle.local_format.specs.Out.{Out, ok, refused}
+use Rattle.local_format.specs.Out.{Out, ok, refused, _>>=_}
 use Rattle.local_format.specs.Field.{le}
 use Rattle.local_format.proofs.FieldLaws.{le-below, le-1}
 use Rattle.lent_table.specs.Lent.{lent}
-use Rattle.semcode_records.specs.Records.{Taken}
+use Rattle.semcode_records.specs.Records.{Taken, records}
 use Rattle.semcode_records.specs.Component.{Component, componentAt}
-use Rattle.semcode_records.specs.Path.{kindOfEvent, Head, headAt}
+use Rattle.semcode_records.proofs.RecordsLaws.{none-left, first-read, first-refused}
 use Rattle.semcode_records.proofs.SizeLaws.{Sized, a-tuple, a-symbol, a-variant, a-sequence}
 use Rattle.record_words.specs.Words.{Puts, allWords}
 use Rattle.record_words.proofs.Laws.{puts-then}
-use Rattle.path_words.specs.Words.{
-  Step,
-  stepOf,
-  componentWords,
-  Numbered,
-  numbered,
-  headWords,
-  pathWords,
-  fitting,
-  fitted,
-  Puts-one,
-  Fits,
-}
+use Rattle.path_words.specs.Words.{Step, stepOf, componentWords, pathWords, fitting, fitted, Puts-one, Fits}
+use Rattle.path_words.specs.Front.{there, Puts-components, Opening, openingWords}
 
 -- ---- A component by its size
 
@@ -41,7 +29,7 @@ halves : (s : List ℕ) (at : ℕ) → le 4 s at ≡ le 2 s at + 65536 * le 2 s 
 unfolding le
 halves s at = simp add-assoc (omega arith)
 
-step-is : {v w m n : ℕ} → v ≡ w → m ≡ n → _≡_ {A = Step} (record { word = v; next = m }) (record { word = w; next = n })
+step-is : {v w m n : ℕ} → v ≡ w → m ≡ n → _≡_ {A = Step} (record { whole = true; word = v; next = m }) (record { whole = true; word = w; next = n })
 step-is e h = rw (e, h)
 
 module _ (revision event : ℕ) (s : List ℕ) (at n : ℕ) (bytes : (i : ℕ) → getD s i 0 < 256) where
@@ -55,7 +43,7 @@ module _ (revision event : ℕ) (s : List ℕ) (at n : ℕ) (bytes : (i : ℕ) �
   size-within (a-variant k e h) = (omega arith, omega arith)
   size-within (a-sequence k e h) = (omega arith, omega arith)
 
-  pub step-sized : Sized revision event s at n → record { word = wordHere; next = at + n } ≡ stepOf (componentAt revision event s at)
+  pub step-sized : Sized revision event s at n → record { whole = true; word = wordHere; next = at + n } ≡ stepOf (componentAt revision event s at)
   step-sized (a-tuple k e h) =
       let g : getD s at 0 ≡ 0 = le-1 s at ∙ k in
       let b = le-below 2 s bytes (at + 1) in
@@ -76,52 +64,97 @@ module _ (revision event : ℕ) (s : List ℕ) (at n : ℕ) (bytes : (i : ℕ) �
 
 -- ---- Components one after the other
 
+unlike : false ≡ true → ⊥
+unlike e = let z : _≡_ {A = ℕ} 0 1 = cc in omega arith
+
 module _ (read : ℕ → Out (Taken Component)) where
   pub length-components : (n at : ℕ) → length (componentWords read n at) ≡ n
   unfolding componentWords
   length-components zero at = refl
   length-components (suc n) at = ap suc (length-components n (stepOf (read at) .next))
 
+  there-then : {A B : Type 0} (x : Out A) (f : A → B) → there (x >>= λ a. ok (f a)) ≡ there x
+  there-then (ok a) f = refl
+  there-then (refused r) f = refl
+
+  -- where i of n components are there, and one more is due
+  module _ (n i cursor : ℕ) (more : i < n) where
+    there-on : (x : Out (Taken Component)) → read cursor ≡ x → stepOf x .whole ≡ true
+        → there (records read (n - i) cursor) ≡ there (records read (n - (i + 1)) (stepOf x .next))
+    there-on (ok t) e w = ap there (first-read read n i cursor more e) ∙ there-then (records read (n - (i + 1)) (t .next)) _
+    there-on (refused r) e w = absurd (unlike w)
+
+    there-no-more : (x : Out (Taken Component)) → read cursor ≡ x → stepOf x .whole ≡ false → there (records read (n - i) cursor) ≡ false
+    there-no-more (ok t) e w = absurd (unlike (sym w))
+    there-no-more (refused r) e w = ap there (first-refused read n i cursor more e)
+
   -- the words of i components are written, and the rest follows from the cursor on
   pub record Putting (n at to i cursor : ℕ) (before t : List ℕ) : Type 0 where
     pub most : i ≤ n
     pub size : length t ≡ length before
+    pub kept : take to t ≡ take to before
     pub done : List ℕ
     pub many : length done ≡ i
     pub front : take (to + i) t ≡ take to before ++ done
     pub rest : componentWords read n at ≡ done ++ componentWords read (n - i) cursor
+    pub left : there (records read n at) ≡ there (records read (n - i) cursor)
 
   module _ (n at to : ℕ) (before : List ℕ) where
     pub put-first : Putting n at to 0 at before before
     put-first =
         let e : to + 0 ≡ to = omega arith in
-        record { most = omega arith; size = refl; done = []; many = refl; front = rw (e, append-nil); rest = rw sub-zero }
-
-    pub put-more : (i cursor : ℕ) (t : List ℕ) → Putting n at to i cursor before t → i < n → to + i < length t → (w next : ℕ)
-        → record { word = w; next = next } ≡ stepOf (read cursor)
-        → Putting n at to (i + 1) next before (set t (to + i) w)
-    unfolding componentWords
-    put-more i cursor t p h l w next e =
-        let left : n - i ≡ suc (n - (i + 1)) = omega arith in
-        let plus : to + (i + 1) ≡ suc (to + i) = omega arith in
-        let first : componentWords read (n - i) cursor ≡ w ∷ componentWords read (n - (i + 1)) next =
-        rw (left, ← e) in
         record {
           most = omega arith;
-          size = length-set t (to + i) w ∙ p .size;
-          done = p .done ++ (w ∷ []);
-          many = rw (length-append, p .many);
-          front = rw (plus, take-suc-set t (to + i) w l, p .front) (append-assoc (take to before) (p .done) (w ∷ []));
-          rest = p .rest ∙ rw first (sym (append-assoc (p .done) (w ∷ []) (componentWords read (n - (i + 1)) next)));
+          size = refl;
+          kept = refl;
+          done = [];
+          many = refl;
+          front = rw (e, append-nil);
+          rest = rw sub-zero;
+          left = rw sub-zero;
         }
 
-    pub put-last : (i cursor : ℕ) (t : List ℕ) → Putting n at to i cursor before t → n ≤ i → Puts (componentWords read n at) to before t
-    unfolding componentWords
-    put-last i cursor t p h =
-        let most = p .most in
-        let z : n - i ≡ 0 = omega arith in
-        let d : componentWords read n at ≡ p .done = p .rest ∙ rw (z, append-nil) in
-        record { size = p .size; front = rw (d, p .many, p .front) }
+    module _ (i cursor : ℕ) (t : List ℕ) (p : Putting n at to i cursor before t) where
+      pub put-more : i < n → to + i < length t → (w next : ℕ) → record { whole = true; word = w; next = next } ≡ stepOf (read cursor)
+          → Putting n at to (i + 1) next before (set t (to + i) w)
+      unfolding componentWords
+      put-more h l w next e =
+          let left : n - i ≡ suc (n - (i + 1)) = omega arith in
+          let plus : to + (i + 1) ≡ suc (to + i) = omega arith in
+          let first : componentWords read (n - i) cursor ≡ w ∷ componentWords read (n - (i + 1)) next = rw (left, ← e) in
+          let on = there-on n i cursor h (read cursor) refl (ap (λ (s : Step). s .whole) (sym e)) in
+          record {
+            most = omega arith;
+            size = length-set t (to + i) w ∙ p .size;
+            kept = take-set-le to t (to + i) w (omega arith) ∙ p .kept;
+            done = p .done ++ (w ∷ []);
+            many = rw (length-append, p .many);
+            front = rw (plus, take-suc-set t (to + i) w l, p .front) (append-assoc (take to before) (p .done) (w ∷ []));
+            rest = p .rest ∙ rw first (sym (append-assoc (p .done) (w ∷ []) (componentWords read (n - (i + 1)) next)));
+            left = p .left ∙ on ∙ ap (λ (s : Step). there (records read (n - (i + 1)) (s .next))) (sym e);
+          }
+
+      pub put-refused : i < n → stepOf (read cursor) .whole ≡ false → Puts-components read n at to before t false
+      put-refused h w =
+          record {
+            size = p .size;
+            kept = p .kept;
+            answer = sym (p .left ∙ there-no-more n i cursor h (read cursor) refl w);
+            words = λ e. absurd (unlike e);
+          }
+
+      pub put-last : n ≤ i → Puts-components read n at to before t true
+      unfolding componentWords
+      put-last h =
+          let most = p .most in
+          let z : n - i ≡ 0 = omega arith in
+          let d : componentWords read n at ≡ p .done = p .rest ∙ rw (z, append-nil) in
+          record {
+            size = p .size;
+            kept = p .kept;
+            answer = sym (p .left ∙ rw (z, none-left read cursor));
+            words = λ e. record { size = p .size; front = rw (d, p .many, p .front) };
+          }
 
 -- ---- A path
 
@@ -147,35 +180,46 @@ module _ (xs : List ℕ) (to : ℕ) (before : List ℕ) where
       let f : fitting (length xs) (length before - to) ≡ true = rw (le-leb 1 (length xs) a, le-leb (length xs) (length before - to) b) in
       record { size = p .size; answer = rw f (sym e); front = rw (f, ← e) (p .front) }
 
--- its words, where it was read
-module _ (revision : ℕ) (s : List ℕ) (at : ℕ) where
-  pub path-none : {r : Refusal} → headAt revision s at ≡ refused r → length (pathWords revision s at) ≡ 0
-  unfolding pathWords
-  path-none e = rw e
+-- what stands before the words is kept
+before-kept : {xs a b : List ℕ} {to : ℕ} → to ≤ length a → Puts xs to a b → take to b ≡ take to a
+before-kept {xs} {a} {b} {to} h p =
+    sym (take-take to (to + length xs) b (omega arith)) ∙ ap (take to) (p .front) ∙ take-at (take to a) xs to (length-take-le to a h)
 
-  abbrev reader : ℕ → ℕ → Out (Taken Component)
-  reader kind = componentAt revision kind s
+-- one with this opening
+module _ (revision : ℕ) (s : List ℕ) (at : ℕ) (o : Opening) (e : pathWords revision s at ≡ openingWords (λ kind. componentAt revision kind s) o)
+    (to : ℕ) (a : List ℕ) where
+  abbrev read : ℕ → Out (Taken Component)
+  read = componentAt revision (o .kind) s
 
-  path-some : {t : Taken Head} → headAt revision s at ≡ ok t → pathWords revision s at ≡ headWords reader (t .value)
-  unfolding pathWords
-  path-some e = rw e
+  abbrev all : List ℕ
+  all = o .event ∷ o .site ∷ o .root ∷ o .count ∷ componentWords read (o .count) (o .start)
 
-  head-size : (h : Head) → length (headWords reader h) ≡ 4 + h .count
-  head-size h = let n = length-components (reader (kindOfEvent (h .event))) (h .count) (h .start) in omega arith
+  all-size : length all ≡ 4 + o .count
+  all-size = let n = length-components read (o .count) (o .start) in omega arith
 
-  pub path-size : {t : Taken Head} → headAt revision s at ≡ ok t → length (pathWords revision s at) ≡ 4 + t .value .count
-  path-size {t} e = rw (path-some e) (head-size (t .value))
+  pub opening-refused : o .whole ≡ false → Puts-one (pathWords revision s at) to a a 0
+  opening-refused h = puts-none (pathWords revision s at) to a (rw (e, h))
 
-  pub puts-path : {t : Taken Head} → headAt revision s at ≡ ok t → {a b c : List ℕ} {to event site kind : ℕ}
-      → record { event = event; site = site } ≡ numbered (t .value .event) → kind ≡ kindOfEvent (t .value .event)
-      → Puts (event ∷ site ∷ t .value .root ∷ t .value .count ∷ []) to a b
-      → Puts (componentWords (reader kind) (t .value .count) (t .value .start)) (to + 4) b c
-      → 4 + t .value .count ≤ length a - to → Puts-one (pathWords revision s at) to a c (4 + t .value .count)
-  puts-path {t} e {a} {b} {c} {to} q k four rest room =
-      let x = ap (λ (n : Numbered). n .event) q in
-      let y = ap (λ (n : Numbered). n .site) q in
-      let p : Puts (headWords reader (t .value)) to a c = rw (x, y, k) at (puts-then (to + 4) refl four rest) in
-      rw (path-some e) (puts-all (headWords reader (t .value)) to a c (4 + t .value .count) (head-size (t .value)) (omega arith) room p)
+  pub opening-short : length a - to < 4 + o .count → Puts-one (pathWords revision s at) to a a 0
+  opening-short h = rw e (go (o .whole && there (records read (o .count) (o .start))))
+    where
+      go : (b : Bool) → Puts-one (cond b all []) to a a 0
+      go true = puts-short all to a (rw all-size h)
+      go false = puts-none [] to a refl
+
+  module _ (whole : o .whole ≡ true) {b c : List ℕ} {r : Bool} (four : Puts (o .event ∷ o .site ∷ o .root ∷ o .count ∷ []) to a b)
+      (put : Puts-components read (o .count) (o .start) (to + 4) b c r) where
+    pub opening-whole : r ≡ true → 4 + o .count ≤ length a - to → Puts-one (pathWords revision s at) to a c (4 + o .count)
+    opening-whole h room =
+        rw (e, whole, ← put .answer, h) (puts-all all to a c (4 + o .count) all-size (omega arith) room (puts-then (to + 4) refl four (put .words h)))
+
+    pub opening-cut : r ≡ false → to ≤ length a → Puts-one (pathWords revision s at) to a c 0
+    opening-cut h room =
+        let z : to + 0 ≡ to = omega arith in
+        let k : take to c ≡ take to b =
+        sym (take-take to (to + 4) c (omega arith)) ∙ ap (take to) (put .kept) ∙ take-take to (to + 4) b (omega arith) in
+        rw (e, whole, ← put .answer, h)
+        (record { size = put .size ∙ four .size; answer = refl; front = rw (z, append-nil) (k ∙ before-kept room four) })
 
 -- ---- Paths one after the other
 

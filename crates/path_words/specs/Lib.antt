@@ -1,2 +1,3 @@
 pub mod Words
+pub mod Front
 pub mod Maps

@@ -1,7 +1,7 @@
 -- The fields of paths and of their components as words.
 use Prim.Native.Nat.{ℕ, zero, suc, _+_, _-_, _*_}
 use mathlib.Core.Path.{_≡_}
-use mathlib.Core.Bool.{Bool, cond, _&&_}
+use mathlib.Core.Bool.{Bool, true, false, cond, _&&_}
 use mathlib.Core.List.{List, [], _∷_, _++_}
 use lib.Dec.{leb}
 use lib.ListN.{length, take}
@@ -22,14 +22,15 @@ componentWord (fieldSymbol symbol) = 1 + 4 * symbol
 componentWord (variant which index) = 2 + 4 * which + 17179869184 * index
 componentWord (sequenceIndex index) = 3 + 4 * index
 
--- its word and the place after it; zeros where it is refused
+-- whether it is there, its word and the place after it; zeros where it is refused
 pub record Step : Type 0 where
+  pub whole : Bool
   pub word : ℕ
   pub next : ℕ
 
 abbrev pub stepOf : Out (Taken Component) → Step
-stepOf (ok t) = record { word = componentWord (t .value); next = t .next }
-stepOf (refused r) = record { word = 0; next = 0 }
+stepOf (ok t) = record { whole = true; word = componentWord (t .value); next = t .next }
+stepOf (refused r) = record { whole = false; word = 0; next = 0 }
 
 -- so many components from a place on
 unfoldable pub componentWords : (ℕ → Out (Taken Component)) → ℕ → ℕ → List ℕ

@@ -6,8 +6,9 @@ ghost use lib.ListN.{length};
 ghost use Rattle.semcode_records.specs.Component.{componentAt};
 ghost use Rattle.semcode_records.specs.Maps.{componentIs, eventIs};
 ghost use Rattle.record_words.specs.Words.{Puts};
-ghost use Rattle.path_words.specs.Words.{componentWord, stepOf, componentWords, numbered, pathWords, Puts-one, Fits};
-ghost use Rattle.path_words.specs.Maps.{stepIs, numberedIs};
+ghost use Rattle.path_words.specs.Words.{componentWord, stepOf, numbered, pathWords, Puts-one, Fits};
+ghost use Rattle.path_words.specs.Front.{Puts-components, siteSize, siteOf, openingWords};
+ghost use Rattle.path_words.specs.Maps.{stepIs, numberedIs, openingIs};
 use lent_table::clear_from;
 use local_format::field::u16_at;
 use local_format::field::u32_at;
@@ -20,6 +21,7 @@ use semcode_records::path::DecodedBorrowActivation;
 use semcode_records::path::DecodedEvent;
 use semcode_records::path::DecodedWriteExecution;
 use semcode_records::path::Path;
+use semcode_records::path::SEMCODE_OWNERSHIP_ANCHOR_MIN_REVISION;
 use semcode_records::path::event_kind;
 use semcode_records::path::read_path;
 
@@ -38,8 +40,9 @@ fn component_word(component: DecodedAccessPathComponent) -> u64
     }
 }
 
-// A component's word and the place after it.
+// Whether a component is there, its word and the place after it.
 struct Step {
+    whole: bool,
     word: u64,
     next: usize,
 }
@@ -49,9 +52,14 @@ fn slow_step(code: &[u8], at: usize, header_rev: u16, kind: u8) -> Step
 {
     let answer = read_component(code, at, header_rev, kind);
     let Component::Whole { component, next } = answer else {
-        return Step { word: 0, next: 0 };
+        return Step {
+            whole: false,
+            word: 0,
+            next: 0,
+        };
     };
     Step {
+        whole: true,
         word: component_word(component),
         next,
     }
@@ -95,12 +103,13 @@ fn read_step(code: &[u8], at: usize, header_rev: u16, kind: u8) -> Step
         size,
     );
     Step {
+        whole: true,
         word,
         next: at + size,
     }
 }
 
-// So many components from a place on, to the words from `to` on.
+// So many components from a place on, to the words from `to` on: false where one is refused.
 fn put_components(
     code: &[u8],
     at: usize,
@@ -109,18 +118,22 @@ fn put_components(
     kind: u8,
     words: &mut [u64],
     to: usize,
-)
+) -> bool
     requires { ⌜ to + count ≤ length (now words) ⌝ }
-    ensures { λ r. ⌜ Puts (componentWords (componentAt «header_rev» kind (now (code .entry))) count at) to (now (words .entry)) (now (words .exit)) ⌝ }
+    ensures { λ r. ⌜ Puts-components (componentAt «header_rev» kind (now (code .entry))) count at to (now (words .entry)) (now (words .exit)) r ⌝ }
 {
     let mut cursor = at;
     let mut i: usize = 0;
     while i < count {
         let step = read_step(code, cursor, header_rev, kind);
+        if !step.whole {
+            return false;
+        }
         words[to + i] = step.word;
         cursor = step.next;
         i += 1;
     }
+    true
 }
 
 // ---- A path
@@ -166,39 +179,122 @@ fn put_four(words: &mut [u64], to: usize, a: u8, b: u32, c: u32, d: u16)
     put_word(words, to + 3, d as u64);
 }
 
+// What stands in front of a path's components, the event as its number and site; not whole where the path is refused.
+struct Opening {
+    whole: bool,
+    kind: u8,
+    event: u8,
+    site: u32,
+    root: u32,
+    count: u16,
+    start: usize,
+}
+
+fn slow_opening(code: &[u8], at: usize, header_rev: u16) -> Opening
+    ensures { λ r. ⌜ pathWords «header_rev» (now (code .entry)) at ≡ openingWords (λ kind. componentAt «header_rev» kind (now (code .entry))) (openingIs r) ⌝ }
+{
+    let answer = read_path(code, at, header_rev);
+    let Path::Whole { path, next: _ } = answer else {
+        return Opening {
+            whole: false,
+            kind: 0,
+            event: 0,
+            site: 0,
+            root: 0,
+            count: 0,
+            start: 0,
+        };
+    };
+    let event = path.event;
+    let number = event_numbered(event);
+    Opening {
+        whole: true,
+        kind: event_kind(event),
+        event: number.event,
+        site: number.site,
+        root: path.root_symbol_id,
+        count: path.component_count,
+        start: path.components_start,
+    }
+}
+
+fn site_size(kind: u8, mode: u8) -> usize
+    requires { ⌜ kind + mode ≤ 2 ⌝ }
+    ensures { λ r. ⌜ (r ≡ siteSize kind mode) × (r ≤ 4) ⌝ }
+{
+    if kind + mode == 0 { 0 } else { 4 }
+}
+
+fn site_of(size: usize, anchor: u32) -> u32
+    ensures { λ r. ⌜ r ≡ siteOf size anchor ⌝ }
+{
+    if size == 0 { 0 } else { anchor }
+}
+
+// With no branch for the event, where modes stand and the longest would be there whole.
+fn read_opening(code: &[u8], at: usize, header_rev: u16) -> Opening
+    ensures { λ r. ⌜ pathWords «header_rev» (now (code .entry)) at ≡ openingWords (λ kind. componentAt «header_rev» kind (now (code .entry))) (openingIs r) ⌝ }
+{
+    if header_rev < SEMCODE_OWNERSHIP_ANCHOR_MIN_REVISION {
+        return slow_opening(code, at, header_rev);
+    }
+    if code.len() < 12 {
+        return slow_opening(code, at, header_rev);
+    }
+    if code.len() - 12 < at {
+        return slow_opening(code, at, header_rev);
+    }
+    let kind = code[at];
+    let mode = code[at + 1];
+    if 1 < kind {
+        return slow_opening(code, at, header_rev);
+    }
+    if 1 < mode {
+        return slow_opening(code, at, header_rev);
+    }
+    let size = site_size(kind, mode);
+    Opening {
+        whole: true,
+        kind,
+        event: 1 + mode + 3 * kind,
+        site: site_of(size, u32_at(code, at + 2)),
+        root: u32_at(code, at + 2 + size),
+        count: u16_at(code, at + 6 + size),
+        start: at + 8 + size,
+    }
+}
+
 // The path at a place, to the words from `to` on: how many, 0 where it is refused or does not fit.
 fn put_path(code: &[u8], at: usize, header_rev: u16, words: &mut [u64], to: usize) -> usize
     requires { ⌜ to ≤ length (now words) ⌝ }
     ensures { λ r. ⌜ Puts-one (pathWords «header_rev» (now (code .entry)) at) to (now (words .entry)) (now (words .exit)) r ⌝ }
 {
-    let answer = read_path(code, at, header_rev);
-    let Path::Whole { path, next: _ } = answer else {
+    let opening = read_opening(code, at, header_rev);
+    if !opening.whole {
         return 0;
-    };
-    let count = path.component_count as usize;
+    }
+    let count = opening.count as usize;
     if words.len() - to < 4 + count {
         return 0;
     }
-    let event = path.event;
-    let number = event_numbered(event);
     put_four(
         words,
         to,
-        number.event,
-        number.site,
-        path.root_symbol_id,
-        path.component_count,
+        opening.event,
+        opening.site,
+        opening.root,
+        opening.count,
     );
-    put_components(
+    let whole = put_components(
         code,
-        path.components_start,
+        opening.start,
         count,
         header_rev,
-        event_kind(event),
+        opening.kind,
         words,
         to + 4,
     );
-    4 + count
+    if whole { 4 + count } else { 0 }
 }
 
 // The paths that start at these places, as many as are there and fit, from the first on: how many. A path takes 4 words, event, site, root and

@@ -1,4 +1,4 @@
--- A block's layout and its starts from those of its four tables.
+-- A block's layout and its tables of starts from its four tables.
 use mathlib.Core.Path.{_≡_, refl, ap, sym, _∙_}
 use Prim.Native.Nat.{ℕ}
 use mathlib.Core.List.{List}
@@ -20,10 +20,9 @@ use Rattle.semcode_decode.specs.Layout.{
   extent,
   Tagged,
   tagged,
-  starts,
-  sectionStarts,
-  stringStarts,
-  pathStarts,
+  tableIn,
+  stringsIn,
+  pathsIn,
 }
 
 -- a step of which only a part is kept, in front of two others
@@ -121,8 +120,8 @@ module _ (revision : ℕ) (rooms : Rooms) (s : List ℕ) where
   pub all-read : {first : Extent} {second third fourth : Tagged} → extent strings ≡ ok first → tagged (debugAt (first .end)) ≡ ok second
       → tagged (ownershipAt (second .extent .end)) ≡ ok third → tagged (signatureFrom third) ≡ ok fourth
       → (layout (blockOf revision rooms s) ≡ ok (layoutFrom first second third fourth))
-      × (stringStarts (blockOf revision rooms s) ≡ starts strings)
-      × (pathStarts (blockOf revision rooms s) ≡ sectionStarts (ownershipAt (second .extent .end)))
+      × (stringsIn (blockOf revision rooms s) ≡ strings)
+      × (pathsIn (blockOf revision rooms s) ≡ tableIn (ownershipAt (second .extent .end)))
   all-read {first} {second} {third} e e′ e″ f =
       let (t, is-t, end-t) = extent-ok strings e in
       let (d, is-d, of-d) = tagged-ok (debugAt (first .end)) e′ in
@@ -131,4 +130,4 @@ module _ (revision : ℕ) (rooms : Rooms) (s : List ℕ) where
       let block =
       block-is is-t (ap debugAt end-t ∙ is-d) (ap ownershipAt (ap (λ (g : Tagged). g .extent .end) of-d) ∙ is-o) (ap signatureFrom of-o ∙ is-g)
       in
-      (layout-steps ∙ rw (e, e′, e″, f), ap stringStarts block ∙ sym (ap starts is-t), ap pathStarts block ∙ sym (ap sectionStarts is-o))
+      (layout-steps ∙ rw (e, e′, e″, f), ap stringsIn block ∙ sym is-t, ap pathsIn block ∙ sym (ap tableIn is-o))

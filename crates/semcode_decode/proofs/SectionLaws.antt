@@ -8,7 +8,7 @@ use Rattle.local_format.specs.Out.{Out, ok, refused, _>>=_}
 use Rattle.local_format.specs.Tag.{tagAt}
 use Rattle.semcode_records.specs.Records.{Table, noRecords}
 use Rattle.semcode_decode.specs.Block.{sectionAt}
-use Rattle.semcode_decode.specs.Layout.{extent, tagged, starts, sectionStarts}
+use Rattle.semcode_decode.specs.Layout.{extent, tagged, tableIn}
 
 module _ {A : Type 0} (tag : List ℕ) (tableAt : ℕ → Out (Table A)) (s : List ℕ) (at : ℕ) where
   pub absent : tagAt tag s at ≡ false → sectionAt tag tableAt s at ≡ ok (record { found = false; table = noRecords at })
@@ -29,9 +29,9 @@ module _ {A : Type 0} (tag : List ℕ) (tableAt : ℕ → Out (Table A)) (s : Li
       go (ok t) = refl
       go (refused r) = refl
 
-  pub found-starts : tagAt tag s at ≡ true → sectionStarts (sectionAt tag tableAt s at) ≡ starts (tableAt (at + length tag))
-  found-starts e = rw (found e) (go (tableAt (at + length tag)))
+  pub found-table : tagAt tag s at ≡ true → tableIn (sectionAt tag tableAt s at) ≡ tableAt (at + length tag)
+  found-table e = rw (found e) (go (tableAt (at + length tag)))
     where
-      go : (x : Out (Table A)) → sectionStarts (x >>= λ t. ok (record { found = true; table = t })) ≡ starts x
+      go : (x : Out (Table A)) → tableIn (x >>= λ t. ok (record { found = true; table = t })) ≡ x
       go (ok t) = refl
       go (refused r) = refl

@@ -5,8 +5,10 @@ use mathlib.Core.List.{List, [], map}
 use mathlib.Core.Bool.{Bool}
 use lib.ListN.{length}
 use Rattle.local_format.specs.Out.{Out, ok, refused, _>>=_}
-use Rattle.lent_table.specs.Lent.{lent, Front}
+use Rattle.local_format.specs.Text.{Span}
+use Rattle.lent_table.specs.Lent.{lent}
 use Rattle.semcode_records.specs.Records.{Table}
+use Rattle.semcode_records.specs.Path.{Path}
 use Rattle.semcode_decode.specs.Block.{Rooms, Section, Block, decodeBlock}
 
 -- the result: four counts, whether each tag was found, and places in the block
@@ -80,14 +82,27 @@ abbrev pub starts : {A : Type 0} → Out (Table A) → List ℕ
 starts (ok t) = startsOf t
 starts (refused r) = []
 
-abbrev pub sectionStarts : {A : Type 0} → Out (Section A) → List ℕ
-sectionStarts x = starts (x >>= λ s. ok (s .table))
+-- the table of a section, and a block's tables of strings and of paths
+abbrev pub tableIn : {A : Type 0} → Out (Section A) → Out (Table A)
+tableIn x = do
+  s ← x
+  ok (s .table)
+
+abbrev pub stringsIn : Out Block → Out (Table Span)
+stringsIn x = do
+  b ← x
+  ok (b .strings)
+
+abbrev pub pathsIn : Out Block → Out (Table Path)
+pathsIn x = do
+  b ← x
+  ok (b .ownership .table)
 
 abbrev pub stringStarts : Out Block → List ℕ
-stringStarts x = starts (x >>= λ b. ok (b .strings))
+stringStarts x = starts (stringsIn x)
 
 abbrev pub pathStarts : Out Block → List ℕ
-pathStarts x = starts (x >>= λ b. ok (b .ownership .table))
+pathStarts x = starts (pathsIn x)
 
 -- the families themselves
 abbrev pub familiesOf : Block → List ℕ
@@ -128,9 +143,3 @@ abbrev pub Decodes : {A : Type 0} → (Out Block → A) → ℕ → ℕ → ℕ 
 Decodes told base revision symbols code before after answer =
     let block = decodeBlock base revision (roomsOf before symbols) code in
     Leaves block before after answer (told block)
-
--- before the tables of starts are cleared past them, and the families are copied
-pub record Begins (block : Out Block) (strings paths : List ℕ) (told : Out Layout) : Type 0 where
-  pub answer : told ≡ layout block
-  pub of-strings : Front (stringStarts block) strings
-  pub of-paths : Front (pathStarts block) paths

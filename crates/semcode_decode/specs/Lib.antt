@@ -1,4 +1,5 @@
 pub mod Block
 pub mod Layout
+pub mod Begun
 pub mod Number
 pub mod Maps

@@ -18,7 +18,8 @@ ghost use mathlib.Core.Path.{_≡_};
 ghost use lib.ListN.{length};
 ghost use Rattle.local_format.specs.Maps.{refusalOf, refusalOut};
 ghost use Rattle.semcode_decode.specs.Block.{blockOf};
-ghost use Rattle.semcode_decode.specs.Layout.{layout, tables, rooms, Begins, Decodes};
+ghost use Rattle.semcode_decode.specs.Layout.{layout, tables, rooms, Decodes};
+ghost use Rattle.semcode_decode.specs.Begun.{Lays, Begins};
 ghost use Rattle.semcode_decode.specs.Maps.{parseOut};
 
 // Counts, tags found and places in the block.
@@ -50,8 +51,9 @@ pub fn parse_refusal(answer: Parse) -> Refusal
     }
 }
 
-// Families are only counted. The starts stand at the front of the tables, and what stands past them is left; a refusal's offset is a place in the block.
-pub fn parse_tables(
+// Families are only counted. The starts stand at the front of the lent tables, and past them what stood there; a refusal leaves anything, and its
+// offset is a place in the block.
+fn read_block(
     code: &[u8],
     header_rev: u16,
     symbols: usize,
@@ -60,8 +62,8 @@ pub fn parse_tables(
     families: usize,
 ) -> Parse
     ensures { λ r.
-        ⌜ Begins (blockOf «header_rev» (rooms (length (now (strings .entry))) symbols (length (now (paths .entry))) families) (now (code .entry)))
-        (now (strings .exit)) (now (paths .exit)) (parseOut r) ⌝ }
+        ⌜ Lays (blockOf «header_rev» (rooms (length (now (strings .entry))) symbols (length (now (paths .entry))) families) (now (code .entry)))
+        (now (strings .entry)) (now (paths .entry)) (now (strings .exit)) (now (paths .exit)) (parseOut r) ⌝ }
 {
     let first = string_table(code, 0, strings);
     let Table::Whole {
@@ -123,6 +125,28 @@ pub fn parse_tables(
     })
 }
 
+// The same, where a refusal leaves zeros in the lent tables.
+pub fn parse_tables(
+    code: &[u8],
+    header_rev: u16,
+    symbols: usize,
+    strings: &mut [u64],
+    paths: &mut [u64],
+    families: usize,
+) -> Parse
+    ensures { λ r.
+        ⌜ Begins (blockOf «header_rev» (rooms (length (now (strings .entry))) symbols (length (now (paths .entry))) families) (now (code .entry)))
+        (now (strings .entry)) (now (paths .entry)) (now (strings .exit)) (now (paths .exit)) (parseOut r) ⌝ }
+{
+    let answer = read_block(code, header_rev, symbols, strings, paths, families);
+    let Parse::Whole(parsed) = answer else {
+        clear(strings);
+        clear(paths);
+        return Parse::Refused(parse_refusal(answer));
+    };
+    Parse::Whole(parsed)
+}
+
 // A block at a base, with a lent list of so many symbols: string starts and path starts go to two lent tables, the families to a table of bytes.
 pub fn parse_block(
     base_offset: usize,
@@ -138,7 +162,7 @@ pub fn parse_block(
         (tables (now (strings .entry)) (now (paths .entry)) (now (families .entry)))
         (tables (now (strings .exit)) (now (paths .exit)) (now (families .exit))) (parseOut r) ⌝ }
 {
-    let answer = parse_tables(code, header_rev, symbols, strings, paths, families.len());
+    let answer = read_block(code, header_rev, symbols, strings, paths, families.len());
     let Parse::Whole(parsed) = answer else {
         clear(strings);
         clear(paths);

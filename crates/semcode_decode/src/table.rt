@@ -17,12 +17,12 @@ ghost use Prim.Native.Nat.{_-_, _/_, _≤_};
 ghost use lib.ListN.{length};
 ghost use Rattle.local_format.specs.Maps.{refusalOf, refusalOut};
 ghost use Rattle.local_format.specs.Tag.{dbg0, own0};
-ghost use Rattle.lent_table.specs.Lent.{Front};
 ghost use Rattle.semcode_records.specs.Records.{records};
 ghost use Rattle.semcode_records.specs.Symbol.{symbolAt};
 ghost use Rattle.semcode_records.specs.Path.{pathAt};
 ghost use Rattle.semcode_decode.specs.Block.{stringRecord, stringTable, symbolTable, pathTable, sectionAt};
-ghost use Rattle.semcode_decode.specs.Layout.{extent, tagged, starts, sectionStarts};
+ghost use Rattle.semcode_decode.specs.Layout.{extent, tagged, tableIn};
+ghost use Rattle.semcode_decode.specs.Begun.{Lies};
 ghost use Rattle.semcode_decode.specs.Maps.{tableOut, sectionOut};
 
 pub const MAX_STRINGS_PER_FUNCTION: u16 = 256;
@@ -79,12 +79,12 @@ pub fn section_refusal(answer: Section) -> Refusal
 
 // ---- The strings
 
-// So many strings from a place on, with their starts at the front of a table.
+// So many strings from a place on, with their starts at the front of a table, and past them what stood there.
 fn fill_strings(bytes: &[u8], at: usize, count: u16, strings: &mut [u64]) -> Table
     requires { ⌜ count ≤ length (now strings) ⌝ }
     ensures { λ r. ⌜ tableOut r ≡ extent (records (stringRecord (now (bytes .entry))) count at) ⌝ }
     ensures { λ r.
-        ⌜ Front (starts (records (stringRecord (now (bytes .entry))) count at)) (now (strings .exit)) ⌝ }
+        ⌜ Lies (records (stringRecord (now (bytes .entry))) count at) (now (strings .entry)) (now (strings .exit)) ⌝ }
 {
     let wanted = count as usize;
     let mut cursor = at;
@@ -116,8 +116,7 @@ pub fn string_table(bytes: &[u8], at: usize, strings: &mut [u64]) -> Table
     ensures { λ r.
         ⌜ tableOut r ≡ extent (stringTable (now (bytes .entry)) (length (now (strings .entry))) at) ⌝ }
     ensures { λ r.
-        ⌜ Front (starts (stringTable (now (bytes .entry)) (length (now (strings .entry))) at))
-        (now (strings .exit)) ⌝ }
+        ⌜ Lies (stringTable (now (bytes .entry)) (length (now (strings .entry))) at) (now (strings .entry)) (now (strings .exit)) ⌝ }
 {
     let field = read_u16_le(bytes, at);
     let U16::Value { value: count, next } = field else {
@@ -201,13 +200,13 @@ pub fn debug_section(bytes: &[u8], at: usize, symbols: usize) -> Section
 
 // ---- OWN0
 
-// So many paths from a place on, with their starts at the front of a table.
+// So many paths from a place on, with their starts at the front of a table, and past them what stood there.
 fn fill_paths(bytes: &[u8], at: usize, count: u16, header_rev: u16, paths: &mut [u64]) -> Table
     requires { ⌜ count ≤ length (now paths) ⌝ }
     ensures { λ r.
         ⌜ tableOut r ≡ extent (records (pathAt «header_rev» (now (bytes .entry))) count at) ⌝ }
     ensures { λ r.
-        ⌜ Front (starts (records (pathAt «header_rev» (now (bytes .entry))) count at)) (now (paths .exit)) ⌝ }
+        ⌜ Lies (records (pathAt «header_rev» (now (bytes .entry))) count at) (now (paths .entry)) (now (paths .exit)) ⌝ }
 {
     let wanted = count as usize;
     let mut cursor = at;
@@ -234,8 +233,7 @@ fn ownership_table(bytes: &[u8], at: usize, header_rev: u16, paths: &mut [u64]) 
         ⌜ tableOut r ≡
         extent (pathTable «header_rev» (now (bytes .entry)) (length (now (paths .entry))) at) ⌝ }
     ensures { λ r.
-        ⌜ Front (starts (pathTable «header_rev» (now (bytes .entry)) (length (now (paths .entry))) at))
-        (now (paths .exit)) ⌝ }
+        ⌜ Lies (pathTable «header_rev» (now (bytes .entry)) (length (now (paths .entry))) at) (now (paths .entry)) (now (paths .exit)) ⌝ }
 {
     let field = read_u16_le(bytes, at);
     let U16::Value { value: count, next } = field else {
@@ -252,8 +250,8 @@ pub fn ownership_section(bytes: &[u8], at: usize, header_rev: u16, paths: &mut [
         ⌜ sectionOut r ≡
         tagged (sectionAt own0 (pathTable «header_rev» (now (bytes .entry)) (length (now (paths .entry)))) (now (bytes .entry)) at) ⌝ }
     ensures { λ r.
-        ⌜ Front (sectionStarts (sectionAt own0 (pathTable «header_rev» (now (bytes .entry)) (length (now (paths .entry)))) (now (bytes .entry)) at))
-        (now (paths .exit)) ⌝ }
+        ⌜ Lies (tableIn (sectionAt own0 (pathTable «header_rev» (now (bytes .entry)) (length (now (paths .entry)))) (now (bytes .entry)) at))
+        (now (paths .entry)) (now (paths .exit)) ⌝ }
 {
     if tag_at(bytes, at, b"OWN0") {
         let table = ownership_table(bytes, at + 4, header_rev, paths);

@@ -26,6 +26,7 @@ use Rattle.semcode_functions.specs.File.{
   lastStrings,
   lastPaths,
   FileLent,
+  fileTables,
   LeavesFile,
 }
 use Rattle.semcode_functions.specs.Turn.{BeginsFile, lastLayout, familyBytes, zeros, leftOf}
@@ -74,22 +75,33 @@ module _ (revision : ℕ) (rooms : Rooms) (s : List ℕ) where
   last-families last xs e (none l) = e
   last-families last xs e {at} (one {t} l f rest) = last-families _ _ (here-families at t f) rest
 
-module _ (cursor : ℕ) (before between after : FileLent) (long : AsLong before between) where
-  pub file-refused : (x : Out (List (Entry Function))) {told : Out File} {r : Refusal}
-      → BeginsFile cursor x (between .functions) (between .block .strings) (between .block .paths) told → told ≡ refused r → after ≡ zeros between
-      → {answer : Out File} → answer ≡ refused r → LeavesFile x before after answer (file cursor x)
-  file-refused (ok fs) b t e a = absurd (never (sym t ∙ b .answer))
-  file-refused (refused q) b t e a = left-zeros long e (a ∙ sym t ∙ b .answer)
+-- a refusal, after which the tables of a block hold zeros
+pub file-refused : (cursor : ℕ) (before between : FileLent) → AsLong before between → (x : Out (List (Entry Function))) {told : Out File} {r : Refusal}
+    → BeginsFile cursor x (between .functions) (before .block .strings) (before .block .paths) (between .block .strings) (between .block .paths) told
+    → told ≡ refused r → {functions families : List ℕ} → functions ≡ lent (length (between .functions)) []
+    → families ≡ lent (length (between .block .families)) [] → {answer : Out File} → answer ≡ refused r
+    → LeavesFile x before (fileTables functions (between .block .strings) (between .block .paths) families) answer (file cursor x)
+file-refused cursor before between long (ok fs) b t e f a = absurd (never (sym t ∙ b .answer))
+file-refused cursor before between long (refused q) b t e f a =
+    record {
+      answer = a ∙ sym t ∙ b .answer;
+      functions = e ∙ ap (λ (n : ℕ). lent n []) (long .functions);
+      strings = b .of-strings;
+      paths = b .of-paths;
+      families = f ∙ ap (λ (n : ℕ). lent n []) (long .families);
+    }
 
+module _ (cursor : ℕ) (before between after : FileLent) (long : AsLong before between) where
   module _ (revision : ℕ) (rooms : Rooms) (s : List ℕ) (entries : ℕ) (room : rooms .families ≡ length (before .block .families)) where
     pub file-read : {told : Out File} {f : File}
-        → BeginsFile cursor (decodeFunctions revision rooms entries s cursor) (between .functions) (between .block .strings) (between .block .paths) told
+        → BeginsFile cursor (decodeFunctions revision rooms entries s cursor) (between .functions) (before .block .strings) (before .block .paths)
+        (between .block .strings) (between .block .paths) told
         → told ≡ ok f → after ≡ leftOf f s between → LeavesFile (decodeFunctions revision rooms entries s cursor) before after (ok f)
         (file cursor (decodeFunctions revision rooms entries s cursor))
     file-read {told} {f} b t e = go (decodeFunctions revision rooms entries s cursor) refl b
       where
         go : (x : Out (List (Entry Function))) → decodeFunctions revision rooms entries s cursor ≡ x
-            → BeginsFile cursor x (between .functions) (between .block .strings) (between .block .paths) told
+            → BeginsFile cursor x (between .functions) (before .block .strings) (before .block .paths) (between .block .strings) (between .block .paths) told
             → LeavesFile x before after (ok f) (file cursor x)
         go (ok fs) d b =
             let same : f ≡ fileOf cursor fs = ok-same (sym t ∙ b .answer) in

@@ -11,13 +11,13 @@ use borrow.Author.Tests.{le-leb, lt-leb}
 use Rattle.local_format.specs.Refusal.{Refusal}
 use Rattle.local_format.specs.Out.{Out, ok, refused, refuse, _>>=_}
 use Rattle.local_format.proofs.OutLaws.{never, refused-same, ok-same, on-ok, on-refused}
-use Rattle.lent_table.specs.Lent.{Front}
+use Rattle.lent_table.specs.Lent.{lent, Front}
 use Rattle.semcode_records.specs.Records.{Taken, Entry}
 use Rattle.semcode_decode.specs.Block.{Rooms}
 use Rattle.semcode_decode.specs.Layout.{layoutOf, startsOf}
 use Rattle.semcode_functions.specs.Function.{Function, functionAt, functionsFrom}
 use Rattle.semcode_functions.specs.File.{lastOr, Last, nothing, block, placed, File, fileOf, file, functionStarts, lastStrings, lastPaths}
-use Rattle.semcode_functions.specs.Turn.{Next, nextOf, BeginsFunction, lastLayout}
+use Rattle.semcode_functions.specs.Turn.{Next, nextOf, Begun, BeginsFunction, lastLayout}
 use Rattle.semcode_functions.proofs.FunctionLaws.{none-left}
 
 -- what is told of some functions: the answer, their starts, and the starts of the last one's strings and paths
@@ -178,9 +178,15 @@ module _ (revision : ℕ) (rooms : Rooms) (s : List ℕ) (left free cursor : ℕ
           ∙ tells-one (here i at last functions strings paths) (record { start = at; value = t .value; next = t .next }) (from (i + 1) (t .next))
           ∙ rw (w, ss, ps)
 
-      module _ {strings′ paths′ : List ℕ} {told : Out Next} (begins : BeginsFunction (functionAt revision rooms s at) strings′ paths′ told) where
-        pub read-refused : {r : Refusal} → told ≡ refused r → functionsFrom revision rooms s left free cursor ≡ refused r
-        read-refused e = whole-refused (turn ∙ on-refused _ (next-refused (functionAt revision rooms s at) (sym (begins .answer) ∙ e)))
+      module _ {strings″ paths″ strings′ paths′ : List ℕ} {told : Out Next}
+          (begins : BeginsFunction (functionAt revision rooms s at) strings″ paths″ strings′ paths′ told) where
+        pub read-refused : {r : Refusal} → told ≡ refused r
+            → (functionsFrom revision rooms s left free cursor ≡ refused r)
+            × (strings′ ≡ lent (length strings″) [])
+            × (paths′ ≡ lent (length paths″) [])
+        read-refused e =
+            let f = next-refused (functionAt revision rooms s at) (sym (begins .answer) ∙ e) in
+            (whole-refused (turn ∙ on-refused _ f), rw f at (begins .of-strings), rw f at (begins .of-paths))
 
         pub read-on : {n : Next} → told ≡ ok n → i < length functions
             → Reading (i + 1) (n .next) (block (n .code) (n .layout)) (set functions i at) strings′ paths′
@@ -189,12 +195,12 @@ module _ (revision : ℕ) (rooms : Rooms) (s : List ℕ) (left free cursor : ℕ
             rw (← same) (read-one t f room strings′ paths′ (rw f at (begins .of-strings)) (rw f at (begins .of-paths)))
 
     -- the end
-    pub read-all : length s ≤ at
+    pub read-all : (strings₀ paths₀ : List ℕ) → length s ≤ at
         → (file cursor (functionsFrom revision rooms s left free cursor) ≡ ok (record { functions = i; cursor = at; last = last }))
         × Front (functionStarts (functionsFrom revision rooms s left free cursor)) functions
-        × Front (lastStrings (functionsFrom revision rooms s left free cursor)) strings
-        × Front (lastPaths (functionsFrom revision rooms s left free cursor)) paths
-    read-all h =
+        × Begun (functionsFrom revision rooms s left free cursor) (lastStrings (functionsFrom revision rooms s left free cursor)) strings₀ strings
+        × Begun (functionsFrom revision rooms s left free cursor) (lastPaths (functionsFrom revision rooms s left free cursor)) paths₀ paths
+    read-all strings₀ paths₀ h =
         let done = inv ∙ ap (tells (here i at last functions strings paths)) (none-left revision rooms s (left - i) (free - i) at h) in
         let (fs, e, same) = tells-ok (begun cursor) (functionsFrom revision rooms s left free cursor)
         (done ∙ ap ok (joined-none (here i at last functions strings paths))) in

@@ -4,7 +4,7 @@ use Prim.Native.Nat.{ℕ}
 use mathlib.Core.List.{List, []}
 use mathlib.Core.Bool.{false}
 use lib.ListN.{length, take, drop}
-use Rattle.local_format.specs.Out.{Out, ok, _>>=_}
+use Rattle.local_format.specs.Out.{Out, ok, refused, _>>=_}
 use Rattle.local_format.specs.Text.{bytesAt}
 use Rattle.lent_table.specs.Lent.{lent, Front}
 use Rattle.semcode_records.specs.Records.{Taken, Entry}
@@ -23,18 +23,24 @@ nextOf x = do
   f ← x
   ok (record { code = f .value .head .code; layout = layoutOf (f .value .block); next = f .next })
 
+-- a table of starts that is not cleared past them: it begins with the starts, or after a refusal holds zeros
+abbrev pub Begun : {A : Type 0} → Out A → List ℕ → List ℕ → List ℕ → Type 0
+Begun (ok x) starts before after = Front starts after
+Begun (refused r) starts before after = after ≡ lent (length before) []
+
 -- one function was read
-pub record BeginsFunction (function : Out (Taken Function)) (strings paths : List ℕ) (told : Out Next) : Type 0 where
+pub record BeginsFunction (function : Out (Taken Function)) (strings paths strings′ paths′ : List ℕ) (told : Out Next) : Type 0 where
   pub answer : told ≡ nextOf function
-  pub of-strings : Front (stringStarts (function >>= λ f. ok (f .value .block))) strings
-  pub of-paths : Front (pathStarts (function >>= λ f. ok (f .value .block))) paths
+  pub of-strings : Begun function (stringStarts (function >>= λ f. ok (f .value .block))) strings strings′
+  pub of-paths : Begun function (pathStarts (function >>= λ f. ok (f .value .block))) paths paths′
 
 -- all functions were read
-pub record BeginsFile (cursor : ℕ) (decoded : Out (List (Entry Function))) (functions strings paths : List ℕ) (told : Out File) : Type 0 where
+pub record BeginsFile (cursor : ℕ) (decoded : Out (List (Entry Function))) (functions strings paths strings′ paths′ : List ℕ) (told : Out File)
+    : Type 0 where
   pub answer : told ≡ file cursor decoded
   pub of-functions : Front (functionStarts decoded) functions
-  pub of-strings : Front (lastStrings decoded) strings
-  pub of-paths : Front (lastPaths decoded) paths
+  pub of-strings : Begun decoded (lastStrings decoded) strings strings′
+  pub of-paths : Begun decoded (lastPaths decoded) paths paths′
 
 -- ---- The last block, and zeros where there is none
 abbrev pub noLayout : Layout

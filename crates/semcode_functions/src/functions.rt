@@ -81,7 +81,7 @@ fn next_refusal(answer: Next) -> Refusal
     }
 }
 
-// The head and the block. The block's starts stand at the front of the tables, and what stands past them is left.
+// The head and the block. The block's starts stand at the front of the tables, and what stands past them is left; a refusal leaves zeros.
 fn next_function(
     bytes: &[u8],
     at: usize,
@@ -94,10 +94,12 @@ fn next_function(
     ensures { λ r.
         ⌜ BeginsFunction
         (functionAt «header_rev» (rooms (length (now (strings .entry))) symbols (length (now (paths .entry))) families) (now (bytes .entry)) at)
-        (now (strings .exit)) (now (paths .exit)) (nextOut r) ⌝ }
+        (now (strings .entry)) (now (paths .entry)) (now (strings .exit)) (now (paths .exit)) (nextOut r) ⌝ }
 {
     let function = read_function(bytes, at);
     let Function::Whole { head, next } = function else {
+        clear(strings);
+        clear(paths);
         return Next::Refused(function_refusal(function));
     };
     let code = head.code;
@@ -117,7 +119,7 @@ fn next_function(
 
 // ---- All functions
 
-// The starts stand at the front of the tables, and what stands past them is left.
+// The starts stand at the front of the tables, and what stands past them is left; a refusal leaves zeros in those of a block.
 fn each_function(
     bytes: &[u8],
     cursor: usize,
@@ -132,16 +134,20 @@ fn each_function(
         ⌜ BeginsFile cursor
         (decodeFunctions «header_rev» (rooms (length (now (strings .entry))) symbols (length (now (paths .entry))) families)
         (length (now (functions .entry))) (now (bytes .entry)) cursor)
-        (now (functions .exit)) (now (strings .exit)) (now (paths .exit)) (functionsOut r) ⌝ }
+        (now (functions .exit)) (now (strings .entry)) (now (paths .entry)) (now (strings .exit)) (now (paths .exit)) (functionsOut r) ⌝ }
 {
     let mut at = cursor;
     let mut count: usize = 0;
     let mut last = Last::Nothing;
     while at < bytes.len() {
         if MAX_FUNCTIONS <= count {
+            clear(strings);
+            clear(paths);
             return Functions::Refused(refuse(65, at));
         }
         if functions.len() <= count {
+            clear(strings);
+            clear(paths);
             return Functions::Refused(refuse(61, at));
         }
         let answer = next_function(bytes, at, header_rev, symbols, strings, paths, families);
@@ -231,7 +237,7 @@ fn leave(
 }
 
 // The functions from a cursor to the end, with a lent list of so many symbols: their starts go to a lent table, the last one's
-// string starts and path starts to two, and its families to a table of bytes. The tables are cleared once, at the end.
+// string starts and path starts to two, and its families to a table of bytes. Each table is cleared once.
 pub fn read_functions(
     bytes: &[u8],
     cursor: usize,
@@ -258,7 +264,8 @@ pub fn read_functions(
         families.len(),
     );
     let Functions::Whole(found) = answer else {
-        clear_all(functions, strings, paths, families);
+        clear(functions);
+        clear_bytes(families);
         return Functions::Refused(functions_refusal(answer));
     };
     leave(found, bytes, functions, strings, paths, families);

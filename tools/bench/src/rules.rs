@@ -5,7 +5,7 @@ use crate::rows::{Calls, Plan, Row, calls, plan};
 use crate::sections::{Make, SHAPES, port_summary, rust_summary, summary};
 use inputs::random::Random;
 use inputs::ruled::{
-    self, Rule, Table, by, names_alike, names_alike_at_both_ends, names_of_one_hint,
+    self, Rule, Table, by, names_alike, names_alike_at_both_ends, names_of_a_deep_tree,
 };
 use inputs::section::Section;
 use inputs::shapes;
@@ -32,7 +32,7 @@ const NAMES: [(&str, Names); 4] = [
         "32 names that differ in the middle",
         names_alike_at_both_ends,
     ),
-    ("32 names of one hint", names_of_one_hint),
+    ("32 names of a deep tree", names_of_a_deep_tree),
     ("32 short names", |count| {
         (0..count).map(|n| vec![b'A' + n as u8]).collect()
     }),

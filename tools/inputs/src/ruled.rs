@@ -108,39 +108,28 @@ pub fn names_alike_at_both_ends(count: usize) -> Vec<Vec<u8>> {
     names
 }
 
-/// Names of 64 bytes that differ in eight of the middle and have one hint, which says the last of them: the others are sought rule by rule.
-pub fn names_of_one_hint(count: usize) -> Vec<Vec<u8>> {
-    let name = |n: u32| {
-        [
-            &[b'n'; 24][..],
-            format!("{n:08}").as_bytes(),
-            &[b'n'; 32][..],
-        ]
-        .concat()
+/// Names of 64 bytes. Each of the first seven differs from all others in one word of eight bytes, and these in the last word alone: of a search by words
+/// each word but the last leaves all but one.
+pub fn names_of_a_deep_tree(count: usize) -> Vec<Vec<u8>> {
+    let name = |n: usize| {
+        let mut name = [&[b'n'; 56][..], format!("{n:08}").as_bytes()].concat();
+        if n < 7 {
+            name[8 * n] = b'o';
+        }
+        name
     };
-    (0..)
-        .map(name)
-        .filter(|n| hint(n) == hint(&name(0)))
-        .take(count)
-        .collect()
-}
-
-/// The number of a name of 64 bytes in crates/evr0_rules/src/find.rt.
-fn hint(name: &[u8]) -> u64 {
-    let word = |at: usize| u64::from_le_bytes(name[at..at + 8].try_into().expect("eight bytes"));
-    let mixed = (0..7).fold(64, |mixed, i| mixed ^ word(8 * i));
-    let mixed = mixed ^ (mixed >> 7) ^ word(56);
-    (((mixed ^ (mixed >> 31)) % (1 << 32) * 3_039_394_381) >> 24) % 256
+    (0..count).map(name).collect()
 }
 
 /// So many names, of one of several makes; few where they happen to be equal.
 fn names(r: &mut Random, count: usize) -> Vec<Vec<u8>> {
-    let mut names: Vec<Vec<u8>> = match r.below(6) {
+    let mut names: Vec<Vec<u8>> = match r.below(7) {
         0 => (0..count).map(|n| vec![b'A' + n as u8]).collect(),
         1 => names_alike(count),
         2 => names_alike_at_both_ends(count),
-        3 => (1..=count).map(|n| vec![b'n'; 2 * n]).collect(),
-        4 => {
+        3 => names_of_a_deep_tree(count),
+        4 => (1..=count).map(|n| vec![b'n'; 2 * n]).collect(),
+        5 => {
             let four = [POS, NEG, JOIN, OP].map(<[u8]>::to_vec);
             let more = (4..count).map(|n| vec![b'A' + n as u8]);
             four.into_iter().chain(more).take(count).collect()

@@ -11,40 +11,13 @@ pub fn write_columns(
     lent: SectionTables,
     output: &mut [u8],
 ) -> Columns {
-    unsafe {
-        falgnust_write_columns(
-            bytes.as_ptr(),
-            bytes.len(),
-            cursor,
-            lent.propositions.as_mut_ptr(),
-            lent.propositions.len(),
-            lent.proofs.as_mut_ptr(),
-            lent.proofs.len(),
-            lent.depths.as_mut_ptr(),
-            lent.depths.len(),
-            output.as_mut_ptr(),
-            output.len(),
-        )
-    }
+    call!(falgnust_write_columns(in bytes, cursor, section lent, out output))
 }
 
 /// The section that some columns are of, in an output that is lent.
 #[inline]
 pub fn take_columns(columns: &[u8], lent: SectionTables, output: &mut [u8]) -> Columns {
-    unsafe {
-        falgnust_take_columns(
-            columns.as_ptr(),
-            columns.len(),
-            lent.propositions.as_mut_ptr(),
-            lent.propositions.len(),
-            lent.proofs.as_mut_ptr(),
-            lent.proofs.len(),
-            lent.depths.as_mut_ptr(),
-            lent.depths.len(),
-            output.as_mut_ptr(),
-            output.len(),
-        )
-    }
+    call!(falgnust_take_columns(in columns, section lent, out output))
 }
 
 /// The section at a cursor, by the rules of a table, written by column.
@@ -56,23 +29,7 @@ pub fn write_columns_by_rules(
     lent: SectionTables,
     output: &mut [u8],
 ) -> Columns {
-    unsafe {
-        falgnust_write_columns_by_rules(
-            rules.as_ptr(),
-            rules.len(),
-            bytes.as_ptr(),
-            bytes.len(),
-            cursor,
-            lent.propositions.as_mut_ptr(),
-            lent.propositions.len(),
-            lent.proofs.as_mut_ptr(),
-            lent.proofs.len(),
-            lent.depths.as_mut_ptr(),
-            lent.depths.len(),
-            output.as_mut_ptr(),
-            output.len(),
-        )
-    }
+    call!(falgnust_write_columns_by_rules(in rules, in bytes, cursor, section lent, out output))
 }
 
 /// The section, by the rules of a table, that some columns are of.
@@ -83,20 +40,5 @@ pub fn take_columns_by_rules(
     lent: SectionTables,
     output: &mut [u8],
 ) -> Columns {
-    unsafe {
-        falgnust_take_columns_by_rules(
-            rules.as_ptr(),
-            rules.len(),
-            columns.as_ptr(),
-            columns.len(),
-            lent.propositions.as_mut_ptr(),
-            lent.propositions.len(),
-            lent.proofs.as_mut_ptr(),
-            lent.proofs.len(),
-            lent.depths.as_mut_ptr(),
-            lent.depths.len(),
-            output.as_mut_ptr(),
-            output.len(),
-        )
-    }
+    call!(falgnust_take_columns_by_rules(in rules, in columns, section lent, out output))
 }

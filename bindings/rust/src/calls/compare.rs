@@ -20,85 +20,20 @@ pub struct Lent<'a> {
 /// The section, with the marks, and of each proposition whether it is authorised.
 #[inline]
 pub fn authorised_table(lent: Lent) -> Section {
-    unsafe {
-        falgnust_authorised_table(
-            lent.bytes.as_ptr(),
-            lent.bytes.len(),
-            lent.cursor,
-            lent.tables.propositions.as_mut_ptr(),
-            lent.tables.propositions.len(),
-            lent.tables.proofs.as_mut_ptr(),
-            lent.tables.proofs.len(),
-            lent.tables.depths.as_mut_ptr(),
-            lent.tables.depths.len(),
-            lent.marks.as_mut_ptr(),
-            lent.marks.len(),
-            lent.authorised.as_mut_ptr(),
-            lent.authorised.len(),
-        )
-    }
+    call!(falgnust_authorised_table(marked lent))
 }
 
 /// The same by the rules of a table.
 #[inline]
 pub fn authorised_table_by_rules(rules: &[u8], lent: Lent) -> Section {
-    unsafe {
-        falgnust_authorised_table_by_rules(
-            rules.as_ptr(),
-            rules.len(),
-            lent.bytes.as_ptr(),
-            lent.bytes.len(),
-            lent.cursor,
-            lent.tables.propositions.as_mut_ptr(),
-            lent.tables.propositions.len(),
-            lent.tables.proofs.as_mut_ptr(),
-            lent.tables.proofs.len(),
-            lent.tables.depths.as_mut_ptr(),
-            lent.tables.depths.len(),
-            lent.marks.as_mut_ptr(),
-            lent.marks.len(),
-            lent.authorised.as_mut_ptr(),
-            lent.authorised.len(),
-        )
-    }
+    call!(falgnust_authorised_table_by_rules(in rules, marked lent))
 }
 
 /// Two sections compared. The verdicts go to a table that is lent, in the order of propositions: 1 agreed, 2 contradicted, 3 in the first alone, 4 in
 /// the second alone. 1 and 2 stand for the next proposition of both sections, 3 for the first's and 4 for the second's.
 #[inline]
 pub fn compare_sections(first: Lent, second: Lent, verdicts: &mut [u8]) -> Comparison {
-    unsafe {
-        falgnust_compare_sections(
-            first.bytes.as_ptr(),
-            first.bytes.len(),
-            first.cursor,
-            first.tables.propositions.as_mut_ptr(),
-            first.tables.propositions.len(),
-            first.tables.proofs.as_mut_ptr(),
-            first.tables.proofs.len(),
-            first.tables.depths.as_mut_ptr(),
-            first.tables.depths.len(),
-            first.marks.as_mut_ptr(),
-            first.marks.len(),
-            first.authorised.as_mut_ptr(),
-            first.authorised.len(),
-            second.bytes.as_ptr(),
-            second.bytes.len(),
-            second.cursor,
-            second.tables.propositions.as_mut_ptr(),
-            second.tables.propositions.len(),
-            second.tables.proofs.as_mut_ptr(),
-            second.tables.proofs.len(),
-            second.tables.depths.as_mut_ptr(),
-            second.tables.depths.len(),
-            second.marks.as_mut_ptr(),
-            second.marks.len(),
-            second.authorised.as_mut_ptr(),
-            second.authorised.len(),
-            verdicts.as_mut_ptr(),
-            verdicts.len(),
-        )
-    }
+    call!(falgnust_compare_sections(marked first, marked second, out verdicts))
 }
 
 /// The same by the rules of one table.
@@ -109,38 +44,5 @@ pub fn compare_sections_by_rules(
     second: Lent,
     verdicts: &mut [u8],
 ) -> Comparison {
-    unsafe {
-        falgnust_compare_sections_by_rules(
-            rules.as_ptr(),
-            rules.len(),
-            first.bytes.as_ptr(),
-            first.bytes.len(),
-            first.cursor,
-            first.tables.propositions.as_mut_ptr(),
-            first.tables.propositions.len(),
-            first.tables.proofs.as_mut_ptr(),
-            first.tables.proofs.len(),
-            first.tables.depths.as_mut_ptr(),
-            first.tables.depths.len(),
-            first.marks.as_mut_ptr(),
-            first.marks.len(),
-            first.authorised.as_mut_ptr(),
-            first.authorised.len(),
-            second.bytes.as_ptr(),
-            second.bytes.len(),
-            second.cursor,
-            second.tables.propositions.as_mut_ptr(),
-            second.tables.propositions.len(),
-            second.tables.proofs.as_mut_ptr(),
-            second.tables.proofs.len(),
-            second.tables.depths.as_mut_ptr(),
-            second.tables.depths.len(),
-            second.marks.as_mut_ptr(),
-            second.marks.len(),
-            second.authorised.as_mut_ptr(),
-            second.authorised.len(),
-            verdicts.as_mut_ptr(),
-            verdicts.len(),
-        )
-    }
+    call!(falgnust_compare_sections_by_rules(in rules, marked first, marked second, out verdicts))
 }

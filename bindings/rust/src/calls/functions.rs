@@ -1,6 +1,6 @@
 //! Files of functions.
 
-use super::{BlockTables, at_place};
+use super::BlockTables;
 use crate::raw::*;
 
 /// All functions from a cursor to the end. `lent` and `symbols` take the last one's block, `functions` the start of each.
@@ -13,30 +13,13 @@ pub fn decode_functions(
     functions: &mut [u64],
     lent: BlockTables,
 ) -> Functions {
-    unsafe {
-        falgnust_decode_functions(
-            bytes.as_ptr(),
-            bytes.len(),
-            cursor,
-            header_rev,
-            symbols.as_mut_ptr(),
-            symbols.len(),
-            functions.as_mut_ptr(),
-            functions.len(),
-            lent.strings.as_mut_ptr(),
-            lent.strings.len(),
-            lent.paths.as_mut_ptr(),
-            lent.paths.len(),
-            lent.families.as_mut_ptr(),
-            lent.families.len(),
-        )
-    }
+    call!(falgnust_decode_functions(in bytes, cursor, header_rev, out symbols, out functions, block lent))
 }
 
 /// The head of the function at a place of a file.
 #[inline]
 pub fn read_function(bytes: &[u8], at: usize) -> Function {
-    at_place(falgnust_read_function, bytes, at)
+    call!(falgnust_read_function(in bytes, at))
 }
 
 /// The head of a function by its number.
@@ -49,21 +32,5 @@ pub fn function_number(
     functions: &mut [u64],
     lent: BlockTables,
 ) -> Function {
-    unsafe {
-        falgnust_function_number(
-            bytes.as_ptr(),
-            bytes.len(),
-            cursor,
-            header_rev,
-            number,
-            functions.as_mut_ptr(),
-            functions.len(),
-            lent.strings.as_mut_ptr(),
-            lent.strings.len(),
-            lent.paths.as_mut_ptr(),
-            lent.paths.len(),
-            lent.families.as_mut_ptr(),
-            lent.families.len(),
-        )
-    }
+    call!(falgnust_function_number(in bytes, cursor, header_rev, number, out functions, block lent))
 }

@@ -14,45 +14,29 @@ pub fn claim(
     source: &[u8; 32],
     lent: BlockTables,
 ) -> Claim {
-    unsafe {
-        falgnust_claim(
-            register,
-            owner,
-            base_offset,
-            code.as_ptr(),
-            code.len(),
-            header_rev,
-            source,
-            lent.strings.as_mut_ptr(),
-            lent.strings.len(),
-            lent.paths.as_mut_ptr(),
-            lent.paths.len(),
-            lent.families.as_mut_ptr(),
-            lent.families.len(),
-        )
-    }
+    call!(falgnust_claim(register, owner, base_offset, in code, header_rev, source, block lent))
 }
 
 /// Drops what an owner holds. The answer is how many locks are held afterwards.
 #[inline]
 pub fn release(register: &mut Register, owner: u32) -> usize {
-    unsafe { falgnust_release(register, owner) }
+    call!(falgnust_release(register, owner))
 }
 
 /// How many locks are held.
 #[inline]
 pub fn held(register: &Register) -> usize {
-    unsafe { falgnust_held(register) }
+    call!(falgnust_held(register))
 }
 
 /// A lock by its number.
 #[inline]
 pub fn lock_number(register: &Register, number: usize) -> Lock {
-    unsafe { falgnust_lock_number(register, number) }
+    call!(falgnust_lock_number(register, number))
 }
 
 /// A component of a lock's path, both by number.
 #[inline]
 pub fn lock_part(register: &Register, number: usize, part: usize) -> LockPart {
-    unsafe { falgnust_lock_part(register, number, part) }
+    call!(falgnust_lock_part(register, number, part))
 }

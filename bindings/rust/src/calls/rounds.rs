@@ -6,19 +6,7 @@ use crate::raw::*;
 /// The depths of the section at a cursor by rounds.
 #[inline]
 pub fn depth_by_rounds(bytes: &[u8], cursor: usize, lent: SectionTables) -> Rounds {
-    unsafe {
-        falgnust_depth_by_rounds(
-            bytes.as_ptr(),
-            bytes.len(),
-            cursor,
-            lent.propositions.as_mut_ptr(),
-            lent.propositions.len(),
-            lent.proofs.as_mut_ptr(),
-            lent.proofs.len(),
-            lent.depths.as_mut_ptr(),
-            lent.depths.len(),
-        )
-    }
+    call!(falgnust_depth_by_rounds(in bytes, cursor, section lent))
 }
 
 /// The same by the rules of a table, which is loaded first.
@@ -29,19 +17,5 @@ pub fn depth_by_rounds_by_rules(
     cursor: usize,
     lent: SectionTables,
 ) -> Rounds {
-    unsafe {
-        falgnust_depth_by_rounds_by_rules(
-            rules.as_ptr(),
-            rules.len(),
-            bytes.as_ptr(),
-            bytes.len(),
-            cursor,
-            lent.propositions.as_mut_ptr(),
-            lent.propositions.len(),
-            lent.proofs.as_mut_ptr(),
-            lent.proofs.len(),
-            lent.depths.as_mut_ptr(),
-            lent.depths.len(),
-        )
-    }
+    call!(falgnust_depth_by_rounds_by_rules(in rules, in bytes, cursor, section lent))
 }

@@ -7,7 +7,7 @@ use crate::raw::*;
 /// Whether bytes are a table of rules, and of how many.
 #[inline]
 pub fn load_rules(rules: &[u8]) -> Rules {
-    unsafe { falgnust_load_rules(rules.as_ptr(), rules.len()) }
+    call!(falgnust_load_rules(in rules))
 }
 
 /// The section at a cursor, with the marks.
@@ -19,23 +19,7 @@ pub fn decode_evr0_section_by_rules(
     lent: SectionTables,
     marks: &mut [u8],
 ) -> Section {
-    unsafe {
-        falgnust_decode_evr0_section_by_rules(
-            rules.as_ptr(),
-            rules.len(),
-            bytes.as_ptr(),
-            bytes.len(),
-            cursor,
-            lent.propositions.as_mut_ptr(),
-            lent.propositions.len(),
-            lent.proofs.as_mut_ptr(),
-            lent.proofs.len(),
-            lent.depths.as_mut_ptr(),
-            lent.depths.len(),
-            marks.as_mut_ptr(),
-            marks.len(),
-        )
-    }
+    call!(falgnust_decode_evr0_section_by_rules(in rules, in bytes, cursor, section lent, out marks))
 }
 
 /// The section at a cursor, without the marks.
@@ -46,47 +30,7 @@ pub fn decode_evr0_unmarked_by_rules(
     cursor: usize,
     lent: SectionTables,
 ) -> Section {
-    unsafe {
-        falgnust_decode_evr0_unmarked_by_rules(
-            rules.as_ptr(),
-            rules.len(),
-            bytes.as_ptr(),
-            bytes.len(),
-            cursor,
-            lent.propositions.as_mut_ptr(),
-            lent.propositions.len(),
-            lent.proofs.as_mut_ptr(),
-            lent.proofs.len(),
-            lent.depths.as_mut_ptr(),
-            lent.depths.len(),
-        )
-    }
-}
-
-fn of_section<T>(
-    ask: OfSectionByRules<T>,
-    rules: &[u8],
-    bytes: &[u8],
-    cursor: usize,
-    number: u32,
-    lent: SectionTables,
-) -> T {
-    unsafe {
-        ask(
-            rules.as_ptr(),
-            rules.len(),
-            bytes.as_ptr(),
-            bytes.len(),
-            cursor,
-            number,
-            lent.propositions.as_mut_ptr(),
-            lent.propositions.len(),
-            lent.proofs.as_mut_ptr(),
-            lent.proofs.len(),
-            lent.depths.as_mut_ptr(),
-            lent.depths.len(),
-        )
-    }
+    call!(falgnust_decode_evr0_unmarked_by_rules(in rules, in bytes, cursor, section lent))
 }
 
 /// A proposition of the section at a cursor.
@@ -98,8 +42,7 @@ pub fn proposition_number_by_rules(
     number: u32,
     lent: SectionTables,
 ) -> Proposition {
-    let ask = falgnust_proposition_number_by_rules;
-    of_section(ask, rules, bytes, cursor, number, lent)
+    call!(falgnust_proposition_number_by_rules(in rules, in bytes, cursor, number, section lent))
 }
 
 /// A proof of the section at a cursor.
@@ -111,8 +54,7 @@ pub fn proof_number_by_rules(
     number: u32,
     lent: SectionTables,
 ) -> Proof {
-    let ask = falgnust_proof_number_by_rules;
-    of_section(ask, rules, bytes, cursor, number, lent)
+    call!(falgnust_proof_number_by_rules(in rules, in bytes, cursor, number, section lent))
 }
 
 /// A witness of the section at a cursor.
@@ -124,8 +66,7 @@ pub fn witness_number_by_rules(
     number: u32,
     lent: SectionTables,
 ) -> Witness {
-    let ask = falgnust_witness_number_by_rules;
-    of_section(ask, rules, bytes, cursor, number, lent)
+    call!(falgnust_witness_number_by_rules(in rules, in bytes, cursor, number, section lent))
 }
 
 /// A parent cell of the section at a cursor.
@@ -137,8 +78,7 @@ pub fn parent_number_by_rules(
     number: u32,
     lent: SectionTables,
 ) -> Parent {
-    let ask = falgnust_parent_number_by_rules;
-    of_section(ask, rules, bytes, cursor, number, lent)
+    call!(falgnust_parent_number_by_rules(in rules, in bytes, cursor, number, section lent))
 }
 
 /// The way down from a proof of the section at a cursor, with at most `limit` moves.
@@ -151,23 +91,7 @@ pub fn way_down_by_rules(
     limit: u64,
     lent: SectionTables,
 ) -> WayDown {
-    unsafe {
-        falgnust_way_down_by_rules(
-            rules.as_ptr(),
-            rules.len(),
-            bytes.as_ptr(),
-            bytes.len(),
-            cursor,
-            from,
-            limit,
-            lent.propositions.as_mut_ptr(),
-            lent.propositions.len(),
-            lent.proofs.as_mut_ptr(),
-            lent.proofs.len(),
-            lent.depths.as_mut_ptr(),
-            lent.depths.len(),
-        )
-    }
+    call!(falgnust_way_down_by_rules(in rules, in bytes, cursor, from, limit, section lent))
 }
 
 /// Whether a proposition of the section at a cursor is authorised. The marks go to a table that is lent, too.
@@ -180,22 +104,5 @@ pub fn authorised_by_rules(
     lent: SectionTables,
     marks: &mut [u8],
 ) -> Authorised {
-    unsafe {
-        falgnust_authorised_by_rules(
-            rules.as_ptr(),
-            rules.len(),
-            bytes.as_ptr(),
-            bytes.len(),
-            cursor,
-            proposition,
-            lent.propositions.as_mut_ptr(),
-            lent.propositions.len(),
-            lent.proofs.as_mut_ptr(),
-            lent.proofs.len(),
-            lent.depths.as_mut_ptr(),
-            lent.depths.len(),
-            marks.as_mut_ptr(),
-            marks.len(),
-        )
-    }
+    call!(falgnust_authorised_by_rules(in rules, in bytes, cursor, proposition, section lent, out marks))
 }

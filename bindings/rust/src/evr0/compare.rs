@@ -257,7 +257,7 @@ fn entries(files: [At; 2], [ours, theirs]: &[Vec<u64>; 2], verdicts: &[Verdict])
         .filter(|(v, _)| **v == Verdict::SecondOnly);
     let theirs: Vec<u64> = alone.map(|(_, start)| *start).collect();
     let read = |(bytes, cursor): At, starts: &[u64]| {
-        records::propositions(payload(bytes, cursor), starts, &mut [0; 80]).into_iter()
+        records::propositions(payload(bytes, cursor), starts).into_iter()
     };
     let (mut ours, mut theirs) = (read(files[0], ours), read(files[1], &theirs));
     let each = verdicts.iter().map(|verdict| {

@@ -7,7 +7,7 @@
 use super::{DecodedEvr0, Proof, Proposition, Witness};
 use crate::calls;
 use crate::raw::{self, Section, Span};
-use crate::read::{Read, Words, accepted, records, text, whole};
+use crate::read::{Read, accepted, records, room, text, whole};
 
 /// An accepted section: every record is read at its place in the payload.
 #[inline]
@@ -17,8 +17,7 @@ pub fn section(
     propositions: &[u64],
     proofs: &[u64],
 ) -> DecodedEvr0 {
-    let words = &mut [0; 80];
-    let (policy_namespace, issuer_namespace) = namespaces(payload, section, words);
+    let (policy_namespace, issuer_namespace) = namespaces(payload, section);
     DecodedEvr0 {
         source_set: section.source_set,
         compiler_contract: section.compiler_contract,
@@ -26,11 +25,11 @@ pub fn section(
         schema: section.schema,
         policy_namespace,
         issuer_namespace,
-        propositions: self::propositions(payload, &propositions[..section.propositions], words),
+        propositions: self::propositions(payload, &propositions[..section.propositions]),
         proofs: records(
-            words,
+            payload,
             &proofs[..section.proofs],
-            |starts, words| calls::proof_words(payload, starts, words),
+            calls::proof_words_in,
             |[
                 number,
                 proposition,
@@ -54,18 +53,18 @@ pub fn section(
                 authorized_operation: operation as u8,
             },
         ),
-        witnesses: witnesses(payload, section, words),
-        parents: parents(payload, section, words),
+        witnesses: witnesses(payload, section),
+        parents: parents(payload, section),
     }
 }
 
 /// The propositions of an accepted section that start at these places.
 #[inline]
-pub fn propositions(payload: &[u8], starts: &[u64], words: &mut Words) -> Vec<Proposition> {
+pub fn propositions(payload: &[u8], starts: &[u64]) -> Vec<Proposition> {
     records(
-        words,
+        payload,
         starts,
-        |starts, words| calls::proposition_words(payload, starts, words),
+        calls::proposition_words_in,
         |[start, len, owner, scope, obligation]| Proposition {
             kind: accepted_text(payload, start, len),
             ast_owner_id: owner as u32,
@@ -76,10 +75,11 @@ pub fn propositions(payload: &[u8], starts: &[u64], words: &mut Words) -> Vec<Pr
 }
 
 #[inline]
-fn namespaces(payload: &[u8], section: &Section, words: &mut Words) -> (String, String) {
+fn namespaces(payload: &[u8], section: &Section) -> (String, String) {
     let starts = [section.policy_at as u64, section.issuer_at as u64];
-    let words = &mut words[..4];
-    whole(calls::text_words(payload, &starts, words));
+    let mut room = room();
+    let (there, words) = calls::text_words_in(payload, &starts, &mut room[..4]);
+    whole(there);
     (
         accepted_text(payload, words[0], words[1]),
         accepted_text(payload, words[2], words[3]),
@@ -87,7 +87,7 @@ fn namespaces(payload: &[u8], section: &Section, words: &mut Words) -> (String, 
 }
 
 #[inline]
-fn witnesses(payload: &[u8], section: &Section, words: &mut Words) -> Vec<Witness> {
+fn witnesses(payload: &[u8], section: &Section) -> Vec<Witness> {
     let Section {
         schema,
         witnesses,
@@ -97,21 +97,18 @@ fn witnesses(payload: &[u8], section: &Section, words: &mut Words) -> Vec<Witnes
     let len = payload.len();
     let place = |number| calls::witness_place(len, schema, witnesses, parents, number) as u64;
     let mut read = Vec::with_capacity(witnesses);
-    let (words, _) = words.as_chunks_mut();
-    let mut starts = [0; 8];
+    let (mut starts, mut room) = ([0; 8], room());
     while read.len() < witnesses {
         let more = starts.len().min(witnesses - read.len());
-        let (starts, words) = (&mut starts[..more], &mut words[..more]);
+        let (starts, room) = (&mut starts[..more], &mut room[..7 * more]);
         for (number, start) in (read.len() as u32..).zip(&mut *starts) {
             *start = place(number);
         }
-        whole(calls::witness_words(
-            payload,
-            schema,
-            starts,
-            words.as_flattened_mut(),
-        ));
-        read.extend(words.iter().map(|words| witness_of(payload, *words)));
+        let (there, words) = calls::witness_words_in(payload, schema, starts, room);
+        whole(there);
+        for words in words.as_chunks().0 {
+            read.push(witness_of(payload, *words));
+        }
     }
     read
 }
@@ -137,13 +134,14 @@ fn digest(payload: &[u8], start: u64) -> [u8; 32] {
 }
 
 #[inline]
-fn parents(payload: &[u8], section: &Section, words: &mut Words) -> Vec<u32> {
+fn parents(payload: &[u8], section: &Section) -> Vec<u32> {
     let mut parents = Vec::with_capacity(section.parents);
+    let mut room = room();
     while parents.len() < section.parents {
         let at = calls::parent_place(payload.len(), section.parents, parents.len() as u32);
-        let more = words.len().min(section.parents - parents.len());
-        let words = &mut words[..more];
-        whole(calls::parent_words(payload, at, words));
+        let more = room.len().min(section.parents - parents.len());
+        let (there, words) = calls::parent_words_in(payload, at, &mut room[..more]);
+        whole(there);
         parents.extend(words.iter().map(|word| *word as u32));
     }
     parents

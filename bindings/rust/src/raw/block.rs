@@ -121,22 +121,6 @@ pub struct Component {
     pub next: usize,
 }
 
-/// A function that asks for one record of a block by its number. It decodes the block anew, fills the three tables as
-/// [`falgnust_parse_string_table_debug_and_ownership`] does, and refuses with 62 a number that the block does not have.
-pub type OfBlock<T> = unsafe extern "C" fn(
-    base_offset: usize,
-    code: *const u8,
-    code_len: usize,
-    header_rev: u16,
-    number: usize,
-    strings: *mut u64,
-    strings_len: usize,
-    paths: *mut u64,
-    paths_len: usize,
-    families: *mut u8,
-    families_len: usize,
-) -> T;
-
 unsafe extern "C" {
     /// A block: counts, tags found and places. Each debug symbol goes to the list, the start of each string and of each path to the two
     /// tables, and the families to the table of bytes.
@@ -186,7 +170,7 @@ unsafe extern "C" {
     ) -> Component;
 }
 
-/// Functions of the form [`OfBlock`].
+/// Functions that ask for one record of a block by its number.
 macro_rules! of_block {
     ($($(#[$doc:meta])* $name:ident -> $answer:ty;)*) => {
         unsafe extern "C" {
@@ -211,7 +195,8 @@ macro_rules! of_block {
 }
 
 of_block! {
-    /// A string by its number.
+    /// A string by its number. As the others here, it decodes the block anew, fills the three tables as
+    /// [`falgnust_parse_string_table_debug_and_ownership`] does, and refuses with 62 a number that the block does not have.
     falgnust_string_number -> Text;
     /// A debug symbol by its number.
     falgnust_symbol_number -> Symbol;

@@ -14,22 +14,6 @@ pub struct Rules {
     pub count: usize,
 }
 
-/// An [`OfSection`](super::OfSection) by the rules of a table, whose refusals come first.
-pub type OfSectionByRules<T> = unsafe extern "C" fn(
-    rules: *const u8,
-    rules_len: usize,
-    bytes: *const u8,
-    bytes_len: usize,
-    cursor: usize,
-    number: u32,
-    propositions: *mut u64,
-    propositions_len: usize,
-    proofs: *mut u64,
-    proofs_len: usize,
-    depths: *mut u64,
-    depths_len: usize,
-) -> T;
-
 unsafe extern "C" {
     /// Loads a table of rules: how many there are.
     pub fn falgnust_load_rules(rules: *const u8, rules_len: usize) -> Rules;
@@ -102,7 +86,7 @@ unsafe extern "C" {
     ) -> Authorised;
 }
 
-/// Functions of the form [`OfSectionByRules`].
+/// The same by the rules of a table, whose refusals come first.
 macro_rules! of_section_by_rules {
     ($($(#[$doc:meta])* $name:ident -> $answer:ty;)*) => {
         unsafe extern "C" {
@@ -128,7 +112,7 @@ macro_rules! of_section_by_rules {
 }
 
 of_section_by_rules! {
-    /// A proposition by its number.
+    /// A proposition by its number, as [`falgnust_proposition_number`](super::falgnust_proposition_number) gives it by the four.
     falgnust_proposition_number_by_rules -> Proposition;
     /// A proof by its number.
     falgnust_proof_number_by_rules -> Proof;

@@ -68,21 +68,6 @@ pub struct Authorised {
     pub authorised: bool,
 }
 
-/// A function that asks about one number of the section at a cursor. It decodes the section anew, fills the three tables as
-/// [`falgnust_decode_evr0_unmarked`] does, and refuses with 62 a number that the section does not have.
-pub type OfSection<T> = unsafe extern "C" fn(
-    bytes: *const u8,
-    bytes_len: usize,
-    cursor: usize,
-    number: u32,
-    propositions: *mut u64,
-    propositions_len: usize,
-    proofs: *mut u64,
-    proofs_len: usize,
-    depths: *mut u64,
-    depths_len: usize,
-) -> T;
-
 unsafe extern "C" {
     /// The section at a cursor: its head and counts. The start of each proposition and of each proof in the payload, each proof's depth
     /// and each proof's mark go to the four tables.
@@ -145,7 +130,7 @@ unsafe extern "C" {
     ) -> Authorised;
 }
 
-/// Functions of the form [`OfSection`].
+/// Functions that ask about one number of the section at a cursor.
 macro_rules! of_section {
     ($($(#[$doc:meta])* $name:ident -> $answer:ty;)*) => {
         unsafe extern "C" {
@@ -169,7 +154,8 @@ macro_rules! of_section {
 }
 
 of_section! {
-    /// A proposition by its number.
+    /// A proposition by its number. As the others here, it decodes the section anew, fills the three tables as
+    /// [`falgnust_decode_evr0_unmarked`] does, and refuses with 62 a number that the section does not have.
     falgnust_proposition_number -> Proposition;
     /// A proof by its number.
     falgnust_proof_number -> Proof;

@@ -1,17 +1,7 @@
 //! The fields of records that start at given places, as words of a lent table: crates/falgnust/src/words.rt. Each function answers true where
 //! every record is there and all its words fit, and else leaves zeros; that of paths, how many fit.
 
-/// A function that reads records by their starts.
-pub type OfStarts = unsafe extern "C" fn(
-    payload: *const u8,
-    payload_len: usize,
-    starts: *const u64,
-    starts_len: usize,
-    words: *mut u64,
-    words_len: usize,
-) -> bool;
-
-/// Functions of this form.
+/// Functions that read records by their starts.
 macro_rules! of_starts {
     ($($(#[$doc:meta])* $name:ident -> $answer:ty;)*) => {
         unsafe extern "C" {

@@ -5,39 +5,33 @@
 //! its place and length (`string-words` in crates/record_words/proofs/Read.antt).
 
 use super::signature::signature;
-use super::tables::Lent;
 use super::{
     Block, DecodedAccessPath, DecodedAccessPathComponent, DecodedBorrowActivation,
     DecodedDebugSymbol, DecodedEvent, DecodedWriteExecution, StringTableDebugOwnershipParse,
 };
-use crate::calls;
+use crate::calls::{self, BlockLists};
 use crate::raw;
-use crate::read::{Read, Words, accepted, records, text, there, whole};
-use std::hint::select_unpredictable;
+use crate::read::{Read, accepted, records, room, text, there, whole};
+use std::mem::MaybeUninit;
 
 impl Block<'_> {
     /// An accepted block: every record is read at its place.
-    #[inline]
-    pub fn records(&self, answer: &raw::Block, lent: &Lent) -> StringTableDebugOwnershipParse {
+    pub fn records(
+        &self,
+        answer: &raw::Block,
+        lists: &BlockLists,
+    ) -> StringTableDebugOwnershipParse {
         let code = self.code;
-        let mut borrowed_paths = Vec::with_capacity(answer.path_count);
-        let mut write_paths = Vec::with_capacity(answer.path_count);
-        let (paths, end) = (
-            &lent.starts.paths[..answer.path_count],
-            answer.instr_start_offset,
-        );
-        self.paths(paths, end, |path| match path {
-            DecodedEvent::Borrow(path) => borrowed_paths.push(path),
-            DecodedEvent::Write(path) => write_paths.push(path),
-        });
+        let starts = &lists.paths[..answer.path_count];
+        let [borrowed_paths, write_paths] = self.paths(starts, answer.instr_start_offset);
         StringTableDebugOwnershipParse {
             strings: records(
-                &mut [0; 80],
-                &lent.starts.strings[..answer.string_count],
-                |starts, words| calls::text_words(code, starts, words),
+                code,
+                &lists.strings[..answer.string_count],
+                calls::text_words_in,
                 |[start, len]| accepted_text(code, start as usize, len as usize),
             ),
-            debug_symbols: lent.symbols[..answer.debug_symbol_count]
+            debug_symbols: lists.symbols[..answer.debug_symbol_count]
                 .iter()
                 .map(|s| DecodedDebugSymbol {
                     pc: s.pc,
@@ -50,51 +44,57 @@ impl Block<'_> {
             has_ownership_section: answer.has_ownership_section,
             has_debug_section: answer.has_debug_section,
             string_table_end_offset: answer.string_table_end_offset,
-            signature: signature(answer, lent.starts.families),
+            signature: signature(answer, lists.families),
             instr_start_offset: answer.instr_start_offset,
         }
     }
 
-    /// The paths that start at these places and have ended at `end`, by their words, some at a time; where they are long, all at once.
+    /// The paths that start at these places and have ended at `end`, those that are borrowed and those that are written: by their words, some at
+    /// a time; where they are long, all at once.
     #[inline]
-    fn paths(&self, starts: &[u64], end: usize, each: impl FnMut(DecodedEvent)) {
-        let Some(first) = starts.first() else {
-            return;
-        };
-        let most = (end - *first as usize) / 3 + 4 * starts.len(); // a component has 3 bytes at least
-        if most > 80 * starts.len() {
-            self.paths_by(starts, &mut vec![0; most], each);
-        } else {
-            let words: &mut Words = &mut [0; 80];
-            self.paths_by(starts, words, each);
+    fn paths(&self, starts: &[u64], end: usize) -> [Vec<DecodedAccessPath>; 2] {
+        let mut paths = [
+            Vec::with_capacity(starts.len()),
+            Vec::with_capacity(starts.len()),
+        ];
+        if let Some(first) = starts.first() {
+            let most = (end - *first as usize) / 3 + 4 * starts.len(); // a component has 3 bytes at least
+            if most > 80 * starts.len() {
+                let mut room = Vec::with_capacity(most);
+                self.paths_in(starts, room.spare_capacity_mut(), &mut paths);
+            } else {
+                self.paths_in(starts, &mut room()[..most.min(80)], &mut paths);
+            }
         }
+        paths
     }
 
     /// One that has more words than there is room for is read by itself.
-    #[inline]
-    fn paths_by(&self, mut starts: &[u64], words: &mut [u64], mut each: impl FnMut(DecodedEvent)) {
+    fn paths_in(
+        &self,
+        mut starts: &[u64],
+        room: &mut [MaybeUninit<u64>],
+        paths: &mut [Vec<DecodedAccessPath>; 2],
+    ) {
         while let Some(first) = starts.first() {
-            let done = calls::path_words(self.code, self.header_rev, starts, words);
-            let mut left = &words[..];
+            let (done, mut words) = calls::path_words_in(self.code, self.header_rev, starts, room);
             for _ in 0..done {
-                let (path, more) = left.split_at(4 + left[3] as usize);
-                each(path_of(path));
-                left = more;
+                words = push_path(words, paths);
             }
             starts = &starts[done..];
             if done == 0 {
-                each(self.long_path(*first));
+                self.long_path(*first, paths);
                 starts = &starts[1..];
             }
         }
     }
 
     #[cold]
-    fn long_path(&self, start: u64) -> DecodedEvent {
+    fn long_path(&self, start: u64, paths: &mut [Vec<DecodedAccessPath>; 2]) {
         let read = calls::read_path(self.code, start as usize, self.header_rev);
         let mut words = vec![0; 4 + read.component_count as usize];
         whole(calls::path_words(self.code, self.header_rev, &[start], &mut words) == 1);
-        path_of(&words)
+        push_path(&words, paths);
     }
 
     pub fn string(&self, read: raw::Text) -> Read<String> {
@@ -120,52 +120,53 @@ impl Block<'_> {
             activation,
             write_execution,
         };
-        Ok(of_kind(kind, path))
+        Ok(match kind {
+            0 => DecodedEvent::Borrow(path),
+            _ => DecodedEvent::Write(path),
+        })
     }
 }
 
-/// The path of these words.
-#[inline]
-fn path_of(words: &[u64]) -> DecodedEvent {
+/// The path of the first of these words, to those that are borrowed or to those that are written, and the words after it. Events are mixed, so
+/// that no branch for them is foreseen.
+#[inline(always)]
+fn push_path<'a>(words: &'a [u64], paths: &mut [Vec<DecodedAccessPath>; 2]) -> &'a [u64] {
+    let [number, site, root, count, rest @ ..] = words else {
+        panic!("a path has 4 words");
+    };
+    let (components, rest) = rest.split_at(*count as usize);
     let (kind, activation, write_execution) = event(raw::Event {
-        event: words[0] as u8,
-        site: words[1] as u32,
+        event: *number as u8,
+        site: *site as u32,
     });
-    let path = DecodedAccessPath {
-        root_symbol_id: words[2] as u32,
-        components: words[4..].iter().map(|word| of_word(*word)).collect(),
+    paths[kind as usize].push(DecodedAccessPath {
+        root_symbol_id: *root as u32,
+        components: components.iter().map(|word| of_word(*word)).collect(),
         activation,
         write_execution,
-    };
-    of_kind(kind, path)
+    });
+    rest
 }
 
-#[inline]
-fn of_kind(kind: u8, path: DecodedAccessPath) -> DecodedEvent {
-    match kind {
-        0 => DecodedEvent::Borrow(path),
-        _ => DecodedEvent::Write(path),
-    }
-}
-
-/// The component of a word. Kinds are mixed, so that no branch for them is foreseen: all four are made, and one is taken.
+/// The component of a word. Kinds are mixed, so that no branch for them is foreseen: written so, it is compiled without one.
 #[inline]
 fn of_word(word: u64) -> DecodedAccessPathComponent {
     let (kind, first, second) = (word % 4, (word >> 2) as u32, (word >> 34) as u16);
-    let odd = select_unpredictable(
-        kind == 1,
-        DecodedAccessPathComponent::FieldSymbol(first),
-        DecodedAccessPathComponent::SequenceIndexStatic(first),
-    );
-    let even = select_unpredictable(
-        kind == 0,
-        DecodedAccessPathComponent::TupleIndex(first as u16),
-        DecodedAccessPathComponent::AdtPayload {
-            variant: first,
-            index: second,
-        },
-    );
-    select_unpredictable(kind % 2 == 1, odd, even)
+    let index = second | if kind == 0 { first as u16 } else { 0 };
+    let mut component = DecodedAccessPathComponent::AdtPayload {
+        variant: first,
+        index,
+    };
+    if kind == 0 {
+        component = DecodedAccessPathComponent::TupleIndex(index);
+    }
+    if kind == 1 {
+        component = DecodedAccessPathComponent::FieldSymbol(first);
+    }
+    if kind == 3 {
+        component = DecodedAccessPathComponent::SequenceIndexStatic(first);
+    }
+    component
 }
 
 /// The kind byte, 0 for a borrow and 1 for a write, and what the event carries.
@@ -178,15 +179,18 @@ fn event(
     Option<DecodedWriteExecution>,
 ) {
     let raw::Event { event, site } = event;
-    match event {
-        0 => (0, None, None),
-        1 => (0, Some(DecodedBorrowActivation::FrameEntry), None),
-        2 => (0, Some(DecodedBorrowActivation::StoreVarSite(site)), None),
-        3 => (1, None, None),
-        4 => (1, None, Some(DecodedWriteExecution::StoreVarSite(site))),
-        5 => (1, None, Some(DecodedWriteExecution::MakeRecordSite(site))),
-        other => panic!("no event is {other}"),
-    }
+    assert!(event < 6, "no event is {event}");
+    let activation = match event {
+        1 => Some(DecodedBorrowActivation::FrameEntry),
+        2 => Some(DecodedBorrowActivation::StoreVarSite(site)),
+        _ => None,
+    };
+    let execution = match event {
+        4 => Some(DecodedWriteExecution::StoreVarSite(site)),
+        5 => Some(DecodedWriteExecution::MakeRecordSite(site)),
+        _ => None,
+    };
+    (event / 3, activation, execution)
 }
 
 pub fn symbol(read: raw::Symbol) -> Read<DecodedDebugSymbol> {

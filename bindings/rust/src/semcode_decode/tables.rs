@@ -4,9 +4,10 @@ use super::{
     Block, MAX_DEBUG_SYMBOLS_PER_FUNCTION, MAX_SIGNATURE_PARAMETERS_PER_FUNCTION,
     MAX_STRINGS_PER_FUNCTION,
 };
-use crate::calls::{self, BlockTables};
+use crate::calls::{self, BlockLists, BlockRoom, BlockTables};
 use crate::raw::{DebugSymbol, Refusal};
 use crate::read::Read;
+use std::mem::MaybeUninit;
 
 /// The list and the tables that are lent for a block.
 pub struct Lent<'a> {
@@ -15,6 +16,16 @@ pub struct Lent<'a> {
 }
 
 impl Lent<'_> {
+    /// As a call has left them.
+    pub fn lists(&self) -> BlockLists<'_> {
+        BlockLists {
+            symbols: self.symbols,
+            strings: self.starts.strings,
+            paths: self.starts.paths,
+            families: self.starts.families,
+        }
+    }
+
     /// The same, for one call.
     pub fn again(&mut self) -> Lent<'_> {
         Lent {
@@ -30,6 +41,36 @@ impl Lent<'_> {
 
 /// How many strings, symbols, paths and families there is room for first.
 const FEW: usize = 16;
+
+/// Room for a few of each. A symbol takes more time than an entry of another table, also where there is none.
+pub struct Few {
+    symbols: [MaybeUninit<DebugSymbol>; FEW / 2],
+    strings: [MaybeUninit<u64>; FEW],
+    paths: [MaybeUninit<u64>; FEW],
+    families: [MaybeUninit<u8>; FEW],
+}
+
+impl Few {
+    #[inline]
+    pub fn new() -> Self {
+        Few {
+            symbols: [MaybeUninit::uninit(); FEW / 2],
+            strings: [MaybeUninit::uninit(); FEW],
+            paths: [MaybeUninit::uninit(); FEW],
+            families: [MaybeUninit::uninit(); FEW],
+        }
+    }
+
+    #[inline]
+    pub fn room(&mut self) -> BlockRoom<'_> {
+        BlockRoom {
+            symbols: &mut self.symbols,
+            strings: &mut self.strings,
+            paths: &mut self.paths,
+            families: &mut self.families,
+        }
+    }
+}
 
 impl Block<'_> {
     /// The answer of a call that lends tables. Few entries are lent first; where a count is more, and the call refuses with 61, it is made
@@ -53,7 +94,8 @@ impl Block<'_> {
     }
 
     /// The count of the strings, which ends at place 2, or one of the others, which may be any; each refusal is of a later one.
-    fn lend_more<T>(&self, refused: Refusal, mut call: impl FnMut(Lent) -> Read<T>) -> Read<T> {
+    #[cold]
+    pub fn lend_more<T>(&self, refused: Refusal, mut call: impl FnMut(Lent) -> Read<T>) -> Read<T> {
         let (mut refused, mut strings, mut others) = (refused, FEW, FEW);
         let mut starts = [0; MAX_STRINGS_PER_FUNCTION];
         loop {

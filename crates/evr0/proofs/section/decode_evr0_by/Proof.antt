@@ -19,35 +19,38 @@ module _ (c : tie.After-loading2) where
   abbrev chosen : tie.After-enum-told2
   chosen = load .before .before
 
+  abbrev opened : tie.After-read-opening
+  opened = chosen .before .before
+
   abbrev start : tie.Start
-  start = let on = chosen .before .before .before in on .before .before .before .before
+  start = opened .before .before .before .before .before .before
 
   loads : LoadedAt (start .args .table .now) (load .load-into .last .1 .0) (c .loading2 .given .0 .0)
   loads = loaded-at (load .load-into .ensures) (ap loadingOut (c .loading2 .given .1))
 
-  fit : 256 + c .loading2 .given .0 .0 ≤ length (load .load-into .last .1 .0)
+  fit : 96 + c .loading2 .given .0 .0 ≤ length (load .load-into .last .1 .0)
   fit = omega (arith, loads .most, load .load-into .kept .1 .0)
 
 pub decode-evr0-by-spec : {M : Type 1} → f.Statement.statement M
 decode-evr0-by-spec =
-    tie.close (tie.spec (search needs) (search needs)
-    (λ c κs. no-rules _) (search needs) (search needs) (search needs) (search needs)
-    (search needs) (search needs) (search needs) (search needs) (search needs)
+    tie.close (tie.spec (search needs) (search needs) (search needs)
+    (λ c κs. let e = c .before .before .before .before in (e .before .before .read-opening .ensures, no-rules _)) (search needs) (search needs)
+    (search needs) (search needs) (search needs) (search needs)
     (λ c. omega (arith, loads (c .before) .most))
     (λ c. fit (c .before))
     (λ c. sym (length-take-le _ (load (c .before .before) .load-into .last .1 .0) (fit (c .before .before))))
-    (λ c κs. loads (c .before .before .before .before .before) .there) (search needs) (search needs) (search needs)
+    (λ c κs. let l = c .before .before .before .before .before in (opened l .read-opening .ensures, loads l .there)) (search needs) (search needs)
+    (search needs)
     (λ c. let d = c .before .before .before .before .before .before in
     let e = d .before .before .before .before .before in
-    rw (e .enum-told .given .1) (leaves-by four _ refl (rw (e .enum-told .given .1) at (d .decode-with .ensures)))) (search needs) (search needs) (search needs)
-    (λ c. let third = c .before .before .before in
-    let second = third .before .before .before .before in
-    let one = second .before .before .before .before in
-    let r = one .before .before .before in
+    rw (e .enum-told .given .1) (leaves-by four _ refl (rw (e .enum-told .given .1) at (d .decode-opened .ensures)))) (search needs) (search needs)
+    (search needs)
+    (λ c. let n = c .before .before .before .before .before .before in
+    let r = n .before .before .before .before .before in
     let load = r .before .before .before in
     rw (load .before .before .enum-told2 .given .1)
-    (not-by (table _) _ (not-loaded (load .load-into .ensures) (ap loadingOut (r .loading .given .1))) (c .refused-section .ensures) (one .clear .ensures)
-    (second .clear2 .ensures) (third .clear3 .ensures))) (search needs) (search needs) (search needs)
+    (not-by (table _) _ (not-loaded (load .load-into .ensures) (ap loadingOut (r .loading .given .1))) (n .no-section .ensures))) (search needs)
+    (search needs) (search needs)
     (λ c. let d = c .before .before .before .before .before .before in
     let l = d .before .before .before .before .before .before in
-    rw (chosen l .enum-told2 .given .1) (leaves-by (table _) _ (loads l .is) (rw (chosen l .enum-told2 .given .1) at (d .decode-with2 .ensures)))))
+    rw (chosen l .enum-told2 .given .1) (leaves-by (table _) _ (loads l .is) (rw (chosen l .enum-told2 .given .1) at (d .decode-opened2 .ensures)))))

@@ -13,7 +13,7 @@ use Rattle.evr0.specs.Answer.{Lent, lentOf, roomOf, Accepted, answerOf}
 use Rattle.evr0.specs.Steps.{payloadIn, Passes}
 use Rattle.evr0_tables.proofs.RowLaws.{answered}
 use Rattle.evr0.proofs.SectionLaws.{no-head, accepted-head}
-use Rattle.evr0.proofs.AnswerLaws.{passed, not-passed, answered-with, refusal-ends}
+use Rattle.evr0.proofs.AnswerLaws.{passed, not-passed, answered-with}
 use Rattle.evr0.proofs.section.decode_payload as f
 use f.Tie as tie
 
@@ -62,20 +62,17 @@ check-tables-requires c κs =
 
 pub decode-payload-spec : {M : Type 1} → f.Statement.statement M
 decode-payload-spec =
-    tie.close (tie.spec (search needs) (search needs) (search needs) (search needs) (search needs) (search needs) (search needs) check-tables-requires
+    tie.close (tie.spec (search needs) (search needs) (search needs) (search needs) check-tables-requires
     (search needs) (search needs) (search needs) (search needs) (search needs) (search needs) (search needs)
-    (λ c. let third = c .before .before .before in
-    let second = third .before .before .before .before in
-    let one = second .before .before .before .before in
-    let r = one .before .before .before in
-    refusal-ends (no-head _ _ _ _ _ (sym (head-is (r .before .before)) ∙ ap (headIn _ _) (r .answer .given .1)))
-    (record { propositions = one .clear .ensures; proofs = second .clear2 .ensures; depths = third .clear3 .ensures }) _ (c .refused-section .ensures))
+    (λ c. let n = c .before .before .before .before .before .before in
+    let r = n .before .before .before .before .before in
+    rw (no-head _ _ _ _ _ (sym (head-is (r .before .before)) ∙ ap (headIn _ _) (r .answer .given .1))) (n .no-section .ensures))
     (search needs) (search needs) (search needs)
     (λ c. let on = c .before .before .before .before .before .before in
     let at = on .before .before .before .before in
     let x = payloadIn (among (head-at (read-at at))) (brought (head-at (read-at at))) (given-at at .args .payload .now) (given-at at .args .end) in
     let e = not-passed x _ (told checkedOut (passes at .answer) (c .before .before .checked .given .1)) in
-    record { answer = c .refused-section2 .ensures ∙ sym (ap (answerOf (given-at at .args .cursor)) e); tables = passes at .tables }) (search needs)
+    record { answer = c .refused-section .ensures ∙ sym (ap (answerOf (given-at at .args .cursor)) e); tables = passes at .tables }) (search needs)
     (search needs) (search needs)
     (λ c. let on = c .before .before .before .before .before .before in
     let at = on .before .before .before .before .before in

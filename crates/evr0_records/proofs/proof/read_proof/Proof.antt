@@ -5,8 +5,6 @@ use Rattle.local_format.specs.Out.{Out}
 use Rattle.local_format.specs.Maps.{u32Out, textOut}
 use Rattle.local_format.specs.declared.field.U32.{U32}
 use Rattle.local_format.specs.declared.text.Text.{Text}
-use Rattle.local_format.proofs.OutLaws as answers
-use Rattle.local_format.proofs.TextLaws.{text-ok}
 use Rattle.evr0_section.specs.Rows.{Sized}
 use Rattle.evr0_section.specs.Proof.{ProofRecord, proofOf}
 use Rattle.evr0_fields.proofs.Steps.{Step, told, reads-field, then, then-field, handed}
@@ -38,7 +36,5 @@ read-proof-spec =
     (search needs) (search needs)
     (λ c. c .cut2 .ensures ∙ sym (told (proposition (c .before .before .before)) (c .before .enum-told2 .given .1))) (search needs) (search needs)
     (search needs) (search needs)
-    (λ c. handed (rule (c .before .before .before)) (c .before .enum-told3 .given .1) textOut (c .text-refusal .ensures) refl)
-    (λ c. text-ok _ _ (answers.told textOut (c .before .before .before .read-rule .ensures) (c .before .rule .given .1)) .4) (search needs)
-    (λ c. let k = c .before .before .before in c .read-rest .ensures ∙ sym (told (rule (k .before .before)) (k .rule .given .1))) (search needs)
-    (λ c. let k = c .before .before .before in c .read-whole-rest .ensures ∙ sym (told (rule (k .before .before)) (k .rule .given .1))))
+    (λ c. handed (rule (c .before .before .before)) (c .before .enum-told3 .given .1) textOut (c .text-refusal .ensures) refl) (search needs)
+    (λ c. let k = c .before .before in c .read-rest .ensures ∙ sym (told (rule (k .before .before)) (k .rule .given .1))))

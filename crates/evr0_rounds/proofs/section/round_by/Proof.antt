@@ -26,7 +26,7 @@ module _ (c : tie.After-loading2) where
   loads : LoadedAt (start .args .table .now) (load .load-into .last .1 .0) (c .loading2 .given .0 .0)
   loads = loaded-at (load .load-into .ensures) (ap loadingOut (c .loading2 .given .1))
 
-  fit : 256 + c .loading2 .given .0 .0 ≤ length (load .load-into .last .1 .0)
+  fit : 96 + c .loading2 .given .0 .0 ≤ length (load .load-into .last .1 .0)
   fit = omega (arith, loads .most, load .load-into .kept .1 .0)
 
 returns : tie.Need-returns

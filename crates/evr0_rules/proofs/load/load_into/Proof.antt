@@ -1,8 +1,8 @@
--- The starts are loaded behind the hints, which are then filled: `LoadLaws`.
+-- The starts are loaded behind the words of a tree, which is then made: `LoadLaws`.
 use borrow.Author.Needs.{needs}
 use mathlib.Core.Path.{refl}
 use native.Mathlib.Omega.{arith}
-use Rattle.evr0_rules.proofs.LoadLaws.{loaded-starts, behind}
+use Rattle.evr0_rules.proofs.LoadLaws.{loaded-most, behind}
 use Rattle.evr0_rules.proofs.load.load_into as f
 use f.Tie as tie
 
@@ -10,10 +10,10 @@ pub load-into-spec : {M : Type 1} → f.Statement.statement M
 load-into-spec =
     tie.close (tie.spec (search needs) (search needs) (search needs)
     (λ c κs. let l = c .before .before .before .before .before .before in
-    let s = loaded-starts (rw (c .before .before .loading2 .given .1) at (l .load-starts .ensures)) in
-    (omega (arith, s .0, l .load-starts .kept .1 .0, l .before .before .before .before .pre), s .1)) (search needs)
+    let s = loaded-most (rw (c .before .before .loading2 .given .1) at (l .load-starts .ensures)) in
+    (omega (arith, l .load-starts .kept .1 .0, l .before .before .before .before .pre), s)) (search needs)
     (λ c. let l = c .before .before .before .before .before in
     behind _ refl (rw (c .before .loading .given .1) at (l .load-starts .ensures))) (search needs)
     (λ c. let h = c .before .before in
     let l = h .before .before .before .before .before .before .before in
-    behind _ (h .fill-hints .ensures) (rw (h .before .before .before .loading2 .given .1) at (l .load-starts .ensures))))
+    behind _ (h .fill-tree .ensures) (rw (h .before .before .before .loading2 .given .1) at (l .load-starts .ensures))))

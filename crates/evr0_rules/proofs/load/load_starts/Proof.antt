@@ -1,9 +1,9 @@
--- The invariant is where the loop stands, by `LoadLaws`: the rules that are read start at the first i places that are kept behind the hints.
+-- The invariant is where the loop stands, by `LoadLaws`: the rules that are read start at the first i places that are kept behind the words of a tree.
 use borrow.Author.Needs.{needs}
 use Prim.Native.Nat.{_+_, _-_, _≤_}
 use mathlib.Core.Path.{_≡_, sym, _∙_}
 use native.Mathlib.Omega.{arith}
-use lib.ListN.{length, take, drop, length-set, length-take, length-drop}
+use lib.ListN.{length, take, drop, length-set, length-drop}
 use Rattle.local_format.specs.Out.{ok}
 use Rattle.local_format.proofs.OutLaws.{told}
 use Rattle.rule_table.specs.Load.{ruleIn, ruleAt, outside}
@@ -15,7 +15,7 @@ use Rattle.evr0_rules.proofs.load.load_starts as f
 use f.Tie as tie
 
 abbrev Inv-loop : tie.InvT-loop
-Inv-loop table places₀ count at₀ i₀ places at i = Stands table count i at (take i (drop 256 places)) × (length places ≡ 288) × (count ≤ 32)
+Inv-loop table places₀ count at₀ i₀ places at i = Stands table count i at (take i (drop 96 places)) × (length places ≡ 128) × (count ≤ 32)
 
 abbrev μ-loop : tie.MeasureT-loop
 μ-loop table places₀ count at₀ i₀ places at i = count - i
@@ -64,26 +64,27 @@ load-starts-spec =
     (λ c. omega (arith, facts (c .before) .inside))
     (λ c. omega (arith, facts (c .before) .next))
     (λ c. omega (arith, l (c .before) .loop .inv .2))
-    (λ c. omega (arith, l (c .before) .loop .inv .1, l (c .before) .loop .inv .2))
-    (λ c. let loop = l (c .before .before) .loop in omega (arith, length-take (256 + loop .i) (loop .places), loop .inv .1, loop .inv .2))
-    (λ c. omega (arith, facts (c .before .before) .next))
-    (λ c. omega (arith, facts (c .before .before) .next, facts (c .before .before) .inside))
-    (λ c. omega (arith, facts (c .before .before) .next, facts (c .before .before) .inside))
-    (λ c κs. known-so-far _ _ (l (c .before .before .before) .loop .inv .0)) (search needs) (search needs) (search needs)
+    (search needs) (search needs)
+    (λ c. omega (arith, l (c .before .before) .loop .inv .1, l (c .before .before) .loop .inv .2))
+    (λ c. omega (arith, facts (c .before .before .before) .next))
+    (λ c. omega (arith, facts (c .before .before .before) .next, facts (c .before .before .before) .inside))
+    (λ c. omega (arith, facts (c .before .before .before) .next, facts (c .before .before .before) .inside))
+    (λ c κs. let loop = l (c .before .before .before .before) .loop in known-so-far _ (loop .places) (loop .inv .0))
+    (search needs) (search needs) (search needs)
     (λ c. let n = c .before .before .before in
-    let k = n .before .before .before .before in
+    let k = n .before .before .before .before .before in
     let t = start-at (l k) .args .table .now in
     refused-loads t _ _ _
     (stops-twice t (l k .loop .inv .0) (omega arith) (rule k)
-    (sym (so-far t (l k .loop .places) _ (l k .loop .i)) ∙ told (namedOut _) (n .rule-hinted .ensures) (c .before .enum-told2 .given .1)))
+    (sym (so-far t (l k .loop .places) _ (l k .loop .i)) ∙ told (namedOut _) (n .rule-named-in .ensures) (c .before .enum-told2 .given .1)))
     (c .refused5 .ensures)) (search needs) (search needs) (search needs) (search needs) (search needs)
     (λ c. let n = c .before .before in
-    let k = n .before .before .before .before in
+    let k = n .before .before .before .before .before in
     let t = start-at (l k) .args .table .now in
     let loop = l k .loop in (
-      stored t (loop .at) (loop .places) 256 (loop .i) (omega (arith, loop .inv .1, loop .inv .2))
+      stored t (loop .at) (loop .places) 96 (loop .i) (omega (arith, loop .inv .1, loop .inv .2))
           (goes-on t (loop .inv .0) (omega arith) (rule k)
-          (sym (so-far t (loop .places) _ (loop .i)) ∙ told (namedOut _) (n .rule-hinted .ensures) (c .enum-told3 .given .1))),
+          (sym (so-far t (loop .places) _ (loop .i)) ∙ told (namedOut _) (n .rule-named-in .ensures) (c .enum-told3 .given .1))),
       simp length-set (loop .inv .1),
       loop .inv .2,
     )) (search needs) (search needs)
@@ -92,4 +93,4 @@ load-starts-spec =
     refused-loads t _ _ _ (left-over t (l .loop .inv .0) (omega arith) (c .before .if4 .taken)) (c .refused6 .ensures)) (search needs)
     (λ c. let l = c .before .before in
     let t = start-at l .args .table .now in
-    all-loads t (drop 256 (l .loop .places)) (rw length-drop (omega (arith, l .loop .inv .1, l .loop .inv .2))) (l .loop .inv .0) (omega arith) (c .if4 .left)))
+    all-loads t (drop 96 (l .loop .places)) (rw length-drop (omega (arith, l .loop .inv .1, l .loop .inv .2))) (l .loop .inv .0) (omega arith) (c .if4 .left)))

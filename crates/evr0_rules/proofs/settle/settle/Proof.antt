@@ -8,4 +8,4 @@ settle-spec =
     tie.close (tie.spec (search needs) (search needs) (search needs)
     (λ c κs. c .before .before .before .before .before .pre)
     (λ c. rw (c .before .enum-told .given .1) (c .rule-named .ensures))
-    (λ c. rw (c .before .enum-told2 .given .1) (c .rule-hinted .ensures)))
+    (λ c. rw (c .before .enum-told2 .given .1) (c .rule-sought .ensures)))

@@ -16,7 +16,7 @@ use f.Tie as tie
 
 abbrev Inv-loop : tie.InvT-loop
 Inv-loop bytes at count header-rev paths₀ wanted cursor₀ i₀ paths cursor i =
-    (i ≤ count) × (length paths ≡ length paths₀) × Filling (pathAt header-rev bytes) count at i cursor paths
+    (i ≤ count) × (length paths ≡ length paths₀) × Filling (pathAt header-rev bytes) count at paths₀ i cursor paths
 
 abbrev μ-loop : tie.MeasureT-loop
 μ-loop bytes at count header-rev paths₀ wanted cursor₀ i₀ paths cursor i = count - i
@@ -35,11 +35,11 @@ fill-paths-spec =
     let l = r .before .before in
     let a = l .before .before .before .args in
     let e =
-    fill-refused (reader l) (a .count) (a .at) (l .loop .i) (l .loop .cursor) (l .loop .paths) (l .loop .inv .2)
+    fill-refused (reader l) (a .count) (a .at) (a .paths .now) (l .loop .i) (l .loop .cursor) (l .loop .paths) (l .loop .inv .2)
     (r .before .loop-test .taken)
     (path-refused (a .header-rev) (a .bytes .now) (l .loop .cursor) (told pathOut (r .read-path .ensures) (c .before .enum-told .given .1)))
     in
-    rw (e, c .path-refusal .ensures, c .before .enum-told .given .1) (refl, refl)) (search needs) (search needs) (search needs) (search needs)
+    rw (e, c .path-refusal .ensures, c .before .enum-told .given .1) (refl, tt)) (search needs) (search needs) (search needs) (search needs)
     (λ c. let r = c .before .before .before in
     let l = r .before .before in
     let a = l .before .before .before .args in
@@ -47,10 +47,10 @@ fill-paths-spec =
     let p = path-read (a .header-rev) (a .bytes .now) (l .loop .cursor) (told pathOut (r .read-path .ensures) (c .before .answer .given .1)) in (
       omega arith,
       simp length-set (l .loop .inv .1),
-      fill-on (reader l) (a .count) (a .at) (l .loop .i) (l .loop .cursor) (l .loop .paths) (l .loop .inv .2) more (omega arith) (p .1),
+      fill-on (reader l) (a .count) (a .at) (a .paths .now) (l .loop .i) (l .loop .cursor) (l .loop .paths) (l .loop .inv .2) more (omega arith) (p .1),
     )) (search needs)
     (λ c. let l = c .before in
     let a = l .before .before .before .args in
     let z : l .loop .i ≡ a .count = omega arith in
-    let f = filled (reader l) (a .count) (a .at) (l .loop .cursor) (l .loop .paths) (rw z at (l .loop .inv .2)) (omega arith) in
+    let f = filled (reader l) (a .count) (a .at) (a .paths .now) (l .loop .cursor) (l .loop .paths) (rw z at (l .loop .inv .2)) (omega arith) in
     (sym (f .0), f .1)))

@@ -16,7 +16,7 @@ use f.Tie as tie
 
 abbrev Inv-loop : tie.InvT-loop
 Inv-loop bytes at count strings₀ wanted cursor₀ i₀ strings cursor i =
-    (i ≤ count) × (length strings ≡ length strings₀) × Filling (stringRecord bytes) count at i cursor strings
+    (i ≤ count) × (length strings ≡ length strings₀) × Filling (stringRecord bytes) count at strings₀ i cursor strings
 
 abbrev μ-loop : tie.MeasureT-loop
 μ-loop bytes at count strings₀ wanted cursor₀ i₀ strings cursor i = count - i
@@ -38,22 +38,22 @@ fill-strings-spec =
     let l = r .before .before in
     let a = l .before .before .before .args in
     let e =
-    fill-refused (reader l) (a .count) (a .at) (l .loop .i) (l .loop .cursor) (l .loop .strings) (l .loop .inv .2)
+    fill-refused (reader l) (a .count) (a .at) (a .strings .now) (l .loop .i) (l .loop .cursor) (l .loop .strings) (l .loop .inv .2)
     (r .before .loop-test .taken)
     (on-refused asRecord (told textOut (r .read-string .ensures) (c .before .enum-told .given .1)))
     in
-    rw (e, c .text-refusal .ensures, c .before .enum-told .given .1) (refl, refl)) (search needs) (search needs) (search needs) (search needs)
+    rw (e, c .text-refusal .ensures, c .before .enum-told .given .1) (refl, tt)) (search needs) (search needs) (search needs) (search needs)
     (λ c. let r = c .before .before .before in
     let l = r .before .before in
     let a = l .before .before .before .args in
     let more = r .before .loop-test .taken in (
       omega arith,
       simp length-set (l .loop .inv .1),
-      fill-on (reader l) (a .count) (a .at) (l .loop .i) (l .loop .cursor) (l .loop .strings) (l .loop .inv .2) more (omega arith)
+      fill-on (reader l) (a .count) (a .at) (a .strings .now) (l .loop .i) (l .loop .cursor) (l .loop .strings) (l .loop .inv .2) more (omega arith)
           (on-ok asRecord (told textOut (r .read-string .ensures) (c .before .answer .given .1))),
     )) (search needs)
     (λ c. let l = c .before in
     let a = l .before .before .before .args in
     let z : l .loop .i ≡ a .count = omega arith in
-    let f = filled (reader l) (a .count) (a .at) (l .loop .cursor) (l .loop .strings) (rw z at (l .loop .inv .2)) (omega arith) in
+    let f = filled (reader l) (a .count) (a .at) (a .strings .now) (l .loop .cursor) (l .loop .strings) (rw z at (l .loop .inv .2)) (omega arith) in
     (sym (f .0), f .1)))

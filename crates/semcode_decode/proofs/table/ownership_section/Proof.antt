@@ -10,7 +10,7 @@ use Rattle.local_format.proofs.TagLaws.{tag-there}
 use Rattle.semcode_records.specs.Records.{Table}
 use Rattle.semcode_records.specs.Path.{Path}
 use Rattle.semcode_decode.specs.Block.{pathTable}
-use Rattle.semcode_decode.proofs.SectionLaws.{absent, found-tagged, found-starts}
+use Rattle.semcode_decode.proofs.SectionLaws.{absent, found-tagged, found-table}
 use borrow.Author.Needs.{needs}
 use Rattle.semcode_decode.proofs.table.ownership_section as f
 use f.Tie as tie
@@ -39,13 +39,13 @@ ownership-section-spec =
         ← d .ownership-table .ensures .0,
         c .before .enum-told .given .1,
       ),
-      rw (found-starts own0 (table i) (a .bytes .now) (a .at) (is-own0 i)) (d .ownership-table .ensures .1),
+      rw (found-table own0 (table i) (a .bytes .now) (a .at) (is-own0 i)) (d .ownership-table .ensures .1),
     )) (search needs)
     (λ c. let d = c .before .before .before .before .before in
     let i = d .before .before in
     let a = i .before .before .before .before .before .args in (
       rw (found-tagged own0 (table i) (a .bytes .now) (a .at) (is-own0 i), ← d .ownership-table .ensures .0, c .before .table .given .1),
-      rw (found-starts own0 (table i) (a .bytes .now) (a .at) (is-own0 i)) (d .ownership-table .ensures .1),
+      rw (found-table own0 (table i) (a .bytes .now) (a .at) (is-own0 i)) (d .ownership-table .ensures .1),
     ))
     (λ c. let a = c .before .before .before .before .before .args in
     rw (absent own0 (pathTable (a .header-rev) (a .bytes .now) (length (a .paths .now))) (a .bytes .now) (a .at)

@@ -11,10 +11,10 @@ unfolding pathTable
 ownership-table-spec =
     tie.close (tie.spec (search needs) (search needs) (search needs) (search needs)
     (λ c.
-    rw (← c .before .before .before .read-u16-le .ensures, c .before .enum-told .given .1, c .refuse .ensures) (refl, refl)) (search needs) (search needs)
+    rw (← c .before .before .before .read-u16-le .ensures, c .before .enum-told .given .1, c .refuse .ensures) (refl, tt)) (search needs) (search needs)
     (λ c. let k = c .before .before .before in
     let r = k .before .before in
-    rw (← r .read-u16-le .ensures, k .field .given .1, lt-leb _ _ (c .before .if1 .taken), c .refuse2 .ensures) (refl, refl)) (search needs) (search needs)
+    rw (← r .read-u16-le .ensures, k .field .given .1, lt-leb _ _ (c .before .if1 .taken), c .refuse2 .ensures) (refl, tt)) (search needs) (search needs)
     (λ c. let i = c .before .before .before .before in
     let r = i .before .before .before .before in
     rw (← r .read-u16-le .ensures, i .before .before .field .given .1, le-leb _ _ (i .if1 .left)) (c .before .before .fill-paths .ensures)))

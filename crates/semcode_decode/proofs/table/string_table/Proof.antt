@@ -10,14 +10,14 @@ pub string-table-spec : {M : Type 1} → f.Statement.statement M
 unfolding stringTable
 string-table-spec =
     tie.close (tie.spec (search needs) (search needs) (search needs) (search needs)
-    (λ c. rw (← c .before .before .before .read-u16-le .ensures, c .before .enum-told .given .1, c .refuse .ensures) (refl, refl)) (search needs)
+    (λ c. rw (← c .before .before .before .read-u16-le .ensures, c .before .enum-told .given .1, c .refuse .ensures) (refl, tt)) (search needs)
     (λ c. let k = c .before .before .before in
     let r = k .before .before in
-    rw (← r .read-u16-le .ensures, k .field .given .1, lt-leb _ _ (c .before .if1 .taken), c .refuse2 .ensures) (refl, refl)) (search needs) (search needs)
+    rw (← r .read-u16-le .ensures, k .field .given .1, lt-leb _ _ (c .before .if1 .taken), c .refuse2 .ensures) (refl, tt)) (search needs) (search needs)
     (λ c. let i = c .before .before in
     let k = i .before .before in
     let r = k .before .before in
-    rw (← r .read-u16-le .ensures, k .field .given .1, le-leb _ _ (i .if1 .left), lt-leb _ _ (c .before .if2 .taken), c .refuse3 .ensures) (refl, refl))
+    rw (← r .read-u16-le .ensures, k .field .given .1, le-leb _ _ (i .if1 .left), lt-leb _ _ (c .before .if2 .taken), c .refuse3 .ensures) (refl, tt))
     (search needs) (search needs)
     (λ c. let j = c .before .before .before .before in
     let i = j .before in

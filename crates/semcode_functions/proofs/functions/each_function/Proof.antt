@@ -3,10 +3,11 @@ use borrow.Author.Needs.{needs}
 use Prim.Native.Nat.{ℕ, _+_, _≤_, _<_, _-_}
 use native.Mathlib.Omega.{arith}
 use mathlib.Core.Path.{_≡_, refl, ap, sym, _∙_}
-use mathlib.Core.List.{List}
+use mathlib.Core.List.{List, []}
 use lib.ListN.{length, set, length-set}
 use Rattle.local_format.specs.Refusal.{Refusal}
 use Rattle.local_format.specs.Out.{Out, ok, refused, refuse}
+use Rattle.lent_table.specs.Lent.{lent}
 use Rattle.semcode_records.specs.Records.{Entry}
 use Rattle.semcode_decode.specs.Block.{Rooms}
 use Rattle.semcode_decode.specs.Layout as of
@@ -77,10 +78,13 @@ module _ (n : tie.After-next-function Inv-loop μ-loop) where
 
   begins : let l = turn n in
       let a = l .before .before .before .before .before .args in
-      BeginsFunction (functionAt (a .header-rev) (rooms l) (a .bytes .now) (l .loop .at)) left-strings left-paths (nextOut (n .next-function .result))
+      BeginsFunction (functionAt (a .header-rev) (rooms l) (a .bytes .now) (l .loop .at)) (l .loop .strings) (l .loop .paths) left-strings left-paths
+      (nextOut (n .next-function .result))
   begins = let l = turn n in rw (l .loop .inv .2, l .loop .inv .3) at (n .next-function .ensures)
 
-  refused-there : {r : Refusal} → nextOut (n .next-function .result) ≡ refused r → whole (turn n) ≡ refused r
+  refused-there : {r : Refusal} → nextOut (n .next-function .result) ≡ refused r
+      → let l = turn n in
+      (whole l ≡ refused r) × (left-strings ≡ lent (length (l .loop .strings)) []) × (left-paths ≡ lent (length (l .loop .paths)) [])
   refused-there =
       let e = n .before .before .before in
       let l = turn n in
@@ -112,20 +116,38 @@ each-function-spec =
       refl,
       read-first (a .header-rev) (of.rooms (length (a .strings .now)) (a .symbols) (length (a .paths .now)) (a .families)) (a .bytes .now) 1024
           (length (a .functions .now)) (a .cursor) (a .functions .now) (a .strings .now) (a .paths .now),
-    )) (search needs) (search needs) (search needs) (search needs)
-    (λ c. let l = c .before .before .before in
-    rw (full l (c .before .before .loop-test .taken) (c .before .if1 .taken))
-    (record { answer = ap refused (c .refuse .ensures); of-functions = refl; of-strings = refl; of-paths = refl })) (search needs) (search needs) (search needs)
-    (search needs)
-    (λ c. let i = c .before .before in
-    rw (no-room (i .before .before) (i .before .loop-test .taken) (i .if1 .left) (c .before .if2 .taken))
-    (record { answer = ap refused (c .refuse2 .ensures); of-functions = refl; of-strings = refl; of-paths = refl })) (search needs) (search needs)
-    (search needs)
-    (search needs) (search needs) (search needs) (search needs)
+    )) (search needs) (search needs) (search needs) (search needs) (search needs) (search needs)
+    (λ c. let c2 = c .before .before .before in
+    let c1 = c2 .before .before .before .before in
+    let i = c1 .before .before in
+    let l = i .before .before in
+    rw (full l (i .before .loop-test .taken) (i .if1 .taken)) (record {
+      answer = ap refused (c .refuse .ensures);
+      of-functions = refl;
+      of-strings = c1 .clear .ensures ∙ ap (λ (n : ℕ). lent n []) (l .loop .inv .2);
+      of-paths = c2 .clear2 .ensures ∙ ap (λ (n : ℕ). lent n []) (l .loop .inv .3);
+    })) (search needs) (search needs) (search needs) (search needs) (search needs) (search needs)
+    (λ c. let c2 = c .before .before .before in
+    let c1 = c2 .before .before .before .before in
+    let j = c1 .before .before in
+    let i = j .before in
+    let l = i .before .before in
+    rw (no-room l (i .before .loop-test .taken) (i .if1 .left) (j .if2 .taken)) (record {
+      answer = ap refused (c .refuse2 .ensures);
+      of-functions = refl;
+      of-strings = c1 .clear3 .ensures ∙ ap (λ (n : ℕ). lent n []) (l .loop .inv .2);
+      of-paths = c2 .clear4 .ensures ∙ ap (λ (n : ℕ). lent n []) (l .loop .inv .3);
+    })) (search needs) (search needs) (search needs) (search needs) (search needs) (search needs) (search needs)
     (λ c. let k = c .before in
     let n = k .before .before .before .before .before .before in
-    rw (refused-there n (ap nextOut (k .enum-told .given .1)), c .next-refusal .ensures, k .enum-told .given .1)
-    (record { answer = refl; of-functions = refl; of-strings = refl; of-paths = refl })) (search needs) (search needs) (search needs) (search needs)
+    let l = turn n in
+    let e = refused-there n (ap nextOut (k .enum-told .given .1)) in
+    rw (e .0, c .next-refusal .ensures, k .enum-told .given .1) (record {
+      answer = refl;
+      of-functions = refl;
+      of-strings = e .1 ∙ ap (λ (n : ℕ). lent n []) (l .loop .inv .2);
+      of-paths = e .2 ∙ ap (λ (n : ℕ). lent n []) (l .loop .inv .3);
+    })) (search needs) (search needs) (search needs) (search needs)
     (λ c. let k = c .before in
     let n = k .before .before .before .before .before .before in
     let l = turn n in (
@@ -139,6 +161,6 @@ each-function-spec =
     let a = l .before .before .before .before .before .args in
     let w =
     read-all (a .header-rev) (rooms l) (a .bytes .now) 1024 (length (a .functions .now)) (a .cursor) (l .loop .count) (l .loop .at) (lastIs (l .loop .last))
-    (l .loop .functions) (l .loop .strings) (l .loop .paths) (l .loop .inv .4) (omega arith)
+    (l .loop .functions) (l .loop .strings) (l .loop .paths) (l .loop .inv .4) (a .strings .now) (a .paths .now) (omega arith)
     in
     record { answer = sym (w .0); of-functions = w .1; of-strings = w .2; of-paths = w .3 }))

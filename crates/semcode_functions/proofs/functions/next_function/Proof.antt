@@ -36,12 +36,14 @@ within k =
 
 pub next-function-spec : {M : Type 1} → f.Statement.statement M
 next-function-spec =
-    tie.close (tie.spec (search needs) (search needs) (search needs) (search needs)
-    (λ c. let k = c .before in
+    tie.close (tie.spec (search needs) (search needs) (search needs) (search needs) (search needs) (search needs) (search needs) (search needs)
+    (λ c. let c2 = c .before .before .before in
+    let c1 = c2 .before .before .before .before in
+    let k = c1 .before .before in
     let r = k .before .before in
     let a = r .before .before .before .before .args in
     let e = head-refused (a .header-rev) (rooms r) (a .bytes .now) (a .at) (told functionOut (r .read-function .ensures) (k .enum-told .given .1)) in
-    rw (e, c .function-refusal .ensures, k .enum-told .given .1) (record { answer = refl; of-strings = refl; of-paths = refl }))
+    rw (e, c .function-refusal .ensures, k .enum-told .given .1) (record { answer = refl; of-strings = c1 .clear .ensures; of-paths = c2 .clear2 .ensures }))
     (λ c. within (c .before) .0) (λ c. within (c .before) .0) (λ c. within (c .before) .1)
     (search needs) (search needs) (search needs) (search needs) (search needs) (search needs) (search needs)
     (λ c. let k = c .before .before in
@@ -54,10 +56,10 @@ next-function-spec =
     (pt .parse-tables .ensures) (ap parseOut (k .enum-told2 .given .1))
     in
     let q = c .before .parse-refusal .ensures ∙ ap (λ (x : Parse). refusalOf (parseOut x)) (k .enum-told2 .given .1) in
-    rw e (record {
+    rw (e .0) (record {
       answer = ap refused (c .based .ensures) ∙ ap (λ (r : Refusal). refused (atOffset r (held (fn .function .given .0 .0 .code) (r .offset)))) q;
-      of-strings = refl;
-      of-paths = refl;
+      of-strings = e .1;
+      of-paths = e .2;
     })) (search needs) (search needs)
     (λ c. let k = c .before in
     let pt = k .before .before .before .before .before .before in

@@ -1,4 +1,4 @@
--- Meets its contract: a refusal clears all three tables, else they are cleared past the starts.
+-- Meets its contract: after a refusal all four tables are cleared, else they are cleared past the starts.
 use mathlib.Core.Path.{refl, ap, _∙_}
 use lib.ListN.{length}
 use Rattle.local_format.specs.Out.{Out, refused}
@@ -39,14 +39,15 @@ looped k = k .before .before .before .before .before .before
 pub read-functions-spec : {M : Type 1} → f.Statement.statement M
 read-functions-spec =
     tie.close (tie.spec (search needs) (search needs) (search needs) (search needs) (search needs) (search needs) (search needs) (search needs)
-    (search needs)
-    (λ c. let tables = c .before .before .before .before in
-    let z = tables .before .before .before .before .before in
-    let k = z .before .before .before .before .before in
+    (search needs) (search needs)
+    (λ c. let c2 = c .before .before .before in
+    let c1 = c2 .before .before .before .before in
+    let k = c1 .before .before in
     let e = looped (k .before .before) in
     let told = k .enum-told .given .1 in
-    file-refused (start e .args .cursor) (brought e) (left e) _ (long e) (decoded e) (e .each-function .ensures) (ap functionsOut told)
-    (z .clear-all .ensures) (ap refused (c .functions-refusal .ensures ∙ ap (λ (x : Functions). refusalOf (functionsOut x)) told))) (search needs)
+    file-refused (start e .args .cursor) (brought e) (left e) (long e) (decoded e) (e .each-function .ensures) (ap functionsOut told)
+    (c1 .clear .ensures) (c2 .clear-bytes .ensures)
+    (ap refused (c .functions-refusal .ensures ∙ ap (λ (x : Functions). refusalOf (functionsOut x)) told))) (search needs)
     (search needs) (search needs) (search needs) (search needs)
     (λ c. let tables = c .before .before .before .before in
     let z = tables .before .before .before .before in
