@@ -137,20 +137,10 @@ pub fn parse_string_table_debug_and_ownership(
     header_rev: u16,
 ) -> Result<StringTableDebugOwnershipParse, DecodeError> {
     let block = Block::new(base_offset, code, header_rev);
-    let mut few = Few::new();
-    let (answer, lists) =
-        calls::parse_string_table_debug_and_ownership_in(base_offset, code, header_rev, few.room());
-    if answer.accepted {
-        return Ok(block.records(&answer, &lists));
-    }
-    match answer.refusal {
-        refusal if refusal.number == 61 => block.lend_more(refusal, |mut lent| {
-            let answer = block.decode(lent.again())?;
-            Ok(block.records(&answer, &lent.lists()))
-        }),
-        refusal => Err(refusal),
-    }
-    .map_err(|refusal| block.error(refusal))
+    block.parse_in(Few::new().room(), |refusal| {
+        let parse = block.parse_more(refusal);
+        parse.map_err(|refusal| block.error(refusal))
+    })
 }
 
 /// What is decoded.

@@ -1,10 +1,9 @@
--- Laws of a section's fields: numbers of bytes as they are read in a loop, and fields as they stand in columns.
-use Prim.Native.Nat.{ℕ, suc, _+_, _-_, _*_, _^_, _≤_, _<_}
+-- Laws of a section's fields: numbers of bytes, and fields as they stand in columns.
+use Prim.Native.Nat.{ℕ, _+_, _≤_, _<_}
 use mathlib.Core.Path.{_≡_, sym, ap, ap₂, _∙_}
 use mathlib.Core.List.{List, [], _++_}
 use native.Mathlib.Omega.{arith}
-use lib.Pow.{pow-add, pow-mono}
-use lib.ListN.{length, getD, take, drop}
+use lib.ListN.{length, take, drop}
 use lib.Seq.{drop-drop, length-take-le}
 use borrow.Author.Tests.{le-leb, lt-leb}
 use Rattle.local_format.specs.Refusal.{Refusal}
@@ -16,44 +15,7 @@ use Rattle.evr0_columns.specs.Layout.{raw, whole, text, copied, inBytes, inGrou
 use Rattle.column_fields.specs.Moved.{written, fieldMoved}
 use Rattle.column_fields.proofs.FieldLaws.{raw-short, raw-long, whole-got, text-none, text-short, text-long}
 
--- ---- A number of bytes, from its last byte on
-pub record Plain (s : List ℕ) (size i value : ℕ) : Type 0 where
-  pub within : i ≤ size
-  pub is : value ≡ le (size - i) s i
-  pub below : value < 2 ^ (8 * (size - i))
-
-pub plain-first : (s : List ℕ) (size : ℕ) → Plain s size size 0
-unfolding le
-plain-first s size =
-    let e : size - size ≡ 0 = omega arith in
-    record { within = omega arith; is = rw e; below = rw e (omega arith) }
-
-module _ {s : List ℕ} {size i value : ℕ} (p : Plain s size i value) where
-  pub plain-all : i ≤ 0 → value ≡ le size s 0
-  plain-all h =
-      let e : i ≡ 0 = omega arith in
-      let f : size - i ≡ size = omega arith in
-      p .is ∙ ap₂ (λ (n at : ℕ). le n s at) f e
-
-  module _ (some : 0 < i) where
-    later : size - (i - 1) ≡ suc (size - i)
-    later = omega (arith, p .within)
-
-    pub plain-room : size ≤ 8 → 256 * value < 18446744073709551616 - 255
-    plain-room h = omega (arith, p .below, pow-mono {i = 8 * (size - i)} {j = 56} (omega (arith, p .within)))
-
-    pub plain-more : {x : ℕ} → x ≡ getD s (i - 1) 0 → x < 256 → Plain s size (i - 1) (x + 256 * value)
-    unfolding le
-    plain-more {x} e b =
-        let n : i - 1 + 1 ≡ i = omega arith in
-        let w : 8 * suc (size - i) ≡ 8 + 8 * (size - i) = omega arith in
-        record {
-          within = omega (arith, p .within);
-          is = rw (later, n, e, p .is);
-          below = rw (later, w, pow-add 2 8 (8 * (size - i))) (omega (arith, p .below));
-        }
-
--- ---- It as a form
+-- ---- A number of bytes
 module _ (width : ℕ) (c : List ℕ) (at : ℕ) where
   pub plain-cut : length (drop at c) < width → refuse 76 (length c) ≡ inBytes width .get (length c) (drop at c)
   unfolding inBytes copied

@@ -1,6 +1,8 @@
 // Fields of a section, written as they stand in columns.
 ghost use mathlib.Core.Path.{_≡_};
+ghost use Prim.Native.Nat.{_≤_};
 ghost use lib.ListN.{length, drop};
+ghost use Rattle.local_format.specs.Field.{le};
 ghost use Rattle.byte_output.specs.Written.{Written};
 ghost use Rattle.groups.specs.Maps.{widthOf, numberOut};
 ghost use Rattle.evr0_columns.specs.Layout.{raw, text, inBytes};
@@ -9,6 +11,9 @@ ghost use Rattle.column_fields.specs.Maps.{itemOf};
 use crate::item::Item;
 use groups::read::Number;
 use groups::read::Width;
+use local_format::field::u16_at;
+use local_format::field::u32_at;
+use local_format::field::u64_at;
 
 pub fn size_of(width: Width) -> usize
     ensures { λ r. ⌜ r ≡ widthOf width ⌝ }
@@ -17,6 +22,18 @@ pub fn size_of(width: Width) -> usize
         Width::Two => 2,
         Width::Four => 4,
         Width::Eight => 8,
+    }
+}
+
+// The number of so many bytes at the front.
+fn first_number(bytes: &[u8], width: Width) -> u64
+    requires { ⌜ widthOf width ≤ length (now bytes) ⌝ }
+    ensures { λ r. ⌜ r ≡ le (widthOf width) (now (bytes .entry)) 0 ⌝ }
+{
+    match width {
+        Width::Two => u16_at(bytes, 0) as u64,
+        Width::Four => u32_at(bytes, 0) as u64,
+        Width::Eight => u64_at(bytes, 0),
     }
 }
 
@@ -29,14 +46,8 @@ pub fn plain_at(bytes: &[u8], at: usize, width: Width) -> Number
     if rest.len() < size {
         return Number::Refused(local_format::refusal::refuse(76, bytes.len()));
     }
-    let mut value: u64 = 0;
-    let mut i = size;
-    while 0 < i {
-        i -= 1;
-        value = groups::read::wide(rest[i]) + 256 * value;
-    }
     Number::Value {
-        value,
+        value: first_number(rest, width),
         next: at + size,
     }
 }

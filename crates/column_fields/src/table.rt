@@ -1,14 +1,11 @@
-// The first pass over the columns of a table: where each of them starts, and the place after all, or 75 or 76.
+// The columns of each table.
 ghost use mathlib.Core.Path.{_≡_};
 ghost use lib.ListN.{length, getD, set};
 ghost use Rattle.evr0_columns.specs.Layout.{raw};
 ghost use Rattle.evr0_columns.specs.Columns.{headItems, propositionItems, proofItems, witnessItems, parentItems};
 ghost use Rattle.groups.specs.Maps.{widthOf};
-ghost use Rattle.column_fields.specs.Past.{tablePast};
-ghost use Rattle.column_fields.specs.Maps.{placeIn, itemOf, itemsOf};
-ghost use Rattle.column_fields.specs.Noted.{Noted};
+ghost use Rattle.column_fields.specs.Maps.{itemOf, itemsOf};
 use crate::item::Item;
-use evr0_fields::place::Place;
 use groups::read::Width;
 
 // The tables of a section; a span of a witness has so many bytes. The head is one of a single record.
@@ -139,24 +136,4 @@ pub fn note(starts: &mut [u64], column: usize, at: usize)
     if column < starts.len() {
         starts[column] = at as u64;
     }
-}
-
-// The place after the columns of `count` records from `at` on. `starts` is told where each of them starts, as far as it reaches.
-pub fn table_at(bytes: &[u8], at: usize, count: usize, table: Table, starts: &mut [u64]) -> Place
-    ensures { λ r. ⌜ placeIn (now (bytes .entry)) r ≡ tablePast (itemsOf table) count (now (bytes .entry)) at ⌝ }
-    ensures { λ r. ⌜ Noted (itemsOf table) count (now (bytes .entry)) at (now (starts .exit)) r ⌝ }
-{
-    let columns = columns_of(table);
-    let mut next = at;
-    let mut j: usize = 0;
-    while j < columns {
-        note(starts, j, next);
-        let place = crate::column::column_at(bytes, next, count, item_of(table, j));
-        let Place::Next(after) = place else {
-            return place;
-        };
-        next = after;
-        j += 1;
-    }
-    Place::Next(next)
 }

@@ -22,7 +22,7 @@ use Rattle.evr0_columns.specs.Columns.{headItems, propositionItems, proofItems,
 use Rattle.evr0_columns.proofs.SectionRead.{startsIn, TablesRead}
 use Rattle.evr0_columns.proofs.Frames.{Placed, placed}
 use Rattle.columns_put.specs.Places.{afterFields, evenly, Inside, fieldsMoved, tableMoved, tablesMoved}
-use Rattle.columns_put.specs.Due.{Due, witnessStarts, parentStarts, LastIn, lastMoved, listedMoved}
+use Rattle.columns_put.specs.Due.{Due, Puts, witnessStarts, parentStarts, LastIn, lastMoved, listedMoved}
 use Rattle.columns_put.proofs.FormPlaces.{fields-move}
 use Rattle.columns_put.proofs.ColumnLaws.{tables-moved, each-inside}
 
@@ -167,6 +167,10 @@ module _ {section propositions proofs : List ℕ} {witnesses parents width : ℕ
     last-in = rw (part, same) (k .last)
 
     pub all-put : {s t u v : List ℕ} {l m n : ℕ} → Written s 0 (fieldsMoved headItems section 0) t l → Written t l (listedMoved p propositions proofs) u m
-        → Written u m (lastMoved span p witnesses parents) v n → (columns : List ℕ) → columnsOf section ≡ ok columns → Written s 0 columns v n
-    all-put h l e columns is =
-        rw (← ok-same (sym (k .columns) ∙ is), ← append-assoc, ← part, ← same) (written-append (written-append h l) e)
+        → Written u m (lastMoved span p witnesses parents) v n → Puts section s v n
+    all-put h l e =
+        record { columns = _; are = k .columns; put = rw (← append-assoc, ← part, ← same) (written-append (written-append h l) e) }
+
+pub put-as : {section before after columns : List ℕ} {next : ℕ} → Puts section before after next → columnsOf section ≡ ok columns
+    → Written before 0 columns after next
+put-as p is = rw (← ok-same (sym (p .are) ∙ is)) (p .put)

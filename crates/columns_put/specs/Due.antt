@@ -8,7 +8,8 @@ use Rattle.derivation.specs.Rule.{Rule}
 use Rattle.evr0_section.specs.Rows.{startsOf}
 use Rattle.evr0_section.specs.Head.{Room, witnessSize}
 use Rattle.evr0_section.specs.Section.{Tables, tablesOf}
-use Rattle.evr0_columns.specs.Columns.{propositionItems, proofItems, witnessItems, parentItems}
+use Rattle.byte_output.specs.Written.{Written}
+use Rattle.evr0_columns.specs.Columns.{propositionItems, proofItems, witnessItems, parentItems, columnsOf}
 use Rattle.columns_put.specs.Places.{evenly, Inside, tableMoved}
 
 -- its tables were read, by some rules; these are the starts of its propositions and proofs, and its other numbers
@@ -23,6 +24,12 @@ pub record Due (section propositions proofs : List ℕ) (witnesses parents schem
   pub witnessCount : tables .head .counts .witnesses ≡ witnesses
   pub parentCount : tables .head .counts .parents ≡ parents
   pub schemaIs : tables .head .schema ≡ schema
+
+-- it has columns, and these were written to the front of an output, as far as it reaches
+pub record Puts (section before after : List ℕ) (next : ℕ) : Type 0 where
+  pub columns : List ℕ
+  pub are : columnsOf section ≡ ok columns
+  pub put : Written before 0 columns after next
 
 -- ---- The tables by the starts of their records
 

@@ -1,14 +1,11 @@
 // A section, written as its columns.
 ghost use mathlib.Core.Path.{_≡_};
-ghost use mathlib.Core.List.{List};
-ghost use Prim.Native.Nat.{ℕ};
-ghost use Rattle.local_format.specs.Out.{ok};
 ghost use Rattle.byte_output.specs.Written.{Written};
 ghost use Rattle.groups.specs.Maps.{widthOf};
 ghost use Rattle.evr0_section.specs.Head.{spanWidth};
-ghost use Rattle.evr0_columns.specs.Columns.{propositionItems, proofItems, columnsOf};
+ghost use Rattle.evr0_columns.specs.Columns.{propositionItems, proofItems};
 ghost use Rattle.columns_put.specs.Places.{Inside};
-ghost use Rattle.columns_put.specs.Due.{Due, LastIn, listedMoved, lastMoved};
+ghost use Rattle.columns_put.specs.Due.{Due, Puts, LastIn, listedMoved, lastMoved};
 use crate::head::put_head;
 use crate::records::Records;
 use crate::table::put_table;
@@ -103,8 +100,7 @@ pub fn put_section(
     out: &mut [u8],
 ) -> usize
     requires { ⌜ Due (now section) (now propositions) (now proofs) witnesses parents schema ⌝ }
-    ensures { λ r. ⌜ ((columns : List ℕ) → columnsOf (now (section .entry)) ≡ ok columns
-        → Written (now (out .entry)) 0 columns (now (out .exit)) r) ⌝ }
+    ensures { λ r. ⌜ Puts (now (section .entry)) (now (out .entry)) (now (out .exit)) r ⌝ }
 {
     let payload = tail(section, 8);
     let head = put_head(section, out);

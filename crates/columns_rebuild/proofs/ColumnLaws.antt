@@ -11,8 +11,8 @@ use Rattle.groups.specs.Groups.{Read}
 use Rattle.evr0_columns.specs.Form.{Form, andThen, getMany, many}
 use Rattle.evr0_columns.specs.Layout.{Item, raw, Of, Record, inGroups, field, byColumn}
 use Rattle.column_fields.specs.Past.{past}
-use Rattle.column_fields.specs.Noted.{Starts}
 use Rattle.column_fields.proofs.TableLaws.{tableOf, table-cons, table-none}
+use Rattle.columns_rebuild.specs.Noted.{Starts}
 use Rattle.columns_rebuild.specs.Stand.{part, Stand}
 
 -- ---- How many

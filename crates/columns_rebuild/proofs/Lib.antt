@@ -1,3 +1,4 @@
+pub mod FirstLaws
 pub mod ColumnLaws
 pub mod RowLaws
 pub mod TookLaws

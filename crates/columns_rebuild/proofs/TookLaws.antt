@@ -15,10 +15,10 @@ use Rattle.evr0_columns.specs.Form.{Form, andThen, each, whole, rewritten}
 use Rattle.evr0_columns.specs.Layout.{Item, Record, Table, inBytes, inGroups, fields, byRow, byColumn, tables}
 use Rattle.evr0_columns.specs.Columns.{headItems, witnessItems, schemaOf, layoutOf, layout, sectionForm, columnForm, rebuilt}
 use Rattle.column_fields.specs.Past.{past, tablePast}
-use Rattle.column_fields.specs.Noted.{Starts}
 use Rattle.column_fields.specs.Maps.{itemsOf}
 use Rattle.column_fields.specs.declared.table.Table as code
 use Rattle.column_fields.specs.declared.table.Table.the-variants as table
+use Rattle.columns_rebuild.specs.Noted.{Starts}
 use Rattle.columns_rebuild.specs.Stand.{Stand}
 use Rattle.columns_rebuild.specs.Took.{Took, Stopped, RebuiltTo}
 use Rattle.columns_rebuild.specs.Maps.{TakesAs, propositionTable, proofTable, parentTable, announcedTables, HeadTook}

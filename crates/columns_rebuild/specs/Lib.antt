@@ -1,3 +1,4 @@
 pub mod Stand
+pub mod Noted
 pub mod Took
 pub mod Maps

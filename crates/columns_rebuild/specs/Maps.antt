@@ -2,8 +2,10 @@
 use Prim.Native.Nat.{ℕ}
 use mathlib.Core.Path.{_≡_}
 use mathlib.Core.List.{List, [], _∷_}
+use lib.ListN.{length}
 use Rattle.local_format.specs.Out.{refused}
 use Rattle.local_format.specs.Maps.{refusalOut}
+use Rattle.lent_table.specs.Lent.{lent}
 use Rattle.groups.specs.Maps.{widthOf}
 use Rattle.evr0_section.specs.Head.{spanWidth}
 use Rattle.evr0_columns.specs.Form.{Form}
@@ -52,6 +54,12 @@ abbrev pub HeadTakes : List ℕ → List ℕ → List ℕ → HeadBack → Type 
 HeadTakes c before after (head.Taken a at next) = HeadTook c before after a at next
 HeadTakes c before after (head.Refused r) = Stopped (fields inGroups headItems) c 0 (refusalOut r)
 
+-- the whole file; of what a refusal leaves nothing is said before it is cleared
+abbrev pub Builds : List ℕ → List ℕ → List ℕ → Rebuilt → Type 0
+Builds c before after (section.Length len) = RebuiltTo c before after len
+Builds c before after (section.Refused r) = rebuilt c ≡ refused (refusalOut r)
+
+-- a refusal leaves zeros
 abbrev pub Rebuilds : List ℕ → List ℕ → List ℕ → Rebuilt → Type 0
 Rebuilds c before after (section.Length len) = RebuiltTo c before after len
-Rebuilds c before after (section.Refused r) = rebuilt c ≡ refused (refusalOut r)
+Rebuilds c before after (section.Refused r) = (rebuilt c ≡ refused (refusalOut r)) × (after ≡ lent (length before) [])

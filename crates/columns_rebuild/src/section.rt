@@ -1,6 +1,6 @@
 // The section of a column file, rebuilt: the head, then table by table.
 ghost use Rattle.evr0_columns.specs.Layout.{inBytes, inGroups, byRow, byColumn, tables};
-ghost use Rattle.columns_rebuild.specs.Maps.{TakesAs, announcedTables, Rebuilds};
+ghost use Rattle.columns_rebuild.specs.Maps.{TakesAs, announcedTables, Builds, Rebuilds};
 use crate::head::Announced;
 use crate::head::HeadBack;
 use crate::head::take_head;
@@ -76,9 +76,9 @@ fn take_tables(bytes: &[u8], at: usize, announced: Announced, out: &mut [u8], ne
     )
 }
 
-// The section of some columns at the front of the output. Its bytes past the end are dropped and counted.
-pub fn rebuild(columns: &[u8], out: &mut [u8]) -> Rebuilt
-    ensures { λ r. ⌜ Rebuilds (now (columns .entry)) (now (out .entry)) (now (out .exit)) r ⌝ }
+// The section of some columns at the front of the output. Its bytes past the end are dropped and counted. A refusal leaves anything.
+fn build(columns: &[u8], out: &mut [u8]) -> Rebuilt
+    ensures { λ r. ⌜ Builds (now (columns .entry)) (now (out .entry)) (now (out .exit)) r ⌝ }
 {
     let head = take_head(columns, out);
     match head {
@@ -99,5 +99,19 @@ pub fn rebuild(columns: &[u8], out: &mut [u8]) -> Rebuilt
                 }
             }
         }
+    }
+}
+
+// The same, where a refusal leaves zeros.
+pub fn rebuild(columns: &[u8], out: &mut [u8]) -> Rebuilt
+    ensures { λ r. ⌜ Rebuilds (now (columns .entry)) (now (out .entry)) (now (out .exit)) r ⌝ }
+{
+    let built = build(columns, out);
+    match built {
+        Rebuilt::Refused(refusal) => {
+            lent_table::clear_bytes(out);
+            Rebuilt::Refused(refusal)
+        }
+        Rebuilt::Length(len) => Rebuilt::Length(len),
     }
 }

@@ -2,9 +2,9 @@
 ghost use Rattle.evr0_columns.specs.Layout.{inBytes, inGroups, byRow, byColumn};
 ghost use Rattle.column_fields.specs.Maps.{itemsOf};
 ghost use Rattle.columns_rebuild.specs.Maps.{TakesAs};
+use crate::first::table_at;
 use crate::row::take_rows;
 use column_fields::table::Table;
-use column_fields::table::table_at;
 use evr0_fields::place::Place;
 use local_format::refusal::Refusal;
 

@@ -84,14 +84,14 @@ module _ (given : Given) (c : List ℕ) {output : List ℕ} {before : decoder.Le
       → TakesBack given c (withOutput before output) after answered
   no-rules {r} e k = rw (taken-unruled given (roomOf before) (length output) c r (unruled given e)) k
 
-  module _ {u : Unit {0}} (loaded : ruled given ≡ ok u) {held-bytes : List ℕ} (same : length held-bytes ≡ length output) where
-    pub no-columns : {r : Refusal} → rebuilt c ≡ refused r → Copies (refused r) (withOutput before held-bytes) after answered
+  module _ {u : Unit {0}} (loaded : ruled given ≡ ok u) where
+    pub no-columns : {r : Refusal} → rebuilt c ≡ refused r → Copies (refused r) (withOutput before output) after answered
         → TakesBack given c (withOutput before output) after answered
     no-columns {r} e k =
         let (rules, g, h) = bind-ok (rulesGiven given) _ loaded in
-        rw (taken-refused given (roomOf before) (length output) rules g c r e) (as-brought same k)
+        rw (taken-refused given (roomOf before) (length output) rules g c r e) k
 
-    module _ {len : ℕ} (built : RebuiltTo c output held-bytes len) where
+    module _ {held-bytes : List ℕ} (same : length held-bytes ≡ length output) {len : ℕ} (built : RebuiltTo c output held-bytes len) where
       pub too-short : {r : Refusal} → length held-bytes < len → r ≡ refusal 61 0 → Copies (refused r) (withOutput before held-bytes) after answered
           → TakesBack given c (withOutput before output) after answered
       unfolding held

@@ -19,6 +19,7 @@ use evr0_fields::check::Checked;
 use evr0_rules::load::Loading;
 use evr0_rules::load::load_rules;
 use evr0_rules::settle::Rules;
+use lent_table::clear;
 use lent_table::clear_bytes_from;
 
 // Whether the rules of a call load.
@@ -97,7 +98,10 @@ pub fn take_columns_given(
             let rebuilt = rebuild(columns, output);
             match rebuilt {
                 Rebuilt::Refused(refusal) => {
-                    refuse_all(refusal, propositions, proofs, depths, output)
+                    clear(propositions);
+                    clear(proofs);
+                    clear(depths);
+                    ColumnsAnswer::Refused(refusal)
                 }
                 Rebuilt::Length(len) => {
                     if output.len() < len {

@@ -5,8 +5,8 @@ ghost use Prim.Native.Nat.{ℕ};
 ghost use lib.ListN.{length};
 ghost use Rattle.local_format.specs.Out.{ok};
 ghost use Rattle.rule_table.specs.ByTable.{four};
-ghost use Rattle.byte_output.specs.Written.{Written};
 ghost use Rattle.evr0_columns.specs.Columns.{sectionBytes, columnsOf};
+ghost use Rattle.columns_put.specs.Due.{Puts};
 ghost use Rattle.evr0_head.specs.Maps.{countsOut};
 ghost use Rattle.evr0.specs.Answer.{lentOf};
 ghost use Rattle.evr0.specs.AnswerMaps.{givenOut};
@@ -35,8 +35,7 @@ fn put_accepted(
     output: &mut [u8],
 ) -> usize
     requires { ⌜ Ready (now bytes) cursor end (now propositions) (now proofs) (countsOut counts) schema ⌝ }
-    ensures { λ r. ⌜ ((columns : List ℕ) → columnsOf (sectionBytes (now (bytes .entry)) cursor end) ≡ ok columns
-        → Written (now (output .entry)) 0 columns (now (output .exit)) r) ⌝ }
+    ensures { λ r. ⌜ Puts (sectionBytes (now (bytes .entry)) cursor end) (now (output .entry)) (now (output .exit)) r ⌝ }
 {
     let first = counts.propositions;
     let second = counts.proofs;

@@ -29,6 +29,7 @@ use Rattle.evr0_compare.proofs.Sides as sides
 use Rattle.authorised_table.specs.Answer as one
 use Rattle.authorised_table.specs.Answer.{roomOf, flagsOf, propositionFlags, TellsBy}
 use Rattle.section_pair.specs.Steps.{Told, tallied, pairIn, Holds}
+use Rattle.section_pair.proofs.PairLaws.{list-held}
 use Rattle.compare_sections.specs.Answer.{Lent, inputOf, compareIn, Filled}
 use Rattle.compare_sections.specs.Parts.{secondIn, GoesOn, Answers}
 
@@ -124,7 +125,8 @@ module _ {which : Given} {second : List ℕ} {cursor : ℕ} {before after : one.
         record {
           answer = ap held counts ∙ ap told (sym all);
           tables = λ d g. rw (held-same (sym all ∙ g)) at filled;
-          verdicts = λ d g. holds .table c is ∙ ap (λ (c : Comparison). lent (length brought) (codes (c .list))) (held-same (sym all ∙ g));
+          verdicts = λ d g. list-held a (decoded tells e) holds c is
+              ∙ ap (λ (c : Comparison). lent (length brought) (codes (c .list))) (held-same (sym all ∙ g));
         }
 
 -- ---- The first

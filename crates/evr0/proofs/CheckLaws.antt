@@ -1,7 +1,7 @@
 -- A payload with a checked head: what its counts allow, what the last pass may rely on, and what its answer makes of the section.
 use Prim.Native.Nat.{ℕ, _+_, _-_, _≤_}
 use mathlib.Core.Path.{_≡_, refl, sym, ap, ap₂, _∙_, subst}
-use mathlib.Core.List.{List, []}
+use mathlib.Core.List.{List, [], map}
 use borrow.Author.Tests.{leb-true}
 use lib.Dec.{leb}
 use lib.ListN.{length, take}
@@ -9,7 +9,7 @@ use lib.Seq.{take-at}
 use Rattle.local_format.specs.Refusal.{Refusal}
 use Rattle.local_format.specs.Out.{Out, ok, refused}
 use Rattle.local_format.proofs.OutLaws.{bind-ok, then-ok, checked-ok, check-ok, ok-same, never}
-use Rattle.lent_table.specs.Lent.{lent}
+use Rattle.lent_table.specs.Lent.{lent, Front}
 use Rattle.derivation.specs.Rule.{Rule}
 use Rattle.derivation.specs.Pass.{depths}
 use Rattle.derivation.proofs.Tests.{both}
@@ -20,7 +20,8 @@ use Rattle.evr0_section.specs.Section.{Four, tablesAfter, whole, sectionOf, tab
 use Rattle.evr0_section.proofs.SectionWithin.{head-end}
 use Rattle.evr0_head.specs.Checks.{Limited}
 use Rattle.evr0_head.proofs.HeadLaws.{limited}
-use Rattle.evr0_tables.specs.PayloadMaps.{Places, placesIn, proofStartsIn, Reads}
+use Rattle.evr0_tables.specs.Maps.{asked}
+use Rattle.evr0_tables.specs.PayloadMaps.{Places, placesIn, proofStartsIn, polaritiesLeft, Reads}
 use Rattle.evr0_pass.specs.View.{Layout, TablesThere, PolaritiesThere, view}
 use Rattle.evr0_pass.specs.Maps.{doneIn, depthsIn, Derives}
 use Rattle.evr0_pass.proofs.ViewOf.{layoutOf, section-view, tables-there, polarities-there, starts-total}
@@ -81,7 +82,7 @@ places-refused (ok t) q e = absurd (never (sym e))
 places-refused (refused r) q e = cc
 
 -- what `read_tables` left, by the variant that was found
-pub reads-as : {x : Out Four} {ps qs ps′ qs′ ks : List ℕ} {g h : Out Places} → Reads x ps qs ps′ qs′ ks g → g ≡ h → Reads x ps qs ps′ qs′ ks h
+pub reads-as : {x : Out Four} {ps qs ks ps′ qs′ ks′ : List ℕ} {g h : Out Places} → Reads x ps qs ks ps′ qs′ ks′ g → g ≡ h → Reads x ps qs ks ps′ qs′ ks′ h
 reads-as r e = rw e at r
 
 pass-refused : (x : Out (List ℕ)) {q : Refusal} → doneIn x ≡ refused q → x ≡ refused q
@@ -102,16 +103,17 @@ module _ (rules : List Rule) (before after : Lent) (p : List ℕ) (schema : ℕ)
   same-tables e = rw (there .is, there .same, there .next) e
 
   -- ---- Refused tables
-  pub tables-refused : {ps qs ks : List ℕ} {q : Refusal} → Reads four (before .propositions) (before .proofs) ps qs ks (refused q) → after .propositions ≡ ps
-      → after .proofs ≡ qs → after .depths ≡ lent (length (before .depths)) [] → (end : ℕ) → Passes (payloadIn rules before p end) before after (refused q)
-  tables-refused {q = q} r ep eq d end =
+  pub tables-refused : {ps qs ks : List ℕ} {q : Refusal} → Reads four (before .propositions) (before .proofs) (before .depths) ps qs ks (refused q)
+      → after .propositions ≡ ps → after .proofs ≡ qs → after .depths ≡ ks → (end : ℕ)
+      → Passes (payloadIn rules before p end) before after (refused q)
+  tables-refused {q = q} r ep eq ek end =
       let x = places-refused four q (sym (r .answer)) in
       refusal-passes (no-tables rules (roomOf before) p end (there .head) (there .read) q (same-tables x))
-      (record { propositions = ep ∙ r .propositions ∙ rw x; proofs = eq ∙ r .proofs ∙ rw x; depths = d })
+      (record { propositions = ep ∙ r .propositions ∙ rw x; proofs = eq ∙ r .proofs ∙ rw x; depths = ek ∙ r .polarities ∙ rw x })
 
   -- ---- Tables that were read, with what the last pass makes of them
   module _ {size : ℕ} (sized : size ≡ witnessSize (spanWidth schema)) {ps qs ks : List ℕ} {g : Places}
-      (r : Reads four (before .propositions) (before .proofs) ps qs ks (ok g)) where
+      (r : Reads four (before .propositions) (before .proofs) (before .depths) ps qs ks (ok g)) where
     pub f : Four
     f = places-read four (sym (r .answer)) .0
 
@@ -146,7 +148,12 @@ module _ (rules : List Rule) (before after : Lent) (p : List ℕ) (schema : ℕ)
     may-derive = rw (starts-are, ← same-layout) (tables-there rules (roomOf before) p (whole (there .head) f) read)
 
     pub polarities : PolaritiesThere rules p (take (counts .proofs) qs) ks
-    polarities = rw starts-are (polarities-there rules (roomOf before) p (whole (there .head) f) read ks (rw four-is at (r .polarities)))
+    polarities =
+        let at-front : Front (map asked (f .proofs .entries)) ks =
+        ap (take (length (map asked (f .proofs .entries)))) (r .polarities ∙ ap (λ (x : Out Four). polaritiesLeft x (before .depths)) four-is)
+        ∙ take-at (map asked (f .proofs .entries)) _ _ refl
+        in
+        rw starts-are (polarities-there rules (roomOf before) p (whole (there .head) f) read ks at-front)
 
     pub viewed : view rules p (take (counts .proofs) qs) layout ≡ sectionOf (whole (there .head) f)
     viewed = rw (starts-are, ← same-layout) (sym (section-view rules (roomOf before) p (whole (there .head) f) read))

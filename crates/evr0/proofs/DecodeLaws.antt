@@ -1,7 +1,7 @@
 -- From the section of a payload to the section at a cursor, and to what the lent tables hold in the end.
 use Prim.Native.Nat.{ℕ, _+_, _-_, _≤_}
 use mathlib.Core.Path.{_≡_, refl, sym, ap, _∙_}
-use mathlib.Core.List.{List, [], map}
+use mathlib.Core.List.{List, map}
 use native.Mathlib.Omega.{arith}
 use lib.ListN.{length, take, drop, length-take}
 use Rattle.local_format.specs.Refusal.{Refusal}
@@ -12,7 +12,7 @@ use Rattle.evr0_section.proofs.Stages.{section-within}
 use Rattle.derivation.specs.Rule.{Rule, fourRules}
 use Rattle.evr0_section.specs.Section.{Section, Frame, frameAt, sectionAt, decodeSection}
 use Rattle.evr0_section.proofs.Demand.{demand-3}
-use Rattle.rule_table.specs.Load.{ruleIn, rulesOf, none}
+use Rattle.rule_table.specs.Load.{ruleIn, rulesOf}
 use Rattle.rule_table.specs.ByTable.{Given, rulesGiven}
 use Rattle.rule_table.proofs.Load.{loaded}
 use Rattle.rule_table.proofs.ByTable.{table-refused, decodes-by, holds-by}
@@ -105,10 +105,6 @@ module _ {s : List ℕ} {cursor : ℕ} {before after : Lent} {given : Answer} wh
       record { answer = x .answer ∙ ap (answerOf cursor) (sym d); tables = rw d (x .tables); holds = holds-by which (roomOf before) s cursor }
 
 -- ---- A loaded table
-
--- where there is none
-pub no-rules : (t : List ℕ) → RulesThere t []
-no-rules t = record { starts = λ i h. absurd (omega arith); distinct = none }
 
 pub not-loaded : {t starts : List ℕ} {g : Out ℕ} {q : Refusal} → Loads t starts g → g ≡ refused q → rulesOf t ≡ refused q
 not-loaded {t} {q = q} l h = go (rulesOf t) (sym h ∙ l .answer)

@@ -132,10 +132,7 @@ fn check_tables(
         depths,
     );
     match tables {
-        Places::Refused(refusal) => {
-            lent_table::clear(depths);
-            Checked::Refused(refusal)
-        }
+        Places::Refused(refusal) => Checked::Refused(refusal),
         Places::Read {
             witnesses_at,
             parents_at,

@@ -5,10 +5,11 @@ use mathlib.Core.Path.{_≡_, refl, sym, ap, ap₂, _∙_}
 use mathlib.Core.Bool.{Bool, true, false, cond}
 use mathlib.Core.List.{List, [], _∷_, _++_, append-assoc, append-nil}
 use native.Mathlib.Omega.{arith}
+use native.Mathlib.Decide.{decLe}
 use native.Mathlib.Numerals.{add-one}
 use lib.Dec.{eqb}
 use lib.ListN.{length, getD, take, drop, set, length-drop, length-map, length-set, drop-of-length-le}
-use lib.Seq.{drop-drop, drop-cons, take-suc-set}
+use lib.Seq.{drop-drop, drop-cons, take-all, take-at, take-suc-set, set-out}
 use borrow.Author.Tests.{eqb-true}
 use Rattle.evr0_section.specs.Proposition.{Order, less, equal, greater, compareKeys}
 use Rattle.evr0_compare.specs.Compare.{Standing, Listed, Verdict, agreed, contradicted, firstOnly, secondOnly, code, ofBoth, only}
@@ -143,7 +144,29 @@ written-front table at (n ∷ ns) h =
     (written-front (set table at n) (suc at) ns (omega (arith, length-set table at n))
     ∙ rw (take-suc-set table at n (omega arith)) (append-assoc (take at table) (n ∷ []) ns))
 
+-- the table is as much of it as there was room for, where there was none for more
+written-full : (table : List ℕ) (at : ℕ) (ns : List ℕ) → length table ≤ at + length ns → written table at ns ≡ take (length table) (take at table ++ ns)
+unfolding written
+written-full table at [] h = rw (append-nil (take at table), take-all at table (omega arith), take-all (length table) table (omega arith))
+written-full table at (n ∷ ns) h = go (decLe (length table) at) (λ t l. written-full t (suc at) ns l)
+  where
+    go : Dec (length table ≤ at) → ((t : List ℕ) → length t ≤ suc at + length ns → written t (suc at) ns ≡ take (length t) (take (suc at) t ++ ns))
+        → written (set table at n) (suc at) ns ≡ take (length table) (take at table ++ (n ∷ ns))
+    go (yes l) later =
+        rw (set-out table at n l, take-all at table l)
+        (later table (omega arith)
+        ∙ rw (take-all (suc at) table (omega arith), take-at table ns (length table) refl) (sym (take-at table (n ∷ ns) (length table) refl)))
+    go (no l) later =
+        later (set table at n) (omega (arith, length-set table at n))
+        ∙ rw (length-set table at n, take-suc-set table at n (omega arith))
+        (ap (take (length table)) (append-assoc (take at table) (n ∷ []) ns))
+
 module _ (xs ys : List Standing) {before after : List ℕ} {entries same : ℕ} (listed : Lists (compared xs ys) before after entries same) where
+  pub list-full : length before ≤ entries → after ≡ take (length before) (codes (compared xs ys))
+  list-full h =
+      let n : length (codes (compared xs ys)) ≡ entries = length-map (compared xs ys) _ ∙ sym (listed .size) in
+      listed .table ∙ written-full before 0 (codes (compared xs ys)) (omega (arith, n))
+
   pub list-there : entries ≤ length before → take entries after ≡ codes (compared xs ys)
   list-there h =
       let n : length (codes (compared xs ys)) ≡ entries = length-map (compared xs ys) _ ∙ sym (listed .size) in

@@ -245,6 +245,7 @@ fn derive_all(payload: &[u8], starts: &[u64], tables: Layout, depths: &mut [u64]
 // The same, with zeros past the depths; a refusal leaves zeros.
 pub fn derive(payload: &[u8], starts: &[u64], tables: Layout, depths: &mut [u64]) -> Checked
     requires { ⌜ TablesThere (now payload) (now starts) (layoutOut tables) × (length (now starts) ≤ length (now depths)) ⌝ }
+    requires { ⌜ ((rules : List derivation.Rule) × PolaritiesThere rules (now payload) (now starts) (now depths)) ⌝ }
     ensures { λ r. ⌜ ((rules : List derivation.Rule) → PolaritiesThere rules (now (payload .entry)) (now (starts .entry)) (now (depths .entry))
         → Derives (of.depths (tables .«parents_at») (tablesIn rules (now (payload .entry)) (now (starts .entry)) tables))
         (now (depths .entry)) (now (depths .exit)) (checkedOut r)) ⌝ }

@@ -1,2 +1,3 @@
 pub mod Maps
 pub mod Checks
+pub mod Ruled

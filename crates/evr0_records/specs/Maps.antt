@@ -10,6 +10,8 @@ use Rattle.evr0_section.specs.Proof as proofs
 use Rattle.evr0_section.specs.Witness.{WitnessRecord}
 use Rattle.evr0_fields.specs.Maps.{spanOut, Beside, beside}
 use Rattle.evr0_rules.specs.Maps.{ruleOut}
+use Rattle.evr0_rules.specs.declared.settle.Rules.{Rules}
+use Rattle.evr0_rules.specs.declared.settle.Rules.the-variants as choice
 use Rattle.evr0_records.specs.declared.order.Order.{Order}
 use Rattle.evr0_records.specs.declared.order.Order.the-variants as order
 use Rattle.evr0_records.specs.declared.proof.Proof.{Proof}
@@ -62,6 +64,11 @@ proofRecord p =
 abbrev pub proofOut : ProofRead → Out (Sized proofs.ProofRecord)
 proofOut (proof.Read p n) = ok (record { item = proofRecord p; size = n })
 proofOut (proof.Refused r) = refused (refusalOut r)
+
+-- how many characters a rule's text has is told by the four, and not by a table
+abbrev pub charsBy : Rules → ℕ → ℕ
+charsBy choice.Four n = n
+charsBy choice.Table n = 0
 
 abbrev pub unownedOut : Unowned → proofs.Unowned
 unownedOut u = record { proof = u .proof; witness = u .witness; parent = u .parent }

@@ -2,15 +2,18 @@
 ghost use mathlib.Core.Path.{_≡_};
 ghost use Prim.Native.Nat.{ℕ};
 ghost use mathlib.Core.List.{List};
-ghost use Rattle.local_format.specs.Out.{refuse};
+ghost use Rattle.local_format.specs.Out.{refused, refuse};
 ghost use Rattle.local_format.specs.Text.{textAt};
-ghost use Rattle.local_format.specs.Maps.{textOut};
+ghost use Rattle.local_format.specs.Maps.{refusalOut, textOut};
+ghost use Rattle.derivation.specs.Rule as of;
+ghost use Rattle.derivation.specs.Rule.{unknown, ruleNamed};
 ghost use Rattle.evr0_section.specs.Proof.{restOf, proofOf, hasNumbers, checkProof};
 ghost use Rattle.evr0_fields.specs.Maps.{spanOut};
 ghost use Rattle.evr0_head.specs.Maps.{countsOut};
 ghost use Rattle.evr0_records.specs.Checks.{isNext, isContiguous, endsWithin};
-ghost use Rattle.evr0_records.specs.Maps.{unownedOut, proofRecord, proofOut, settledOut};
-ghost use Rattle.evr0_rules.specs.Maps.{ruleOut, rulesIn, RulesThere};
+ghost use Rattle.evr0_records.specs.Maps.{unownedOut, proofRecord, proofOut, charsBy, settledOut};
+ghost use Rattle.evr0_records.specs.Ruled.{textBy, ruledBy};
+ghost use Rattle.evr0_rules.specs.Maps.{ruleOut, namedOut, rulesIn, RulesThere};
 use evr0_fields::check::both;
 use evr0_fields::number::ProofNumber;
 use evr0_fields::number::PropositionIndex;
@@ -42,6 +45,18 @@ pub struct Proof {
 pub enum ProofRead {
     Read { proof: Proof, size: usize },
     Refused(Refusal),
+}
+
+// The text of a proof's rule, and what it names among the rules of a call.
+struct RuleText {
+    text: Text,
+    named: Named,
+}
+
+// A proof, and what the text of its rule names.
+pub struct Ruled {
+    pub read: ProofRead,
+    pub named: Named,
 }
 
 // The next proof's number, and the next unowned witness and parent cell.
@@ -152,34 +167,62 @@ fn read_rest(
     }
 }
 
-// The text of a rule. The names of the rules are known to be texts of one byte a character, so that only another is scanned.
-fn read_rule(tail: &[u8], at: usize) -> Text
-    ensures { λ r. ⌜ textOut r ≡ textAt (now (tail .entry)) at ⌝ }
+// A text that is no rule's name.
+fn read_unknown(tail: &[u8], at: usize) -> RuleText
+    ensures { λ r. ⌜ (textOut (r .text) ≡ textAt (now (tail .entry)) at) × (((name : List ℕ) → namedOut name (r .named) ≡ unknown)) ⌝ }
 {
-    let size = local_format::field::read_u16_le(tail, at);
-    let U16::Value { value, next: start } = size else {
-        return local_format::text::read_text(tail, at);
-    };
-    let len = value as usize;
-    if tail.len() - start < len {
-        return local_format::text::read_text(tail, at);
-    }
-    let next = start + len;
-    let named = evr0_rules::four::rule_named(&tail[start..next]);
-    match named {
-        Named::Known(_) => Text::Whole {
-            start,
-            len,
-            chars: len,
-            next,
-        },
-        Named::Unknown => local_format::text::read_text(tail, at),
+    RuleText {
+        text: local_format::text::read_text(tail, at),
+        named: Named::Unknown,
     }
 }
 
-// The proof at the front of `tail`.
-pub fn read_proof(tail: &[u8]) -> ProofRead
-    ensures { λ r. ⌜ proofOut r ≡ proofOf (now (tail .entry)) ⌝ }
+// The text of a rule. A rule's name is known to be a text, so that only what is none is scanned. Such a name's bytes are told as its
+// characters, which they are in the names of the four.
+fn read_rule(rules: Rules, table: &[u8], places: &[u64], tail: &[u8], at: usize) -> RuleText
+    requires { ⌜ RulesThere (now table) (now places) ⌝ }
+    ensures { λ r. ⌜ textBy (charsBy rules) (λ name. namedOut name (r .named)) (now (tail .entry)) (textOut (r .text))
+        ≡ textBy (charsBy rules) (ruleNamed (rulesIn rules (now (table .entry)) (now (places .entry)))) (now (tail .entry)) (textAt (now (tail .entry)) at) ⌝ }
+{
+    let size = local_format::field::read_u16_le(tail, at);
+    let U16::Value { value, next: start } = size else {
+        return read_unknown(tail, at);
+    };
+    let len = value as usize;
+    if tail.len() - start < len {
+        return read_unknown(tail, at);
+    }
+    let next = start + len;
+    let named = settle(rules, table, places, &tail[start..next]);
+    match named {
+        Named::Known(_) => RuleText {
+            text: Text::Whole {
+                start,
+                len,
+                chars: len,
+                next,
+            },
+            named,
+        },
+        Named::Unknown => read_unknown(tail, at),
+    }
+}
+
+fn refused(refusal: Refusal) -> Ruled
+    ensures { λ r. ⌜ ((chars : ℕ → ℕ) (s : List ℕ) → ruledBy chars (λ name. namedOut name (r .named)) s (proofOut (r .read))
+        ≡ refused (refusalOut refusal)) ⌝ }
+{
+    Ruled {
+        read: ProofRead::Refused(refusal),
+        named: Named::Unknown,
+    }
+}
+
+// The proof at the front of `tail`, by the rules of a call.
+pub fn read_ruled(rules: Rules, table: &[u8], places: &[u64], tail: &[u8]) -> Ruled
+    requires { ⌜ RulesThere (now table) (now places) ⌝ }
+    ensures { λ r. ⌜ ruledBy (charsBy rules) (λ name. namedOut name (r .named)) (now (tail .entry)) (proofOut (r .read))
+        ≡ ruledBy (charsBy rules) (ruleNamed (rulesIn rules (now (table .entry)) (now (places .entry)))) (now (tail .entry)) (proofOf (now (tail .entry))) ⌝ }
 {
     let number = local_format::field::read_u32_le(tail, 0);
     let U32::Value {
@@ -187,7 +230,7 @@ pub fn read_proof(tail: &[u8]) -> ProofRead
         next: proposition_at,
     } = number
     else {
-        return cut(0);
+        return refused(local_format::refusal::refuse(5, 0));
     };
     let proposition = local_format::field::read_u32_le(tail, proposition_at);
     let U32::Value {
@@ -195,17 +238,19 @@ pub fn read_proof(tail: &[u8]) -> ProofRead
         next: rule_at,
     } = proposition
     else {
-        return cut(proposition_at);
+        return refused(local_format::refusal::refuse(5, proposition_at));
     };
-    let rule = read_rule(tail, rule_at);
+    let rule = read_rule(rules, table, places, tail, rule_at);
+    let text = rule.text;
+    let named = rule.named;
     let Text::Whole {
         start,
         len,
         chars,
         next: authority_at,
-    } = rule
+    } = text
     else {
-        return ProofRead::Refused(local_format::text::text_refusal(rule));
+        return refused(local_format::text::text_refusal(text));
     };
     let rule_id = Span {
         start,
@@ -215,7 +260,19 @@ pub fn read_proof(tail: &[u8]) -> ProofRead
     };
     let proof_id = ProofNumber(proof_id);
     let proposition_index = PropositionIndex(proposition_index);
-    read_rest(tail, proof_id, proposition_index, rule_id)
+    Ruled {
+        read: read_rest(tail, proof_id, proposition_index, rule_id),
+        named,
+    }
+}
+
+// The proof at the front of `tail`.
+pub fn read_proof(tail: &[u8]) -> ProofRead
+    ensures { λ r. ⌜ proofOut r ≡ proofOf (now (tail .entry)) ⌝ }
+{
+    let places = [0u64; 0];
+    let ruled = read_ruled(Rules::Four, &tail[..0], &places[..0], tail);
+    ruled.read
 }
 
 fn unsettled(number: u8) -> Settled
@@ -266,19 +323,10 @@ fn ends_within(counts: Counts, proof: Proof) -> bool
     both(witnesses <= counts.witnesses, parents <= counts.parents)
 }
 
-// The rule of a proof that is the next one, by the rules of a call; `name` is what its rule text holds.
-pub fn check_proof(
-    rules: Rules,
-    table: &[u8],
-    places: &[u64],
-    counts: Counts,
-    unowned: Unowned,
-    name: &[u8],
-    proof: Proof,
-) -> Settled
-    requires { ⌜ RulesThere (now table) (now places) ⌝ }
-    ensures { λ r. ⌜ settledOut (now (name .entry)) r ≡ checkProof (rulesIn rules (now (table .entry)) (now (places .entry))) (countsOut counts)
-        (unownedOut unowned) (now (name .entry)) (proofRecord proof) ⌝ }
+// The rule of a proof that is the next one, by what its rule's text names.
+pub fn check_proof(named: Named, counts: Counts, unowned: Unowned, proof: Proof) -> Settled
+    ensures { λ r. ⌜ ((rules : List of.Rule) (name : List ℕ) → namedOut name named ≡ ruleNamed rules name
+        → settledOut name r ≡ checkProof rules (countsOut counts) (unownedOut unowned) name (proofRecord proof)) ⌝ }
 {
     if !is_next(counts, unowned, proof) {
         return unsettled(17);
@@ -289,7 +337,6 @@ pub fn check_proof(
     if !ends_within(counts, proof) {
         return unsettled(19);
     }
-    let named = settle(rules, table, places, name);
     let Named::Known(rule) = named else {
         return unsettled(20);
     };

@@ -1,14 +1,13 @@
 -- From the rounds of a payload to those of the section at a cursor, by the rules of a call, and to what the lent tables hold in the end.
 use Prim.Native.Nat.{ℕ, _+_, _-_, _≤_}
 use mathlib.Core.Path.{_≡_, refl, sym, ap, _∙_}
-use mathlib.Core.List.{List, []}
+use mathlib.Core.List.{List}
 use native.Mathlib.Omega.{arith}
 use lib.ListN.{length, take, drop, length-take}
 use Rattle.local_format.specs.Refusal.{Refusal}
 use Rattle.local_format.specs.Out.{Out, ok, refused, moved, atOffset}
 use Rattle.local_format.specs.Text.{bytesAt}
 use Rattle.local_format.proofs.OutLaws.{never, on-ok, on-refused}
-use Rattle.lent_table.specs.Lent.{lent}
 use Rattle.derivation.specs.Rule.{Rule}
 use Rattle.evr0_section.specs.Section.{Section, Frame, frameAt}
 use Rattle.rule_table.specs.ByTable.{Given, rulesGiven}
@@ -18,7 +17,7 @@ use Rattle.evr0.specs.Answer.{Lent, roomOf, Filled}
 use Rattle.evr0.proofs.DecodeLaws.{same-part}
 use Rattle.evr0_rounds.specs.Answer.{Answer, answerOf, roundsGiven, LeavesBy}
 use Rattle.evr0_rounds.specs.Steps.{Ends}
-use Rattle.evr0_rounds.proofs.PayloadLaws.{refusal-ends, rounds-in-payload}
+use Rattle.evr0_rounds.proofs.PayloadLaws.{rounds-in-payload}
 
 -- ---- The outcome
 
@@ -59,8 +58,10 @@ module _ (rules : List Rule) (s : List ℕ) (start len cursor : ℕ) (before aft
   pub refused-at : {given : Answer} {r : Refusal} (q : Refusal) → a .outcome ≡ refused q → given ≡ answerOf cursor (refused r)
       → r ≡ atOffset q (start + q .offset) → Ends placed cursor before after given
   refused-at q k g m =
-      let x : placed ≡ refused (atOffset q (start + q .offset)) = sym placed-is ∙ ap (moved start) (outcome-refused cursor part a (ends .answer) q k) in
-      refusal-ends x cursor (rw m at g)
+      let e = outcome-refused cursor part a (ends .answer) q k in
+      let x : placed ≡ refused (atOffset q (start + q .offset)) = sym placed-is ∙ ap (moved start) e in
+      let f : Filled (refused q) before after = rw e at (ends .tables) in
+      rw x (record { answer = rw m at g; tables = record { propositions = f .propositions; proofs = f .proofs; depths = f .depths } })
 
   pub marked-at : (n : ℕ) → a .outcome ≡ ok n → Ends placed cursor before after a
   marked-at n k =
@@ -71,12 +72,12 @@ module _ (rules : List Rule) (s : List ℕ) (start len cursor : ℕ) (before aft
 -- ---- The section at a cursor
 
 module _ (rules : List Rule) (s : List ℕ) (cursor : ℕ) (before after : Lent) {given : Answer} where
-  pub no-frame : (q : Refusal) → frameAt s cursor ≡ refused q → given ≡ answerOf cursor (refused q)
+  pub no-frame : (q : Refusal) → frameAt s cursor ≡ refused q → Ends (refused q) cursor before after given
       → Ends (roundsAt rules (roomOf before) s cursor) cursor before after given
   unfolding roundsAt
-  no-frame q e g =
-      let x : roundsAt rules (roomOf before) s cursor ≡ refused q = rw e in
-      refusal-ends x cursor g
+  no-frame q e x =
+      let y : roundsAt rules (roomOf before) s cursor ≡ refused q = rw e in
+      rw y x
 
   pub framed : (f : Frame) → frameAt s cursor ≡ ok f
       → Ends (moved (f .start) (roundsIn rules (roomOf before) (bytesAt s (f .start) (f .len)) (f .start + f .len))) cursor before after given
@@ -90,36 +91,15 @@ module _ (rules : List Rule) (s : List ℕ) (cursor : ℕ) (before after : Lent)
 -- ---- By the rules of a call
 
 module _ (which : Given) (s : List ℕ) (cursor : ℕ) (before : Lent) {after : Lent} {given : Answer} where
-  pub ends-by : (rules : List Rule) → rulesGiven which ≡ ok rules → Ends (roundsAt rules (roomOf before) s cursor) cursor before after given
-      → Ends (roundsGiven which before s cursor) cursor before after given
+  leaves : {x : Out Section} → roundsGiven which before s cursor ≡ x → Ends x cursor before after given → LeavesBy which s cursor before after given
+  leaves d x =
+      record { answer = x .answer ∙ ap (answerOf cursor) (sym d); tables = rw d (x .tables); methods = methods-by which (roomOf before) s cursor }
+
+  pub leaves-by : (rules : List Rule) → rulesGiven which ≡ ok rules → Ends (roundsAt rules (roomOf before) s cursor) cursor before after given
+      → LeavesBy which s cursor before after given
   unfolding roundsBy
-  ends-by rules e x = let d : roundsGiven which before s cursor ≡ roundsAt rules (roomOf before) s cursor = on-ok _ e in rw d x
+  leaves-by rules e x = leaves (on-ok _ e) x
 
-  pub not-by : (q : Refusal) → rulesGiven which ≡ refused q → given ≡ answerOf cursor (refused q)
-      → Ends (roundsGiven which before s cursor) cursor before after given
+  pub not-by : (q : Refusal) → rulesGiven which ≡ refused q → Ends (refused q) cursor before after given → LeavesBy which s cursor before after given
   unfolding roundsBy
-  not-by q e g = refusal-ends (on-refused _ e) cursor g
-
-  -- ---- What is left in the end
-  module _ (ends : Ends (roundsGiven which before s cursor) cursor before after given) where
-    -- a refusal, after which the three tables are cleared
-    pub cleared : {ps qs rs : List ℕ} (q : Refusal) → given .outcome ≡ refused q → length (after .propositions) ≡ length (before .propositions)
-        → length (after .proofs) ≡ length (before .proofs) → length (after .depths) ≡ length (before .depths)
-        → ps ≡ lent (length (after .propositions)) [] → qs ≡ lent (length (after .proofs)) [] → rs ≡ lent (length (after .depths)) []
-        → LeavesBy which s cursor before (record { propositions = ps; proofs = qs; depths = rs }) given
-    cleared q k a b c d e f =
-        let x = outcome-refused cursor (roundsGiven which before s cursor) given (ends .answer) q k in
-        record {
-          answer = ends .answer;
-          tables = rw x (record {
-            propositions = d ∙ ap (λ (n : ℕ). lent n []) a;
-            proofs = e ∙ ap (λ (n : ℕ). lent n []) b;
-            depths = f ∙ ap (λ (n : ℕ). lent n []) c;
-          });
-          methods = methods-by which (roomOf before) s cursor;
-        }
-
-    pub marked : (n : ℕ) → given .outcome ≡ ok n → LeavesBy which s cursor before after given
-    marked n k =
-        let o = outcome-marked cursor (roundsGiven which before s cursor) given (ends .answer) n k in
-        record { answer = ends .answer; tables = rw (o .1) (ends .tables (o .0) (o .1)); methods = methods-by which (roomOf before) s cursor }
+  not-by q e x = leaves (on-refused _ e) x

@@ -1,12 +1,12 @@
 -- The rounds of a payload from its checked head, its tables and what the lent tables hold: one law for each way that they end.
 use Prim.Native.Nat.{ℕ, _+_, _≤_, _<_}
-use mathlib.Core.Path.{_≡_, refl, sym, ap, ap₂, _∙_, subst}
+use mathlib.Core.Path.{_≡_, refl, sym, ap, ap₂, _∙_}
 use mathlib.Core.List.{List}
 use native.Mathlib.Omega.{arith}
 use lib.ListN.{length, take}
 use Rattle.local_format.specs.Refusal.{Refusal}
 use Rattle.local_format.specs.Out.{Out, ok, refused, _>>=_}
-use Rattle.local_format.proofs.OutLaws.{bind-ok, ok-same, never}
+use Rattle.local_format.proofs.OutLaws.{bind-ok, ok-same}
 use Rattle.local_format.proofs.Each.{Refuses, answers, answered, each-refused, weaker, under, on}
 use Rattle.lent_table.specs.Lent.{lent}
 use Rattle.derivation.specs.Rule.{Rule}
@@ -24,18 +24,11 @@ use Rattle.evr0_pass.specs.Maps.{doneIn}
 use Rattle.evr0_pass.proofs.ViewLaws.{proof-total, proof-at}
 use Rattle.evr0_pass.proofs.ViewOf.{layoutOf, section-view, tables-there}
 use Rattle.evr0.specs.Answer.{Lent, roomOf, Filled}
-use Rattle.evr0.specs.Steps.{HeadThere, passedIn}
+use Rattle.evr0.specs.Steps.{HeadThere, passedIn, Passes}
+use Rattle.evr0.proofs.AnswerLaws.{not-passed, refusal-passes}
 use Rattle.evr0.proofs.CheckLaws.{places-read, places-refused, same-tables, f, four-is, read, viewed}
-use Rattle.evr0_rounds.specs.Answer.{Answer, answerOf}
-use Rattle.evr0_rounds.specs.Steps.{Fills, Passes, Ends}
-
--- ---- A refusal leaves what it leaves
-module _ {x : Out Section} {q : Refusal} (e : x ≡ refused q) {before after : Lent} where
-  pub refusal-passes : Passes x before after (refused q)
-  refusal-passes = record { answer = sym (ap passedIn e); tables = λ s k. absurd (never (sym e ∙ k)) }
-
-  pub refusal-ends : (cursor : ℕ) {given : Answer} → given ≡ answerOf cursor (refused q) → Ends x cursor before after given
-  refusal-ends cursor h = record { answer = h ∙ sym (ap (answerOf cursor) e); tables = λ s k. absurd (never (sym e ∙ k)) }
+use Rattle.evr0_rounds.specs.Answer.{answerOf}
+use Rattle.evr0_rounds.specs.Steps.{Fills, Ends}
 
 -- ---- The tables and the rounds
 same-done : (t : Tables) (end : ℕ) (y : Out (List ℕ)) → doneIn y ≡ passedIn (y >>= λ rs. ok (record { tables = t; depths = rs; cursor = end }))
@@ -47,17 +40,20 @@ module _ (rules : List Rule) (before after : Lent) (p : List ℕ) (schema : ℕ)
   abbrev four : Out Four
   four = tablesAfter rules (spanWidth schema) counts p at
 
-  pub tables-refused : {ps qs ks : List ℕ} {q : Refusal} → Reads four (before .propositions) (before .proofs) ps qs ks (refused q) → (end : ℕ)
+  pub tables-refused : {ps qs ks : List ℕ} {q : Refusal} → Reads four (before .propositions) (before .proofs) (before .depths) ps qs ks (refused q)
+      → after .propositions ≡ ps → after .proofs ≡ qs → after .depths ≡ ks → (end : ℕ)
       → Passes (roundsIn rules (roomOf before) p end) before after (refused q)
   unfolding roundsIn tablesOf
-  tables-refused {q = q} r end =
-      let x : tablesAfter rules (spanWidth (there .head .schema)) (there .head .counts) p (there .head .next) ≡ refused q =
-      same-tables rules before after p schema counts at there (places-refused four q (sym (r .answer))) in
-      let none : roundsIn rules (roomOf before) p end ≡ refused q = rw (there .read, x) in
+  tables-refused {q = q} r ep eq ek end =
+      let x = places-refused four q (sym (r .answer)) in
+      let y : tablesAfter rules (spanWidth (there .head .schema)) (there .head .counts) p (there .head .next) ≡ refused q =
+      same-tables rules before after p schema counts at there x in
+      let none : roundsIn rules (roomOf before) p end ≡ refused q = rw (there .read, y) in
       refusal-passes none
+      (record { propositions = ep ∙ r .propositions ∙ rw x; proofs = eq ∙ r .proofs ∙ rw x; depths = ek ∙ r .polarities ∙ rw x })
 
   module _ {size : ℕ} (sized : size ≡ witnessSize (spanWidth schema)) {ps qs ks : List ℕ} {g : Places}
-      (r : Reads four (before .propositions) (before .proofs) ps qs ks (ok g)) where
+      (r : Reads four (before .propositions) (before .proofs) (before .depths) ps qs ks (ok g)) where
     abbrev found : Four
     found = f rules before after p schema counts at there sized r
 
@@ -78,21 +74,27 @@ module _ (rules : List Rule) (before after : Lent) (p : List ℕ) (schema : ℕ)
     unfolding roundsIn
     section-is end = rw (read rules before after p schema counts at there sized r, made-is)
 
-    pub rounds-made : {ds : List ℕ} {given : Out (Unit {0})} → length ks ≡ length (before .depths) → Fills made ks ds given → after .propositions ≡ ps
-        → after .proofs ≡ qs → after .depths ≡ ds → (end : ℕ) → Passes (roundsIn rules (roomOf before) p end) before after given
+    pub rounds-made : {ds : List ℕ} {u : Unit {0}} → length ks ≡ length (before .depths) → Fills made ks ds (ok u) → after .propositions ≡ ps
+        → after .proofs ≡ qs → after .depths ≡ ds → (end : ℕ) → Passes (roundsIn rules (roomOf before) p end) before after (ok tt)
     rounds-made n h ep eq ed end =
         let four-found = four-is rules before after p schema counts at there sized r in
-        record {
-          answer = h .answer ∙ same-done (whole (there .head) found) end made ∙ sym (ap passedIn (section-is end));
-          tables = λ s k.
-              let (rs, e, same) = bind-ok made _ (sym (section-is end) ∙ k) in
-              subst (λ (s : Section). Filled (ok s) before after) (ok-same same)
-              (record {
-                propositions = ep ∙ r .propositions ∙ rw four-found;
-                proofs = eq ∙ r .proofs ∙ rw four-found;
-                depths = ed ∙ h .rounds rs e ∙ ap (λ (k : ℕ). lent k rs) n;
-              });
-        }
+        let (rs, e, done) = bind-ok made _ (sym (h .answer)) in
+        rw (section-is end, e)
+        (record {
+          answer = refl;
+          tables = record {
+            propositions = ep ∙ r .propositions ∙ rw four-found;
+            proofs = eq ∙ r .proofs ∙ rw four-found;
+            depths = ed ∙ h .rounds rs e ∙ ap (λ (k : ℕ). lent k rs) n;
+          };
+        })
+
+    pub not-made : {ds : List ℕ} {q : Refusal} → Fills made ks ds (refused q) → Filled (refused q) before after → (end : ℕ)
+        → Passes (roundsIn rules (roomOf before) p end) before after (refused q)
+    not-made {q = q} h none end =
+        let e : passedIn (roundsIn rules (roomOf before) p end) ≡ refused q =
+        ap passedIn (section-is end) ∙ sym (h .answer ∙ same-done (whole (there .head) found) end made) in
+        refusal-passes (not-passed (roundsIn rules (roomOf before) p end) q e) none
 
 -- ---- The head
 module _ (rules : List Rule) (room : Room) (p : List ℕ) (end : ℕ) where
@@ -115,7 +117,7 @@ module _ (rules : List Rule) (room : Room) (p : List ℕ) (end : ℕ) where
       )
 
   pub section-ends : {before after : Lent} (cursor n : ℕ) (h : Head) → checkedHead room p ≡ ok h → h .counts .proofs ≡ n → (s : Section)
-      → roundsIn rules room p end ≡ ok s → ((s : Section) → roundsIn rules room p end ≡ ok s → Filled (ok s) before after)
+      → roundsIn rules room p end ≡ ok s → Filled (roundsIn rules room p end) before after
       → Ends (roundsIn rules room p end) cursor before after (record { cursor = end; outcome = ok n })
   section-ends cursor n h eh k s e t =
       let a = accepted-head h eh s e in

@@ -12,7 +12,6 @@ use Rattle.rounds.specs.Rounds.{afterRounds, noneLeft}
 use Rattle.evr0_section.specs.Section.{Section}
 use Rattle.evr0_pass.specs.Maps.{doneIn}
 use Rattle.evr0.specs.Answer.{Lent, Filled}
-use Rattle.evr0.specs.Steps.{passedIn}
 use Rattle.evr0_rounds.specs.Answer.{Answer, answerOf}
 
 -- a proof with this number, proposition and authority
@@ -50,11 +49,7 @@ pub record Fills (x : Out (List ℕ)) (before after : List ℕ) (given : Out (Un
   pub answer : given ≡ doneIn x
   pub rounds : (rs : List ℕ) → x ≡ ok rs → after ≡ lent (length before) rs
 
--- the section, or its refusal, and the lent tables where it is accepted
-pub record Passes (x : Out Section) (before after : Lent) (given : Out (Unit {0})) : Type 0 where
-  pub answer : given ≡ passedIn x
-  pub tables : (s : Section) → x ≡ ok s → Filled (ok s) before after
-
+-- the section, or its refusal, and the three lent tables
 pub record Ends (x : Out Section) (cursor : ℕ) (before after : Lent) (given : Answer) : Type 0 where
   pub answer : given ≡ answerOf cursor x
-  pub tables : (s : Section) → x ≡ ok s → Filled (ok s) before after
+  pub tables : Filled x before after

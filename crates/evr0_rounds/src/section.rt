@@ -12,10 +12,10 @@ ghost use Rattle.evr0_rules.specs.Maps.{rulesIn, RulesThere};
 ghost use Rattle.evr0_head.specs.Maps.{countsOut};
 ghost use Rattle.evr0.specs.Answer.{lentOf, roomOf};
 ghost use Rattle.evr0.specs.AnswerMaps.{givenOut};
-ghost use Rattle.evr0.specs.Steps.{HeadThere};
-ghost use Rattle.evr0_rounds.specs.Answer.{answerOf, roundsGiven, LeavesBy};
+ghost use Rattle.evr0.specs.Steps.{HeadThere, Passes};
+ghost use Rattle.evr0_rounds.specs.Answer.{answerOf, LeavesBy};
 ghost use Rattle.evr0_rounds.specs.AnswerMaps.{answerOut};
-ghost use Rattle.evr0_rounds.specs.Steps.{Passes, Ends};
+ghost use Rattle.evr0_rounds.specs.Steps.{Ends};
 use crate::mark::fill_rounds;
 use evr0::frame::Frame;
 use evr0_fields::check::Checked;
@@ -48,6 +48,24 @@ fn refused_rounds(refusal: Refusal, cursor: usize) -> DepthByRounds
         cursor,
         outcome: Outcome::Refused(refusal),
     }
+}
+
+// The same, with zeros left in the lent tables.
+fn no_rounds(
+    refusal: Refusal,
+    cursor: usize,
+    propositions: &mut [u64],
+    proofs: &mut [u64],
+    rounds: &mut [u64],
+) -> DepthByRounds
+    ensures { λ r. ⌜ Ends (refused (refusalOut refusal)) cursor
+        (lentOf (now (propositions .entry)) (now (proofs .entry)) (now (rounds .entry)))
+        (lentOf (now (propositions .exit)) (now (proofs .exit)) (now (rounds .exit))) (answerOut r) ⌝ }
+{
+    lent_table::clear(propositions);
+    lent_table::clear(proofs);
+    lent_table::clear(rounds);
+    refused_rounds(refusal, cursor)
 }
 
 // The tables and the rounds of a payload with a checked head.
@@ -97,7 +115,16 @@ fn round_tables(
                 witnesses_at,
                 parents_at,
             };
-            fill_rounds(payload, &proofs[..count], layout, rounds)
+            let filled = fill_rounds(payload, &proofs[..count], layout, rounds);
+            match filled {
+                Checked::Refused(refusal) => {
+                    lent_table::clear(propositions);
+                    lent_table::clear(proofs);
+                    lent_table::clear(rounds); // of refused rounds
+                    Checked::Refused(refusal)
+                }
+                Checked::Passed => Checked::Passed,
+            }
         }
     }
 }
@@ -129,7 +156,7 @@ fn round_payload(
     let read = evr0_head::head::read_checked_head(payload, room);
     let answer = read.answer;
     match answer {
-        HeadAnswer::Refused(refusal) => refused_rounds(refusal, cursor),
+        HeadAnswer::Refused(refusal) => no_rounds(refusal, cursor, propositions, proofs, rounds),
         HeadAnswer::Read(head) => {
             let counts = head.counts;
             let checked = round_tables(
@@ -216,7 +243,7 @@ fn round_with(
 {
     let frame = evr0::frame::read_frame(bytes, cursor);
     match frame {
-        Frame::Refused(refusal) => refused_rounds(refusal, cursor),
+        Frame::Refused(refusal) => no_rounds(refusal, cursor, propositions, proofs, rounds),
         Frame::Payload { start, len } => round_at(
             rules,
             table,
@@ -232,8 +259,10 @@ fn round_with(
     }
 }
 
-// The same by the rules of a call: the four, or those of a table, which is loaded first.
-fn round_by(
+// Each proof's depth in the section at `cursor`, by rounds and by the rules of a call: the four, or those of a table, which is loaded first. In each
+// round, counted from 1, the proofs are marked all of whose parents were marked in earlier rounds. Each lent table is filled to its count and has zeros
+// past it; a refusal leaves zeros in all three.
+pub fn depth_by_rounds_given(
     rules: Rules,
     table: &[u8],
     bytes: &[u8],
@@ -242,10 +271,8 @@ fn round_by(
     proofs: &mut [u64],
     rounds: &mut [u64],
 ) -> DepthByRounds
-    ensures { λ r. ⌜ Ends
-        (roundsGiven (givenOut rules (now (table .entry))) (lentOf (now (propositions .entry)) (now (proofs .entry)) (now (rounds .entry)))
-        (now (bytes .entry)) cursor)
-        cursor (lentOf (now (propositions .entry)) (now (proofs .entry)) (now (rounds .entry)))
+    ensures { λ r. ⌜ LeavesBy (givenOut rules (now (table .entry))) (now (bytes .entry)) cursor
+        (lentOf (now (propositions .entry)) (now (proofs .entry)) (now (rounds .entry)))
         (lentOf (now (propositions .exit)) (now (proofs .exit)) (now (rounds .exit))) (answerOut r) ⌝ }
 {
     match rules {
@@ -266,7 +293,9 @@ fn round_by(
             let mut places = [0u64; 128];
             let loading = load_into(table, &mut places);
             match loading {
-                Loading::Refused(refusal) => refused_rounds(refusal, cursor),
+                Loading::Refused(refusal) => {
+                    no_rounds(refusal, cursor, propositions, proofs, rounds)
+                }
                 Loading::Loaded(count) => {
                     let end = TREE + count;
                     round_with(
@@ -283,34 +312,6 @@ fn round_by(
             }
         }
     }
-}
-
-// Each proof's depth in the section at `cursor`, by rounds and by the rules of a call. In each round, counted from 1, the proofs are marked all of
-// whose parents were marked in earlier rounds. Each lent table is filled to its count and has zeros past it; a refusal leaves zeros in all three.
-pub fn depth_by_rounds_given(
-    rules: Rules,
-    table: &[u8],
-    bytes: &[u8],
-    cursor: usize,
-    propositions: &mut [u64],
-    proofs: &mut [u64],
-    rounds: &mut [u64],
-) -> DepthByRounds
-    ensures { λ r. ⌜ LeavesBy (givenOut rules (now (table .entry))) (now (bytes .entry)) cursor
-        (lentOf (now (propositions .entry)) (now (proofs .entry)) (now (rounds .entry)))
-        (lentOf (now (propositions .exit)) (now (proofs .exit)) (now (rounds .exit))) (answerOut r) ⌝ }
-{
-    let found = round_by(rules, table, bytes, cursor, propositions, proofs, rounds);
-    let outcome = found.outcome;
-    match outcome {
-        Outcome::Refused(_) => {
-            lent_table::clear(propositions);
-            lent_table::clear(proofs);
-            lent_table::clear(rounds);
-        }
-        Outcome::Marked(_) => {}
-    }
-    found
 }
 
 // The same by the four.

@@ -3,7 +3,7 @@
 use Prim.Native.Nat.{ℕ, zero, suc, _+_, _-_, _≤_, _<_}
 use mathlib.Core.Path.{_≡_, refl, sym, ap, _∙_, subst}
 use mathlib.Core.Bool.{true, false, not}
-use mathlib.Core.List.{List, [], _∷_, _++_, map, append-assoc, append-nil}
+use mathlib.Core.List.{List, [], _∷_, _++_, map, append-assoc, append-nil, List·Memᴰ, List·Memᴰ·not-nil}
 use mathlib.Core.Logic.{⊎-elim}
 use native.Mathlib.Omega.{arith}
 use native.Mathlib.Numerals.{add-one}
@@ -18,9 +18,9 @@ use Rattle.local_format.proofs.OutLaws.{never, ok-same, bind-ok}
 use Rattle.local_format.proofs.FieldLaws.{le-1, field-there}
 use Rattle.derivation.specs.Rule.{Rule, known, unknown, ruleNamed}
 use Rattle.derivation.proofs.Tests.{order}
-use Rattle.rule_table.specs.Load.{outsideBounds, givenTwice, ruleIn, Loaded, ruleAt, outside, namedIn, rulesFrom, rulesOf, Distinct, none}
+use Rattle.rule_table.specs.Load.{outsideBounds, givenTwice, ruleIn, Loaded, ruleAt, outside, namedIn, rulesFrom, rulesOf, Distinct, none, Allowed}
 use Rattle.rule_table.proofs.Load.{outside-ok, loaded}
-use Rattle.evr0_rules.specs.Maps.{StartsThere, countIn, Starts, Loads}
+use Rattle.evr0_rules.specs.Maps.{StartsThere, RulesThere, countIn, Starts, Loads}
 use Rattle.evr0_rules.proofs.NameLaws.{known-given, unknown-new, given-last, distinct-last}
 use Rattle.evr0_rules.proofs.RuleLaws.{RuleRead, rule-read, name-is}
 
@@ -231,5 +231,14 @@ behind {t} {starts} places e s =
     record {
       answer = s .answer;
       are = are;
-      there = λ rs k. record { starts = rw (part rs) (s .there rs k); distinct = subst Distinct (are rs k) (loaded t rs k .distinct) };
+      there = λ rs k.
+          record {
+            starts = rw (part rs) (s .there rs k);
+            distinct = subst Distinct (are rs k) (loaded t rs k .distinct);
+            allowed = subst (λ rs. (r : Rule) → List·Memᴰ r rs → Allowed r) (are rs k) (loaded t rs k .allowed);
+          };
     }
+
+-- where there is no table
+pub no-rules : (t : List ℕ) → RulesThere t []
+no-rules t = record { starts = λ i h. absurd (omega arith); distinct = none; allowed = λ r m. absurd (List·Memᴰ·not-nil m) }

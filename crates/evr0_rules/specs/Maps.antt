@@ -1,13 +1,13 @@
 -- From the code's structs and enums to the definitions' types.
 use Prim.Native.Nat.{ℕ, _+_, _≤_, _<_}
 use mathlib.Core.Path.{_≡_}
-use mathlib.Core.List.{List, map}
+use mathlib.Core.List.{List, map, List·Memᴰ}
 use lib.ListN.{length, getD, take, drop}
 use Rattle.local_format.specs.Out.{Out, ok, refused, refuse, _>>=_}
 use Rattle.local_format.specs.Field.{le}
 use Rattle.local_format.specs.Maps.{refusalOut}
 use Rattle.derivation.specs.Rule as rules
-use Rattle.rule_table.specs.Load.{ruleIn, Loaded, outsideBounds, rulesOf, Distinct}
+use Rattle.rule_table.specs.Load.{ruleIn, Loaded, outsideBounds, rulesOf, Distinct, Allowed}
 use Rattle.evr0_rules.specs.declared.rule.Rule.{Rule}
 use Rattle.evr0_rules.specs.declared.find.Named.{Named}
 use Rattle.evr0_rules.specs.declared.find.Named.the-variants as named
@@ -42,10 +42,11 @@ StartsThere t starts = (i : ℕ) → i < length starts → getD starts i 0 + 6 +
 abbrev pub startsIn : List ℕ → List ℕ
 startsIn places = drop 96 places
 
--- the rules lie in the table, and no two have one name
+-- the rules lie in the table, no two have one name, and each is one that a table may hold
 pub record RulesThere (t places : List ℕ) : Type 0 where
   pub starts : StartsThere t (startsIn places)
   pub distinct : Distinct (map (ruleIn t) (startsIn places))
+  pub allowed : (r : rules.Rule) → List·Memᴰ r (map (ruleIn t) (startsIn places)) → Allowed r
 
 -- the four, or those of a table by their places
 abbrev pub rulesIn : Rules → List ℕ → List ℕ → List rules.Rule

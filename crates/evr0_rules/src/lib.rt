@@ -1,6 +1,6 @@
 // The proof rules of a section: the four, or those of a table that comes as bytes.
 pub mod find;
-pub mod four;
+mod four;
 mod grow;
 pub mod load;
 pub mod rule;

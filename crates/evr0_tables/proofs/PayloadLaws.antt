@@ -2,14 +2,14 @@
 use Prim.Native.Nat.{ℕ, _≤_}
 use mathlib.Core.Path.{_≡_, refl, sym, ap, _∙_}
 use mathlib.Core.Bool.{Bool, true, false, _&&_}
-use mathlib.Core.List.{List, []}
+use mathlib.Core.List.{List, [], map}
 use native.Mathlib.Omega.{arith}
 use lib.Dec.{eqb}
 use lib.ListN.{length, take, length-map}
 use Rattle.local_format.specs.Refusal.{Refusal}
 use Rattle.local_format.specs.Out.{Out, ok, refused, check, _>>=_, _>>_}
 use Rattle.local_format.proofs.OutLaws.{bind-ok, ok-same, never}
-use Rattle.lent_table.specs.Lent.{lent, Front}
+use Rattle.lent_table.specs.Lent.{lent, laid, Front}
 use Rattle.lent_table.proofs.Laws.{front-lent}
 use Rattle.derivation.specs.Rule.{Rule}
 use Rattle.evr0_section.specs.Rows.{Row, Rows, rows, startsOf}
@@ -22,7 +22,7 @@ use Rattle.evr0_section.proofs.Inside.{Inside}
 use Rattle.evr0_section.proofs.RowsLaws.{trace, trace-length}
 use Rattle.evr0_section.proofs.SectionWithin.{rows-end}
 use Rattle.evr0_section.proofs.CheckedTables.{four-steps}
-use Rattle.evr0_tables.specs.Maps.{nextIn, asked, notesIn, startsIn, Owned, ownedIn}
+use Rattle.evr0_tables.specs.Maps.{nextIn, asked, startsIn, Owned, ownedIn}
 use Rattle.evr0_tables.specs.PayloadMaps.{Places, parentsIn, placesIn, Begins, Reads}
 
 -- ---- A table by what is kept of it
@@ -116,30 +116,30 @@ module _ (rules : List Rule) (width : ℕ) (counts : Counts) (p : List ℕ) (at 
   x = tablesAfter rules width counts p at
 
   -- begun by the propositions and the proofs that were read
-  pub all-begun : {g : Places} {n : ℕ} {ps qs ks : List ℕ} → placesIn x ≡ ok g
+  pub all-begun : {g : Places} {n : ℕ} {ks ps′ qs′ ks′ : List ℕ} → placesIn x ≡ ok g
       → ok n ≡ nextIn (rows propositionRow (counts .propositions) first p at)
-      → Front (startsIn (rows propositionRow (counts .propositions) first p at)) ps
-      → Front (startsIn (rows (proofRow rules counts) (counts .proofs) noneOwned p n)) qs
-      → Front (notesIn asked (rows (proofRow rules counts) (counts .proofs) noneOwned p n)) ks → Begins x ps qs ks (ok g)
-  all-begun {g} {n} {ps} {qs} {ks} e m h k o =
+      → Front (startsIn (rows propositionRow (counts .propositions) first p at)) ps′
+      → Front (startsIn (rows (proofRow rules counts) (counts .proofs) noneOwned p n)) qs′
+      → ((t : Rows Settled Unowned) → rows (proofRow rules counts) (counts .proofs) noneOwned p n ≡ ok t → ks′ ≡ laid (map asked (t .entries)) ks)
+      → Begins x ks ps′ qs′ ks′ (ok g)
+  all-begun {g} {n} {ks} {ps′} {qs′} {ks′} e m h k o =
       let a = bind-ok x _ e in
       let f = four-steps rules width counts p at (a .0) (a .1) in
       let l : n ≡ a .0 .propositions .next = ok-same (m ∙ ap nextIn (f .propositions)) in
-      let k′ : Front (startsIn (rows (proofRow rules counts) (counts .proofs) noneOwned p (a .0 .propositions .next))) qs = rw l at k in
-      let o′ : Front (notesIn asked (rows (proofRow rules counts) (counts .proofs) noneOwned p (a .0 .propositions .next))) ks = rw l at o in
+      let k′ : Front (startsIn (rows (proofRow rules counts) (counts .proofs) noneOwned p (a .0 .propositions .next))) qs′ = rw l at k in
       record {
         answer = sym e;
         propositions = rw (a .1) (rw (f .propositions) at h);
         proofs = rw (a .1) (rw (f .proofs) at k′);
-        polarities = rw (a .1) (rw (f .proofs) at o′);
+        polarities = λ t y. rw (← ok-same (sym (a .1) ∙ y)) (o (a .0 .proofs) (rw l (f .proofs)));
       }
 
   -- cleared past what was read
-  pub cleared-past : {g : Places} {ps qs ks ps′ qs′ : List ℕ} (propositions proofs : List ℕ) → Begins x ps qs ks (ok g)
+  pub cleared-past : {g : Places} {ks ps qs ks′ ps′ qs′ : List ℕ} (propositions proofs : List ℕ) → Begins x ks ps qs ks′ (ok g)
       → length ps ≡ length propositions → length qs ≡ length proofs
       → ps′ ≡ lent (length ps) (take (counts .propositions) ps) → qs′ ≡ lent (length qs) (take (counts .proofs) qs)
-      → Reads x propositions proofs ps′ qs′ ks (ok g)
-  cleared-past {g} {ps} {qs} {ks} {ps′} {qs′} propositions proofs b lp lq ep eq =
+      → Reads x propositions proofs ks ps′ qs′ ks′ (ok g)
+  cleared-past {ps = ps} {qs = qs} propositions proofs b lp lq ep eq =
       let a = bind-ok x _ (sym (b .answer)) in
       let f = four-steps rules width counts p at (a .0) (a .1) in
       let np : length (startsOf (a .0 .propositions .entries)) ≡ counts .propositions =
@@ -150,7 +150,7 @@ module _ (rules : List Rule) (width : ℕ) (counts : Counts) (p : List ℕ) (at 
         answer = b .answer;
         propositions = rw (a .1) (ep ∙ front-lent _ _ ps _ lp np (rw (a .1) at (b .propositions)));
         proofs = rw (a .1) (eq ∙ front-lent _ _ qs _ lq nq (rw (a .1) at (b .proofs)));
-        polarities = b .polarities;
+        polarities = rw (a .1) (b .polarities (a .0) (a .1));
       }
 
 module _ {x : Out Four} {q : Refusal} (e : placesIn x ≡ refused q) where
@@ -161,10 +161,11 @@ module _ {x : Out Four} {q : Refusal} (e : placesIn x ≡ refused q) where
       go (ok t) h = absurd (never (sym h))
       go (refused r) h = cc
 
-  pub unread : (ps qs ks : List ℕ) → Begins x ps qs ks (refused q)
-  unread ps qs ks = record { answer = sym e; propositions = rw none; proofs = rw none; polarities = rw none }
+  pub unread : (ks ps qs ks′ : List ℕ) → Begins x ks ps qs ks′ (refused q)
+  unread ks ps qs ks′ = record { answer = sym e; propositions = rw none; proofs = rw none; polarities = λ t k. absurd (never (sym none ∙ k)) }
 
-  pub cleared : (propositions proofs ps qs ks : List ℕ) {ps′ qs′ : List ℕ} → length ps ≡ length propositions → length qs ≡ length proofs
-      → ps′ ≡ lent (length ps) [] → qs′ ≡ lent (length qs) [] → Reads x propositions proofs ps′ qs′ ks (refused q)
-  cleared propositions proofs ps qs ks lp lq ep eq =
-      record { answer = sym e; propositions = rw (none, ← lp) ep; proofs = rw (none, ← lq) eq; polarities = rw none }
+  pub cleared : (propositions proofs polarities ps qs ks : List ℕ) {ps′ qs′ ks′ : List ℕ} → length ps ≡ length propositions → length qs ≡ length proofs
+      → length ks ≡ length polarities → ps′ ≡ lent (length ps) [] → qs′ ≡ lent (length qs) [] → ks′ ≡ lent (length ks) []
+      → Reads x propositions proofs polarities ps′ qs′ ks′ (refused q)
+  cleared propositions proofs polarities ps qs ks lp lq lk ep eq ek =
+      record { answer = sym e; propositions = rw (none, ← lp) ep; proofs = rw (none, ← lq) eq; polarities = rw (none, ← lk) ek }

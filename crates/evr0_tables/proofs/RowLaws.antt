@@ -1,19 +1,20 @@
 -- What is unowned after a proof that passed its checks, by its own record, since 17 and 18 passed; and a witness by its size.
 use Prim.Native.Nat.{ℕ, suc, _+_}
-use mathlib.Core.Path.{_≡_, sym, ap, _∙_}
+use mathlib.Core.Path.{_≡_, refl, sym, ap, _∙_}
 use mathlib.Core.List.{List}
 use native.Mathlib.Numerals.{add-one}
 use Rattle.local_format.specs.Refusal.{Refusal}
 use Rattle.local_format.specs.Out.{Out, ok, refused}
 use Rattle.local_format.specs.Text.{bytesAt}
 use Rattle.local_format.proofs.OutLaws.{bind-ok, ok-same, never}
-use Rattle.derivation.specs.Rule.{Rule}
+use Rattle.derivation.specs.Rule.{Rule, Named, ruleNamed}
 use Rattle.evr0_section.specs.Head.{Counts}
 use Rattle.evr0_section.specs.Rows.{Sized, Row}
 use Rattle.evr0_section.specs.Witness.{witnessRow}
-use Rattle.evr0_section.specs.Proof.{ProofRecord, Settled, Unowned, proofOf, checkProof, proofRow}
+use Rattle.evr0_section.specs.Proof.{ProofRecord, Settled, Unowned, proofOf, hasNumbers, checkProof, proofRow}
 use Rattle.evr0_section.proofs.RowChecks.{proof-checked, witness-known}
 use Rattle.evr0_fields.specs.Maps.{Beside, beside}
+use Rattle.evr0_records.specs.Ruled.{recordBy, Ruled, ruledBy}
 use Rattle.evr0_tables.specs.Maps.{afterRecord, Kept, keptIn, Noted, notedIn, sizeIn}
 
 after-checked : (rules : List Rule) (counts : Counts) (u : Unowned) (name : List ℕ) (r : ProofRecord) (rule : Rule)
@@ -23,25 +24,56 @@ after-checked rules counts u name r rule e =
     let g = proof-checked rules counts u name r rule 0 e in
     rw (add-one, g .number, g .firstWitness, g .firstParent)
 
--- ---- A proof's row, by what its record and its checks are
-module _ (rules : List Rule) (counts : Counts) (u : Unowned) (s : List ℕ) where
-  pub row-refused : {q : Refusal} → proofOf s ≡ refused q → refused q ≡ notedIn (proofRow rules counts u s)
+-- no check asks for the number of characters
+checked-by : (chars : ℕ → ℕ) (rules : List Rule) (counts : Counts) (u : Unowned) (name : List ℕ) (r : ProofRecord)
+    → checkProof rules counts u name (recordBy chars r) ≡ checkProof rules counts u name r
+unfolding checkProof hasNumbers
+checked-by chars rules counts u name r = refl
+
+-- ---- A proof's row, by what is told of the proof by the rules of a call, and by its checks
+module _ (chars : ℕ → ℕ) (rules : List Rule) (s : List ℕ) where
+  pub row-refused : (counts : Counts) (u : Unowned) {q : Refusal} → refused q ≡ ruledBy chars (ruleNamed rules) s (proofOf s)
+      → refused q ≡ notedIn (proofRow rules counts u s)
   unfolding proofRow
-  row-refused e = rw e
+  row-refused counts u {q} e = rw (unread (proofOf s) e)
+    where
+      unread : (x : Out (Sized ProofRecord)) → refused q ≡ ruledBy chars (ruleNamed rules) s x → x ≡ refused q
+      unread (ok r) e = absurd (never e)
+      unread (refused p) e = cc
 
-  module _ {x : Sized ProofRecord} (e : proofOf s ≡ ok x) where
-    pub row-unsettled : {q : Refusal} → checkProof rules counts u (bytesAt s (x .item .rule .start) (x .item .rule .len)) (x .item) ≡ refused q
-        → refused q ≡ notedIn (proofRow rules counts u s)
-    unfolding proofRow
-    row-unsettled c = rw (e, c)
+  module _ (p : ProofRecord) (n : ℕ) (m : Named)
+      (e : ok (record { proof = recordBy chars p; size = n; named = m }) ≡ ruledBy chars (ruleNamed rules) s (proofOf s)) where
+    abbrev name : ProofRecord → List ℕ
+    name r = bytesAt s (r .rule .start) (r .rule .len)
 
-    pub row-settled : {rule : Rule} → checkProof rules counts u (bytesAt s (x .item .rule .start) (x .item .rule .len)) (x .item) ≡ ok rule
-        → ok (record { polarity = rule .polarity; kept = record { size = x .size; state = afterRecord (x .item) } }) ≡ notedIn (proofRow rules counts u s)
-    unfolding proofRow
-    row-settled {rule} c =
-        rw (e, c)
-        (ap (λ (v : Unowned). ok (record { polarity = rule .polarity; kept = record { size = x .size; state = v } }))
-        (after-checked rules counts u _ (x .item) rule c))
+    -- the record that the definition reads
+    read : (x : Sized ProofRecord) × (proofOf s ≡ ok x)
+        × _≡_ {A = Ruled} (record { proof = recordBy chars (x .item); size = x .size; named = ruleNamed rules (name (x .item)) })
+        (record { proof = recordBy chars p; size = n; named = m })
+    read = let a = bind-ok (proofOf s) _ (sym e) in (a .0, a .1, ok-same (a .2))
+
+    pub name-told : m ≡ ruleNamed rules (name p)
+    name-told = sym (ap (λ (x : Ruled). x .named) (read .2)) ∙ ap (λ (x : Ruled). ruleNamed rules (name (x .proof))) (read .2)
+
+    module _ (counts : Counts) (u : Unowned) where
+      same-checks : checkProof rules counts u (name (read .0 .item)) (read .0 .item) ≡ checkProof rules counts u (name p) p
+      same-checks =
+          sym (checked-by chars rules counts u _ (read .0 .item))
+          ∙ ap (λ (x : Ruled). checkProof rules counts u (name (x .proof)) (x .proof)) (read .2)
+          ∙ checked-by chars rules counts u _ p
+
+      pub row-unsettled : {q : Refusal} → checkProof rules counts u (name p) p ≡ refused q → refused q ≡ notedIn (proofRow rules counts u s)
+      unfolding proofRow
+      row-unsettled c = rw (read .1, same-checks, c)
+
+      pub row-settled : {rule : Rule} → checkProof rules counts u (name p) p ≡ ok rule
+          → ok (record { polarity = rule .polarity; kept = record { size = n; state = afterRecord p } }) ≡ notedIn (proofRow rules counts u s)
+      unfolding proofRow
+      row-settled {rule} c =
+          ap (λ (x : Ruled). ok (record { polarity = rule .polarity; kept = record { size = x .size; state = afterRecord (x .proof) } })) (sym (read .2))
+          ∙ rw (read .1, same-checks, c)
+          (ap (λ (v : Unowned). ok (record { polarity = rule .polarity; kept = record { size = read .0 .size; state = v } }))
+          (after-checked rules counts u _ (read .0 .item) rule (same-checks ∙ c)))
 
 -- ---- A record by what is kept of it
 module _ {A S : Type 0} where

@@ -1,21 +1,21 @@
 -- A loop over a table, whatever its records: where it stands, what a turn makes of that, and what it leaves and answers in the end.
 use Prim.Native.Nat.{ℕ, _+_, _≤_, _<_}
 use mathlib.Core.Path.{_≡_, sym, ap, ap₂, _∙_}
-use mathlib.Core.List.{List, [], _∷_, _++_}
+use mathlib.Core.List.{List, [], _∷_, _++_, map}
 use native.Mathlib.Omega.{arith}
 use native.Mathlib.Numerals.{add-one}
-use lib.ListN.{length, take, drop, set, length-take, length-drop}
-use lib.Seq.{take-suc-set}
+use lib.ListN.{length, take, drop, set, length-drop, take-append-drop}
+use lib.Seq.{take-suc-set, length-take-le}
 use Rattle.local_format.specs.Refusal.{Refusal}
 use Rattle.local_format.specs.Out.{Out, ok, refused, atOffset}
 use Rattle.local_format.proofs.OutLaws.{bind-ok, ok-same}
-use Rattle.lent_table.specs.Lent.{Front}
-use Rattle.evr0_section.specs.Rows.{Row, Entry, Rows, rows}
+use Rattle.lent_table.specs.Lent.{laid, Front}
+use Rattle.evr0_section.specs.Rows.{Row, Rows, rows}
 use Rattle.evr0_section.specs.Proof.{Settled, Unowned}
 use Rattle.local_format.proofs.Each.{each-ok, each-refused}
 use Rattle.evr0_section.proofs.Inside.{Inside}
 use Rattle.evr0_section.proofs.Progress.{Progress, Done, begun, turn, refused-at, ended}
-use Rattle.evr0_tables.specs.Maps.{keptIn, Noted, notedIn, asked, nextIn, notesIn, startsIn, ownedIn}
+use Rattle.evr0_tables.specs.Maps.{keptIn, Noted, notedIn, asked, nextIn, startsIn, ownedIn}
 use Rattle.evr0_tables.proofs.RowLaws.{kept-read, kept-refused}
 
 module _ {A S : Type 0} (row : S → List ℕ → Out (Row A S)) (p : List ℕ) (count at : ℕ) (first : S) where
@@ -36,18 +36,6 @@ module _ {A S : Type 0} (row : S → List ℕ → Out (Row A S)) (p : List ℕ) 
 -- a number was stored past the first i
 pub one-more : (table : List ℕ) (i n : ℕ) → i < length table → take (i + 1) (set table i n) ≡ take i table ++ (n ∷ [])
 one-more table i n h = rw (add-one i) (take-suc-set table i n h)
-
--- all records are read, and what was noted of them is in a table
-pub noted-front : {A S : Type 0} {row : S → List ℕ → Out (Row A S)} {note : Entry A → ℕ} {p : List ℕ} {count at : ℕ} {first : S} {i place : ℕ} {state : S}
-    {xs : List ℕ} → Progress row note p count at first i place state xs → i ≤ count → count ≤ i → (table : List ℕ) → xs ≡ take i table
-    → count ≤ length table → Front (notesIn note (rows row count first p at)) table
-noted-front {row = row} {note = note} {p = p} {count = count} {at = at} {first = first} {i = i} {place = place} {state = state} {xs = xs} d few h table k l =
-    let all = ended row note p count at first i place state xs d h in
-    let e : i ≡ count = omega arith in
-    let f : notesIn note (rows row count first p at) ≡ take count table =
-    ap (notesIn note) (all .is) ∙ all .noted ∙ k ∙ ap (λ (n : ℕ). take n table) e in
-    let m : length (take count table) ≡ count = simp length-take (omega arith) in
-    rw (f, m)
 
 module _ {A S : Type 0} {row : S → List ℕ → Out (Row A S)} {p : List ℕ} {count at : ℕ} {first : S} where
   module _ {i place : ℕ} {state : S} {xs : List ℕ} (s : Stands row p count at first i place state xs) where
@@ -82,15 +70,19 @@ module _ {A S : Type 0} {row : S → List ℕ → Out (Row A S)} {p : List ℕ} 
       read-next = sym (ap nextIn (all .is) ∙ ap (λ (n : ℕ). ok n) (all .next))
 
       pub read-front : (starts : List ℕ) → xs ≡ take i starts → count ≤ length starts → Front (startsIn (rows row count first p at)) starts
-      read-front starts k l = noted-front (s .done) (s .few) h starts k l
+      read-front starts k l =
+          let few = s .few in
+          let f : startsIn (rows row count first p at) ≡ take i starts = ap startsIn (all .is) ∙ all .noted ∙ k in
+          let m : length (take i starts) ≡ i = length-take-le i starts (omega arith) in
+          rw (f, m)
 
   -- the start was stored
   pub stored : (starts : List ℕ) (i place : ℕ) {next : ℕ} {state : S} → Stands row p count at first (i + 1) next state (take i starts ++ (place ∷ []))
       → i < length starts → Stands row p count at first (i + 1) next state (take (i + 1) (set starts i place))
   stored starts i place s h = rw (one-more starts i place h) s
 
-pub refused-front : {A S : Type 0} (note : Entry A → ℕ) {x : Out (Rows A S)} {q : Refusal} (table : List ℕ) → x ≡ refused q → Front (notesIn note x) table
-refused-front note table e = rw e
+pub refused-front : {A S : Type 0} {x : Out (Rows A S)} {q : Refusal} (table : List ℕ) → x ≡ refused q → Front (startsIn x) table
+refused-front table e = rw e
 
 -- ---- The proofs
 module _ {row : Unowned → List ℕ → Out (Row Settled Unowned)} {p : List ℕ} {count at : ℕ} {first : Unowned} where
@@ -108,3 +100,14 @@ module _ {row : Unowned → List ℕ → Out (Row Settled Unowned)} {p : List �
   read-owned {i} {place} {state} {xs} s h =
       let d = all s h in
       sym (ap ownedIn (d .is) ∙ ap₂ (λ (u : Unowned) (n : ℕ). ok (record { unowned = u; next = n })) (d .last) (d .next))
+
+  -- the polarities at the front of a table, past which it holds what it held
+  pub asked-laid : {i place : ℕ} {state : Unowned} (before table : List ℕ) → Progress row asked p count at first i place state (take i table)
+      → i ≡ count → drop count table ≡ drop count before → count ≤ length table → (t : Rows Settled Unowned) → rows row count first p at ≡ ok t
+      → table ≡ laid (map asked (t .entries)) before
+  asked-laid {i} {place} {state} before table d all rest h t e =
+      let done = ended row asked p count at first i place state (take i table) d (omega arith) in
+      let f : map asked (t .entries) ≡ take count table =
+      ap (λ (r : Rows Settled Unowned). map asked (r .entries)) (ok-same (sym e ∙ done .is)) ∙ done .noted ∙ ap (λ (n : ℕ). take n table) all in
+      let m : length (take count table) ≡ count = length-take-le count table h in
+      rw (f, m, ← rest) (sym (take-append-drop count table))

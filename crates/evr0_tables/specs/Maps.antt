@@ -1,10 +1,10 @@
 -- From the code's structs and enums to the definitions' types, and what the code keeps of them.
 use Prim.Native.Nat.{ℕ, _+_}
-use mathlib.Core.List.{List, [], map}
+use mathlib.Core.List.{List, []}
 use lib.ListN.{drop}
 use Rattle.local_format.specs.Out.{Out, ok, refused, _>>=_}
 use Rattle.local_format.specs.Maps.{refusalOut}
-use Rattle.evr0_section.specs.Rows.{Row, Entry, Rows}
+use Rattle.evr0_section.specs.Rows.{Row, Entry, startsOf, Rows}
 use Rattle.evr0_section.specs.Proposition as props
 use Rattle.evr0_section.specs.Proof as proofs
 use Rattle.evr0_records.specs.Maps.{propositionRecord, unownedOut}
@@ -100,11 +100,7 @@ abbrev pub proofTableOut : proofTable.ProofTable → Out Owned
 proofTableOut (proofsRead.Read u n) = ok (record { unowned = unownedOut u; next = n })
 proofTableOut (proofsRead.Refused r) = refused (refusalOut r)
 
--- what is noted of its records; a refusal has none
-abbrev pub notesIn : {A S : Type 0} → (Entry A → ℕ) → Out (Rows A S) → List ℕ
-notesIn note (ok t) = map note (t .entries)
-notesIn note (refused r) = []
-
--- the starts of its records
+-- the starts of its records; a refusal has none
 abbrev pub startsIn : {A S : Type 0} → Out (Rows A S) → List ℕ
-startsIn x = notesIn (λ e. e .start) x
+startsIn (ok t) = startsOf (t .entries)
+startsIn (refused r) = []

@@ -5,7 +5,7 @@ use mathlib.Core.List.{List, [], map}
 use lib.ListN.{length}
 use Rattle.local_format.specs.Out.{Out, ok, refused, _>>=_}
 use Rattle.local_format.specs.Maps.{refusalOut}
-use Rattle.lent_table.specs.Lent.{lent, Front}
+use Rattle.lent_table.specs.Lent.{lent, laid, Front}
 use Rattle.evr0_section.specs.Rows.{startsOf}
 use Rattle.evr0_section.specs.Section.{Rest, Four}
 use Rattle.evr0_tables.specs.Maps.{asked}
@@ -40,21 +40,21 @@ abbrev pub proofStartsIn : Out Four → List ℕ
 proofStartsIn (ok t) = startsOf (t .proofs .entries)
 proofStartsIn (refused r) = []
 
--- the polarities that the rules of the proofs ask
-abbrev pub polaritiesIn : Out Four → List ℕ
-polaritiesIn (ok t) = map asked (t .proofs .entries)
-polaritiesIn (refused r) = []
+-- the polarities that the rules of the proofs ask, and past them what stood there; a refusal leaves zeros
+abbrev pub polaritiesLeft : Out Four → List ℕ → List ℕ
+polaritiesLeft (ok t) before = laid (map asked (t .proofs .entries)) before
+polaritiesLeft (refused r) before = lent (length before) []
 
--- the lent tables begin with the starts and with the polarities
-pub record Begins (x : Out Four) (ps qs ks : List ℕ) (given : Out Places) : Type 0 where
+-- before they are cleared: two lent tables begin with the starts; of the third one it is said only where nothing is refused
+pub record Begins (x : Out Four) (ks ps′ qs′ ks′ : List ℕ) (given : Out Places) : Type 0 where
   pub answer : given ≡ placesIn x
-  pub propositions : Front (propositionStartsIn x) ps
-  pub proofs : Front (proofStartsIn x) qs
-  pub polarities : Front (polaritiesIn x) ks
+  pub propositions : Front (propositionStartsIn x) ps′
+  pub proofs : Front (proofStartsIn x) qs′
+  pub polarities : (t : Four) → x ≡ ok t → ks′ ≡ laid (map asked (t .proofs .entries)) ks
 
--- two lent tables hold the starts, and zeros past them; a third one begins with the polarities
-pub record Reads (x : Out Four) (ps qs ps′ qs′ ks′ : List ℕ) (given : Out Places) : Type 0 where
+-- two lent tables hold the starts, and zeros past them; a third one the polarities
+pub record Reads (x : Out Four) (ps qs ks ps′ qs′ ks′ : List ℕ) (given : Out Places) : Type 0 where
   pub answer : given ≡ placesIn x
   pub propositions : ps′ ≡ lent (length ps) (propositionStartsIn x)
   pub proofs : qs′ ≡ lent (length qs) (proofStartsIn x)
-  pub polarities : Front (polaritiesIn x) ks′
+  pub polarities : ks′ ≡ polaritiesLeft x ks

@@ -73,7 +73,7 @@ fn read_four(
         × (counts .proofs ≤ length (now polarities)) ⌝ }
     requires { ⌜ (counts .parents ≤ 262144) × (at ≤ length (now payload)) × RulesThere (now table) (now places) ⌝ }
     ensures { λ r. ⌜ Begins (tablesAfter (rulesIn rules (now (table .entry)) (now (places .entry))) (spanWidth schema) (countsOut counts)
-        (now (payload .entry)) at) (now (propositions .exit)) (now (proofs .exit)) (now (polarities .exit)) (placesOut r) ⌝ }
+        (now (payload .entry)) at) (now (polarities .entry)) (now (propositions .exit)) (now (proofs .exit)) (now (polarities .exit)) (placesOut r) ⌝ }
 {
     let first = crate::tables::read_propositions(payload, counts.propositions, at, propositions);
     match first {
@@ -112,7 +112,7 @@ fn read_four(
     }
 }
 
-// The same, with zeros past the starts; a refusal leaves zeros in the tables of starts. Past the polarities the third table holds anything.
+// The same, with zeros past the starts, and past the polarities what stood there; a refusal leaves zeros in all three tables.
 pub fn read_tables(
     rules: Rules,
     table: &[u8],
@@ -129,8 +129,8 @@ pub fn read_tables(
         × (counts .proofs ≤ length (now polarities)) ⌝ }
     requires { ⌜ (counts .parents ≤ 262144) × (at ≤ length (now payload)) × RulesThere (now table) (now places) ⌝ }
     ensures { λ r. ⌜ Reads (tablesAfter (rulesIn rules (now (table .entry)) (now (places .entry))) (spanWidth schema) (countsOut counts)
-        (now (payload .entry)) at) (now (propositions .entry)) (now (proofs .entry)) (now (propositions .exit)) (now (proofs .exit))
-        (now (polarities .exit)) (placesOut r) ⌝ }
+        (now (payload .entry)) at) (now (propositions .entry)) (now (proofs .entry)) (now (polarities .entry)) (now (propositions .exit))
+        (now (proofs .exit)) (now (polarities .exit)) (placesOut r) ⌝ }
 {
     let read = read_four(
         rules,
@@ -146,6 +146,7 @@ pub fn read_tables(
     );
     match read {
         Places::Refused(refusal) => {
+            lent_table::clear(polarities);
             lent_table::clear(propositions);
             lent_table::clear(proofs);
             Places::Refused(refusal)

@@ -100,20 +100,13 @@ pub fn next_proof(
         (unownedOut unowned) (drop at (now (payload .entry)))) ⌝ }
 {
     let tail = local_format::part::tail(payload, at);
-    let read = evr0_records::proof::read_proof(tail);
+    let ruled = evr0_records::proof::read_ruled(rules, table, places, tail);
+    let read = ruled.read;
+    let named = ruled.named;
     match read {
         ProofRead::Refused(r) => ProofRow::Refused(r),
         ProofRead::Read { proof, size } => {
-            let name = evr0_fields::span::bytes_of(tail, proof.rule_id);
-            let settled = evr0_records::proof::check_proof(
-                rules,
-                table,
-                places,
-                counts,
-                unowned,
-                name,
-                proof,
-            );
+            let settled = evr0_records::proof::check_proof(named, counts, unowned, proof);
             match settled {
                 Settled::Refused(r) => ProofRow::Refused(r),
                 Settled::By(rule) => ProofRow::Read {

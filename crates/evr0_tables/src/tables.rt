@@ -1,16 +1,19 @@
 // The tables of a payload, each from a place on, with the starts of its records at the front of a lent table.
 ghost use mathlib.Core.Path.{_≡_};
 ghost use Prim.Native.Nat.{_≤_};
+ghost use mathlib.Core.List.{map};
 ghost use lib.ListN.{length};
-ghost use Rattle.lent_table.specs.Lent.{Front};
-ghost use Rattle.evr0_section.specs.Rows.{rows};
+ghost use Rattle.local_format.specs.Out.{ok};
+ghost use Rattle.lent_table.specs.Lent.{laid, Front};
+ghost use Rattle.evr0_section.specs.Rows.{Rows, rows};
 ghost use Rattle.evr0_section.specs.Head.{spanWidth};
 ghost use Rattle.evr0_section.specs.Proposition.{first, propositionRow};
+ghost use Rattle.evr0_section.specs.Proof as of;
 ghost use Rattle.evr0_section.specs.Proof.{noneOwned, proofRow};
 ghost use Rattle.evr0_section.specs.Witness.{witnessRow, parentRow};
 ghost use Rattle.evr0_head.specs.Maps.{countsOut};
 ghost use Rattle.evr0_rules.specs.Maps.{rulesIn, RulesThere};
-ghost use Rattle.evr0_tables.specs.Maps.{nextIn, asked, notesIn, startsIn, tableOut, ownedIn, proofTableOut};
+ghost use Rattle.evr0_tables.specs.Maps.{nextIn, asked, startsIn, tableOut, ownedIn, proofTableOut};
 use crate::rows::Before;
 use crate::rows::ProofRow;
 use crate::rows::Size;
@@ -60,7 +63,8 @@ pub enum ProofTable {
     Refused(Refusal),
 }
 
-// The starts of the proofs, and the polarities that their rules ask, each at the front of a lent table.
+// The starts of the proofs at the front of a lent table, and the polarities that their rules ask at the front of another, past which it holds what stood
+// there.
 pub fn read_proofs(
     rules: Rules,
     table: &[u8],
@@ -78,9 +82,9 @@ pub fn read_proofs(
     ensures { λ r. ⌜ Front (startsIn (rows (proofRow (rulesIn rules (now (table .entry)) (now (places .entry))) (countsOut counts)) (counts .proofs)
         noneOwned (now (payload .entry)) at))
         (now (starts .exit)) ⌝ }
-    ensures { λ r. ⌜ Front (notesIn asked (rows (proofRow (rulesIn rules (now (table .entry)) (now (places .entry))) (countsOut counts)) (counts .proofs)
-        noneOwned (now (payload .entry)) at))
-        (now (polarities .exit)) ⌝ }
+    ensures { λ r. ⌜ ((t : Rows of.Settled of.Unowned) → rows (proofRow (rulesIn rules (now (table .entry)) (now (places .entry))) (countsOut counts))
+        (counts .proofs) noneOwned (now (payload .entry)) at ≡ ok t
+        → now (polarities .exit) ≡ laid (map asked (t .entries)) (now (polarities .entry))) ⌝ }
 {
     let count = counts.proofs;
     let mut unowned = Unowned {

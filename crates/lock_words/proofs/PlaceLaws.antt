@@ -21,7 +21,7 @@ slot-full words i l m = slot-length words i ∙ rw l (omega arith)
 
 -- a lock in its own place
 pub in-place : (words : List ℕ) (lock : ℕ) → Placed words words lock (slot words lock)
-in-place words lock = record { here = refl; others = λ j d. refl; same = refl }
+in-place words lock = record { here = refl; others = λ j d. refl; first = refl; same = refl }
 
 -- the first k words of a lock's place have been written, and nothing else
 pub record Turning (words after : List ℕ) (lock k : ℕ) (ws : List ℕ) : Type 0 where
@@ -58,5 +58,6 @@ module _ (words after : List ℕ) (lock k : ℕ) (ws : List ℕ) (t : Turning wo
             ext-getD 0 (slot after j) (slot words j) (slot-length after j ∙ rw (t .same) (sym (slot-length words j)))
             (λ i h. let b : i < 24 = omega (arith, slot-length after j) in
             slot-at after j i b ∙ t .rest (1 + 24 * j + i) (λ x y. d (omega arith)) ∙ sym (slot-at words j i b));
+        first = t .rest 0 (λ x y. omega arith);
         same = t .same;
       }

@@ -4,20 +4,19 @@ use mathlib.Core.Path.{_≡_, refl, ap, sym, _∙_}
 use mathlib.Core.Bool.{true, cond}
 use mathlib.Core.List.{List, [], _∷_}
 use native.Mathlib.Omega.{arith}
-use lib.Dec.{leb}
 use lib.ListN.{length}
-use package.borrow.Author.Tests.{le-leb}
 use Rattle.local_format.specs.Refusal.{Refusal}
 use Rattle.local_format.specs.Out.{Out, ok, refused, _>>=_}
 use Rattle.local_format.specs.Field.{le}
-use Rattle.local_format.proofs.FieldLaws.{field-there}
 use Rattle.semcode_records.specs.Records.{Taken, Table, records, ends}
 use Rattle.semcode_records.specs.Component.{Component, componentAt}
-use Rattle.semcode_records.specs.Path.{Event, borrow, write, frameEntry, borrowStoreSite, writeStoreSite, writeRecordSite, activationAt, executionAt, eventOf}
+use Rattle.semcode_records.specs.Path.{Event, borrow, write, frameEntry, borrowStoreSite, writeStoreSite, writeRecordSite}
+use Rattle.semcode_records.specs.Sizes.{siteSize}
 use Rattle.semcode_records.specs.Path.{known, kindOfEvent, Front, frontAt, Head, headAt}
+use Rattle.semcode_records.proofs.FrontLaws.{entry, store, written-store, written-record}
 use Rattle.semcode_records.proofs.PathLaws.{headFrom, head-steps, front-kind, path-read, path-components}
 use Rattle.path_words.specs.Words.{componentWords, Numbered, numbered, wordsOf, pathWords}
-use Rattle.path_words.specs.Front.{there, siteSize, siteOf, Opening, openingWords}
+use Rattle.path_words.specs.Front.{there, siteOf, Opening, openingWords}
 
 module _ (revision : ℕ) (s : List ℕ) (at : ℕ) where
   abbrev reader : ℕ → ℕ → Out (Taken Component)
@@ -73,70 +72,6 @@ module _ (revision : ℕ) (s : List ℕ) (at : ℕ) where
       go (refused r) = refl
 
   module _ (from21 : 21 ≤ revision) (room : at + 12 ≤ length s) where
-    modes : leb 21 revision ≡ true
-    modes = le-leb 21 revision from21
-
-    -- the root and what follows it
-    abbrev front : ℕ → Event → ℕ → Front
-    front kind e root = record { kind = kind; kinded = known e; root = le 4 s root; count = le 2 s (root + 4); start = root + 4 + 2 }
-
-    entry : le 1 s at ≡ 0 → le 1 s (at + 1) ≡ 0 → frontAt revision s at ≡ ok (front 0 (borrow frameEntry) (at + 1 + 1))
-    unfolding frontAt eventOf activationAt
-    entry k m =
-        rw (
-          field-there 41 1 s at (omega arith),
-          k,
-          modes,
-          field-there 42 1 s (at + 1) (omega arith),
-          m,
-          field-there 48 4 s (at + 1 + 1) (omega arith),
-          field-there 49 2 s (at + 1 + 1 + 4) (omega arith),
-        )
-
-    store : le 1 s at ≡ 0 → le 1 s (at + 1) ≡ 1 → frontAt revision s at ≡ ok (front 0 (borrow (borrowStoreSite (le 4 s (at + 1 + 1)))) (at + 1 + 1 + 4))
-    unfolding frontAt eventOf activationAt
-    store k m =
-        rw (
-          field-there 41 1 s at (omega arith),
-          k,
-          modes,
-          field-there 42 1 s (at + 1) (omega arith),
-          m,
-          field-there 43 4 s (at + 1 + 1) (omega arith),
-          field-there 48 4 s (at + 1 + 1 + 4) (omega arith),
-          field-there 49 2 s (at + 1 + 1 + 4 + 4) (omega arith),
-        )
-
-    written-store : le 1 s at ≡ 1 → le 1 s (at + 1) ≡ 0
-        → frontAt revision s at ≡ ok (front 1 (write (writeStoreSite (le 4 s (at + 1 + 1)))) (at + 1 + 1 + 4))
-    unfolding frontAt eventOf executionAt
-    written-store k m =
-        rw (
-          field-there 41 1 s at (omega arith),
-          k,
-          modes,
-          field-there 45 1 s (at + 1) (omega arith),
-          m,
-          field-there 46 4 s (at + 1 + 1) (omega arith),
-          field-there 48 4 s (at + 1 + 1 + 4) (omega arith),
-          field-there 49 2 s (at + 1 + 1 + 4 + 4) (omega arith),
-        )
-
-    written-record : le 1 s at ≡ 1 → le 1 s (at + 1) ≡ 1
-        → frontAt revision s at ≡ ok (front 1 (write (writeRecordSite (le 4 s (at + 1 + 1)))) (at + 1 + 1 + 4))
-    unfolding frontAt eventOf executionAt
-    written-record k m =
-        rw (
-          field-there 41 1 s at (omega arith),
-          k,
-          modes,
-          field-there 45 1 s (at + 1) (omega arith),
-          m,
-          field-there 46 4 s (at + 1 + 1) (omega arith),
-          field-there 48 4 s (at + 1 + 1 + 4) (omega arith),
-          field-there 49 2 s (at + 1 + 1 + 4 + 4) (omega arith),
-        )
-
     -- by kind and mode
     abbrev opening : ℕ → ℕ → Opening
     opening kind mode =
@@ -168,10 +103,13 @@ module _ (revision : ℕ) (s : List ℕ) (at : ℕ) where
         let a : at + 2 + 0 ≡ at + 1 + 1 = omega arith in
         let b : at + 6 + 0 ≡ at + 1 + 1 + 4 = omega arith in
         let c : at + 8 + 0 ≡ at + 1 + 1 + 4 + 2 = omega arith in
-        rw (a, b, c) (by-front (borrow frameEntry) (entry k m) refl)
-    by-bytes zero (suc zero) k m h l = rw (four, six, eight, two) at (by-front (borrow (borrowStoreSite (le 4 s (at + 1 + 1)))) (store k m) refl)
-    by-bytes (suc zero) zero k m h l = rw (four, six, eight, two) at (by-front (write (writeStoreSite (le 4 s (at + 1 + 1)))) (written-store k m) refl)
-    by-bytes (suc zero) (suc zero) k m h l = rw (four, six, eight, two) at (by-front (write (writeRecordSite (le 4 s (at + 1 + 1)))) (written-record k m) refl)
+        rw (a, b, c) (by-front (borrow frameEntry) (entry revision s at from21 room k m) refl)
+    by-bytes zero (suc zero) k m h l =
+        rw (four, six, eight, two) at (by-front (borrow (borrowStoreSite (le 4 s (at + 1 + 1)))) (store revision s at from21 room k m) refl)
+    by-bytes (suc zero) zero k m h l =
+        rw (four, six, eight, two) at (by-front (write (writeStoreSite (le 4 s (at + 1 + 1)))) (written-store revision s at from21 room k m) refl)
+    by-bytes (suc zero) (suc zero) k m h l =
+        rw (four, six, eight, two) at (by-front (write (writeRecordSite (le 4 s (at + 1 + 1)))) (written-record revision s at from21 room k m) refl)
     by-bytes zero (suc (suc mode)) k m h l = absurd (omega arith)
     by-bytes (suc zero) (suc (suc mode)) k m h l = absurd (omega arith)
     by-bytes (suc (suc kind)) mode k m h l = absurd (omega arith)

@@ -1,5 +1,5 @@
 -- A path's words from its front and from its components, as they are read once.
-use Prim.Native.Nat.{ℕ, _+_}
+use Prim.Native.Nat.{ℕ}
 use mathlib.Core.Path.{_≡_}
 use mathlib.Core.Bool.{Bool, true, false, cond, _&&_}
 use mathlib.Core.List.{List, [], _∷_}
@@ -26,10 +26,7 @@ pub record Puts-components (read : ℕ → Out (Taken Component)) (n at to : ℕ
 
 -- ---- What stands in front of a path's components
 
--- the bytes of a site behind an event's kind and mode, where modes stand: a borrow on frame entry has none
-abbrev pub siteSize : ℕ → ℕ → ℕ
-siteSize kind mode = cond (eqb (kind + mode) 0) 0 4
-
+-- the site behind an event's kind and mode, of so many bytes: 0 where it has none
 abbrev pub siteOf : ℕ → ℕ → ℕ
 siteOf size anchor = cond (eqb size 0) 0 anchor
 

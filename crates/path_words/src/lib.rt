@@ -7,7 +7,7 @@ ghost use Rattle.semcode_records.specs.Component.{componentAt};
 ghost use Rattle.semcode_records.specs.Maps.{componentIs, eventIs};
 ghost use Rattle.record_words.specs.Words.{Puts};
 ghost use Rattle.path_words.specs.Words.{componentWord, stepOf, numbered, pathWords, Puts-one, Fits};
-ghost use Rattle.path_words.specs.Front.{Puts-components, siteSize, siteOf, openingWords};
+ghost use Rattle.path_words.specs.Front.{Puts-components, siteOf, openingWords};
 ghost use Rattle.path_words.specs.Maps.{stepIs, numberedIs, openingIs};
 use lent_table::clear_from;
 use local_format::field::u16_at;
@@ -24,6 +24,7 @@ use semcode_records::path::Path;
 use semcode_records::path::SEMCODE_OWNERSHIP_ANCHOR_MIN_REVISION;
 use semcode_records::path::event_kind;
 use semcode_records::path::read_path;
+use semcode_records::path::site_size;
 
 // ---- A component
 
@@ -216,13 +217,6 @@ fn slow_opening(code: &[u8], at: usize, header_rev: u16) -> Opening
         count: path.component_count,
         start: path.components_start,
     }
-}
-
-fn site_size(kind: u8, mode: u8) -> usize
-    requires { ⌜ kind + mode ≤ 2 ⌝ }
-    ensures { λ r. ⌜ (r ≡ siteSize kind mode) × (r ≤ 4) ⌝ }
-{
-    if kind + mode == 0 { 0 } else { 4 }
 }
 
 fn site_of(size: usize, anchor: u32) -> u32

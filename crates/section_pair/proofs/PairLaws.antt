@@ -3,31 +3,31 @@
 use Prim.Native.Nat.{ℕ, _+_, _-_, _≤_, _<_}
 use mathlib.Core.Path.{_≡_, refl, sym, ap, ap₂, _∙_}
 use mathlib.Core.Bool.{Bool, true, false, cond}
-use mathlib.Core.List.{List}
+use mathlib.Core.List.{List, append-nil}
 use native.Mathlib.Omega.{arith}
-use lib.Dec.{eqb}
+use lib.Dec.{eqb, leb}
 use lib.ListN.{length, getD, take, length-take, length-map}
-use lib.Seq.{getD-take}
-use borrow.Author.Tests.{le-leb, lt-leb}
-use Rattle.local_format.specs.Out.{ok, refuse}
+use lib.Seq.{getD-take, take-all, length-take-le}
+use borrow.Author.Tests.{le-leb, lt-leb, leb-true}
+use Rattle.local_format.specs.Out.{Out, ok, refuse}
 use Rattle.local_format.specs.Tag.{equal}
 use Rattle.local_format.specs.Text.{bytesAt}
-use Rattle.local_format.proofs.OutLaws.{never, ok-same}
+use Rattle.local_format.proofs.OutLaws.{ok-same, checked-ok}
 use Rattle.lent_table.specs.Lent.{lent}
 use Rattle.lent_table.proofs.Laws.{front-lent}
 use Rattle.derivation.specs.Friendly as friendly
 use Rattle.evr0_section.specs.Rows.{startsOf}
 use Rattle.evr0_section.specs.Section.{Section, sectionOf}
 use Rattle.evr0_read.specs.Listing.{payloadTo}
-use Rattle.evr0_compare.specs.Compare.{Standing, standings, Listed, payload, Comparison, listOf, pairOf, codes, Tally, tallyOf, Totals}
+use Rattle.evr0_compare.specs.Compare.{Standing, standings, Listed, payload, sourceSetAt, Comparison, listOf, pairOf, codes, Tally, tallyOf, Totals}
 use Rattle.evr0_compare.specs.Merge.{SideThere, Views, Lists}
 use Rattle.evr0_compare.proofs.Compare.{totals}
 use Rattle.evr0_compare.proofs.CompareSections.{source-set-at}
 use Rattle.evr0_compare.proofs.Sides as sides
-use Rattle.evr0_compare.proofs.Merge.{list-there, tally-is}
+use Rattle.evr0_compare.proofs.Merge.{list-there, list-full, tally-is}
 use Rattle.authorised_table.specs.Answer.{flagsOf}
 use Rattle.authorised_table.proofs.FlagLaws.{flags-stated}
-use Rattle.section_pair.specs.Steps.{Told, inputIn, pairIn, Holds}
+use Rattle.section_pair.specs.Steps.{Told, inputIn, pairIn, verdictsLeft, Holds}
 
 -- ---- One section
 module _ {p : List ℕ} {cursor end count : ℕ} {table flags : List ℕ} (a : Told p cursor end count table flags) where
@@ -95,18 +95,25 @@ module _ {p : List ℕ} {i e n : ℕ} {ps fs : List ℕ} {q : List ℕ} {j f m :
     unfolding pairOf
     is-74 entries z = rw (sets ∙ z)
 
-    pub differ : (before after : List ℕ) → r ≡ false → Holds a b before after (refuse 74 (j + 12))
-    differ before after z =
+    pub differ : (before : List ℕ) → r ≡ false → Holds a b before before (refuse 74 (j + 12))
+    differ before z =
         let is : pairIn a b (length before) ≡ refuse 74 (j + 12) = is-74 (length before) z in
-        record { answer = rw is; table = λ c h. absurd (never (sym is ∙ h)) }
+        record { answer = rw is; table = rw (sets ∙ z) }
 
     module _ (z : r ≡ true) {before mid : List ℕ} {entries same : ℕ} (listed : Lists L before mid entries same) where
       is-61 : length before < entries → pairIn a b (length before) ≡ refuse 61 0
       unfolding pairOf
       is-61 h = rw (sets ∙ z, lt-leb (length L) (length before) (omega (arith, listed .size)))
 
-      pub short : (after : List ℕ) → length before < entries → Holds a b before after (refuse 61 0)
-      short after h = record { answer = rw (is-61 h); table = λ c g. absurd (never (sym (is-61 h) ∙ g)) }
+      total : length (codes L) ≡ entries
+      total = length-map L _ ∙ sym (listed .size)
+
+      pub short : length before < entries → Holds a b before mid (refuse 61 0)
+      short h =
+          let full : mid ≡ take (length before) (codes L) = list-full (xs a) (xs b) listed (omega arith) in
+          let n : length (take (length before) (codes L)) ≡ length before = length-take-le (length before) (codes L) (omega (arith, total)) in
+          let none : length before - length before ≡ 0 = omega arith in
+          record { answer = rw (is-61 h); table = rw (sets ∙ z, n, none, append-nil (take (length before) (codes L))) full }
 
       -- what the totals may be counted from
       pub counts-add : (n + m < 4294967296) × (n ≤ entries) × (m ≤ entries) × (entries + same ≤ n + m)
@@ -126,15 +133,23 @@ module _ {p : List ℕ} {i e n : ℕ} {ps fs : List ℕ} {q : List ℕ} {j f m :
         tally : tallyOf L ≡ record { agreed = same; contradicted = n + m - entries - same; firstOnly = entries - m; secondOnly = entries - n }
         tally = tally-is (xs a) (xs b) listed ∙ rw (counted a, counted b)
 
-        total : length (codes L) ≡ entries
-        total = length-map L _ ∙ sym (listed .size)
-
         pub fits : {after : List ℕ} {r : Tally} → length mid ≡ length before → after ≡ lent (length mid) (take entries mid)
             → r ≡ record { agreed = same; contradicted = n + m - entries - same; firstOnly = entries - m; secondOnly = entries - n }
             → Holds a b before after (ok r)
         fits kept cleared counts =
             record {
               answer = ap ok (counts ∙ sym tally) ∙ sym (rw is-held);
-              table = λ c g. cleared ∙ front-lent entries (length before) mid (codes L) kept total (rw total (list-there (xs a) (xs b) listed h))
-                  ∙ ap (λ (c : Comparison). lent (length before) (codes (c .list))) (ok-same (sym is-held ∙ g));
+              table = rw (sets ∙ z, take-all (length before) (codes L) (omega (arith, total)))
+                  (cleared ∙ front-lent entries (length before) mid (codes L) kept total (rw total (list-there (xs a) (xs b) listed h)));
             }
+
+  -- where nothing is refused, the table holds the list and zeros past it
+  pub list-held : {before after : List ℕ} {r : Out Tally} → Holds a b before after r → (c : Comparison) → pairIn a b (length before) ≡ ok c
+      → after ≡ lent (length before) (codes (c .list))
+  unfolding pairOf
+  list-held {before} holds c h =
+      let (same, h1) = checked-ok (equal (a .section .tables .head .sourceSet) (b .section .tables .head .sourceSet)) 74 (sourceSetAt (inputIn b)) _ h in
+      let (fit, h2) = checked-ok (leb (length L) (length before)) 61 0 _ h1 in
+      let few : length (codes L) ≤ length before = rw (length-map L _) (leb-true (length L) (length before) fit) in
+      let whole : verdictsLeft a b before ≡ lent (length before) (codes L) = rw (same, take-all (length before) (codes L) few) in
+      holds .table ∙ whole ∙ ap (λ (c : Comparison). lent (length before) (codes (c .list))) (ok-same h2)

@@ -1,21 +1,17 @@
 -- The tables of starts before they are cleared past the starts.
 use mathlib.Core.Path.{_≡_}
 use Prim.Native.Nat.{ℕ}
-use mathlib.Core.List.{List, [], _++_}
-use lib.ListN.{length, drop}
+use mathlib.Core.List.{List, []}
+use lib.ListN.{length}
 use Rattle.local_format.specs.Out.{Out, ok, refused}
-use Rattle.lent_table.specs.Lent.{lent}
+use Rattle.lent_table.specs.Lent.{lent, laid}
 use Rattle.semcode_records.specs.Records.{Table}
 use Rattle.semcode_decode.specs.Block.{Block}
 use Rattle.semcode_decode.specs.Layout.{Layout, layout, startsOf, stringsIn, pathsIn}
 
--- the starts, and past them what stood there
-abbrev pub laid : {A : Type 0} → Table A → List ℕ → List ℕ
-laid t before = startsOf t ++ drop (length (startsOf t)) before
-
--- a refusal leaves zeros
+-- the starts, and past them what stood there; a refusal leaves zeros
 abbrev pub leftBy : {A : Type 0} → Out (Table A) → List ℕ → List ℕ
-leftBy (ok t) before = laid t before
+leftBy (ok t) before = laid (startsOf t) before
 leftBy (refused r) before = lent (length before) []
 
 -- this is told of a block, and these tables of starts are left
@@ -26,7 +22,7 @@ pub record Begins (block : Out Block) (strings paths strings′ paths′ : List 
 
 -- before they are cleared: of what a refusal leaves nothing is said
 abbrev pub Lies : {A : Type 0} → Out (Table A) → List ℕ → List ℕ → Type 0
-Lies (ok t) before after = after ≡ laid t before
+Lies (ok t) before after = after ≡ laid (startsOf t) before
 Lies (refused r) before after = Unit {0}
 
 pub record Lays (block : Out Block) (strings paths strings′ paths′ : List ℕ) (told : Out Layout) : Type 0 where

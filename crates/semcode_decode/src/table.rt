@@ -7,9 +7,9 @@ use local_format::tag::tag_at;
 use local_format::text::Text;
 use local_format::text::read_string;
 use local_format::text::text_refusal;
-use semcode_records::path::Path;
-use semcode_records::path::path_refusal;
-use semcode_records::path::read_path;
+use semcode_records::component::Components;
+use semcode_records::component::components_refusal;
+use semcode_records::path::path_end;
 use semcode_records::symbol::read_debug_symbol;
 use semcode_records::symbol::symbol_refusal;
 ghost use mathlib.Core.Path.{_≡_};
@@ -212,12 +212,12 @@ fn fill_paths(bytes: &[u8], at: usize, count: u16, header_rev: u16, paths: &mut 
     let mut cursor = at;
     let mut i: usize = 0;
     while i < wanted {
-        let answer = read_path(bytes, cursor, header_rev);
-        let Path::Whole { path: _, next } = answer else {
-            return Table::Refused(path_refusal(answer));
+        let answer = path_end(bytes, cursor, header_rev);
+        let Components::Whole { end } = answer else {
+            return Table::Refused(components_refusal(answer));
         };
         paths[i] = cursor as u64;
-        cursor = next;
+        cursor = end;
         i += 1;
     }
     Table::Whole {

@@ -1,4 +1,5 @@
 pub mod RecordsLaws
+pub mod FrontLaws
 pub mod PathLaws
 pub mod SizeLaws
 pub mod SymbolLaws

@@ -6,8 +6,17 @@ use native.Mathlib.Numerals.{add-one}
 use lib.ListN.{length}
 use Rattle.local_format.specs.Refusal.{Refusal}
 use Rattle.local_format.specs.Out.{Out, ok, refused, _>>=_}
-use Rattle.local_format.proofs.OutLaws.{bind-ok, ok-same}
-use Rattle.semcode_records.specs.Records.{Taken, Entry, Table, noRecords, before, records, ends}
+use Rattle.local_format.proofs.OutLaws.{never, refused-same, bind-ok, ok-same}
+use Rattle.semcode_records.specs.Records.{Taken, taken, nextOf, Entry, Table, noRecords, before, records, ends}
+
+-- what the place after a record says of the record
+pub next-refused : {A : Type 0} (x : Out (Taken A)) {r : Refusal} → nextOf x ≡ refused r → x ≡ refused r
+next-refused (ok t) e = absurd (never (sym e))
+next-refused (refused q) e = ap refused (refused-same e)
+
+pub next-read : {A : Type 0} (x : Out (Taken A)) {n : ℕ} → nextOf x ≡ ok n → (a : A) × (x ≡ taken a n)
+next-read (ok t) e = (t .value, ap (taken (t .value)) (ok-same e))
+next-read (refused r) e = absurd (never e)
 
 pub ends-before : {A : Type 0} (e : Entry A) (x : Out (Table A)) → ends (x >>= λ t. ok (before e t)) ≡ ends x
 ends-before e (ok t) = refl

@@ -1,8 +1,8 @@
 -- A component of which 7 bytes are there is passed by its size.
 use mathlib.Core.Path.{_≡_, refl, sym, _∙_}
-use Prim.Native.Nat.{ℕ, zero, suc, _+_, _*_, _/_, _%_, _^_, _≤_, _<_}
+use Prim.Native.Nat.{ℕ, zero, suc, _+_, _≤_, _<_}
 use native.Mathlib.Omega.{arith}
-use mathlib.Core.Bool.{Bool, true, false, cond}
+use mathlib.Core.Bool.{Bool, true, false}
 use mathlib.Core.List.{List}
 use lib.Dec.{leb, eqb}
 use borrow.Author.Tests.{lt-leb}
@@ -79,15 +79,6 @@ module _ (revision event : ℕ) (s : List ℕ) (at : ℕ) (there : at + 7 ≤ le
 
   pub sized : (n : ℕ) → n ≡ sizeIn (sizes revision event) (getD s at 0) → 0 < n → Sized revision event s at n
   sized n e h = by-size (getD s at 0) n _ _ (sym (le-1 s at)) refl refl e h
-
-pub tuple-size : (revision event : ℕ) → sizeIn (sizes revision event) 0 ≡ 3
-unfolding sizes sizeIn
-tuple-size revision event = go (leb 22 revision) (eqb event 1)
-  where
-    go : (a b : Bool) → cond a (cond b 0x05000503 0x05070503) 0x0503 / (2 ^ (8 * 0)) % 256 ≡ 3
-    go true true = refl
-    go true false = refl
-    go false b = refl
 
 -- it ends after its size
 pub sized-end : {revision event : ℕ} {s : List ℕ} {at n : ℕ} → Sized revision event s at n

@@ -11,6 +11,12 @@ pub record Taken (A : Type 0) : Type 0 where
 abbrev pub taken : {A : Type 0} → A → ℕ → Out (Taken A)
 taken value next = ok (record { value = value; next = next })
 
+-- the place after it
+abbrev pub nextOf : {A : Type 0} → Out (Taken A) → Out ℕ
+nextOf x = do
+  t ← x
+  ok (t .next)
+
 -- a record of a table: the place of its first byte, what it holds, and the place after it
 pub record Entry (A : Type 0) : Type 0 where
   pub start : ℕ

@@ -236,14 +236,14 @@ pub fn component_size(table: u64, component_kind: u8) -> usize
 }
 
 // The components that are left, and where they start.
-struct Passed {
-    left: u16,
-    next: usize,
+pub struct Passed {
+    pub left: u16,
+    pub next: usize,
 }
 
-// Passes components while one of any kind would be there whole. A size is looked up where the kind changes, with no branch for each kind; where
-// it does not, the next component is not waited for.
-fn pass_components(
+// Passes components while one of any kind would be there whole. A size is looked up for the first and where the kind changes, with no branch for each
+// kind; where it does not, the next component is not waited for.
+pub fn pass_components(
     bytes: &[u8],
     at: usize,
     component_count: u16,
@@ -260,9 +260,15 @@ fn pass_components(
         return Passed { left, next: cursor };
     }
     let last = bytes.len() - 7;
+    if last < cursor {
+        return Passed { left, next: cursor };
+    }
     let table = component_sizes(header_rev, kind);
-    let mut known = OWNERSHIP_PATH_COMPONENT_TUPLE_INDEX;
+    let mut known = bytes[cursor];
     let mut size = component_size(table, known);
+    if size == 0 {
+        return Passed { left, next: cursor };
+    }
     while 0 < left {
         if last < cursor {
             return Passed { left, next: cursor };

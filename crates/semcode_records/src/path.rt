@@ -4,19 +4,24 @@ use crate::component::OWNERSHIP_EVENT_KIND_BORROW;
 use crate::component::OWNERSHIP_EVENT_KIND_WRITE;
 use crate::component::components_end;
 use crate::component::components_refusal;
+use crate::component::pass_components;
 use local_format::field::U8;
 use local_format::field::U16;
 use local_format::field::U32;
 use local_format::field::read_u8;
 use local_format::field::read_u16_le;
 use local_format::field::read_u32_le;
+use local_format::field::u16_at;
 use local_format::refusal::Refusal;
 use local_format::refusal::refuse;
 ghost use mathlib.Core.Path.{_≡_};
+ghost use Prim.Native.Nat.{_+_, _≤_, _<_};
+ghost use Rattle.local_format.specs.Out.{ok};
 ghost use Rattle.local_format.specs.Maps.{refusalOf, refusalOut};
-ghost use Rattle.semcode_records.specs.Maps.{activationIs, executionIs, eventIs, eventOut, frontOut, pathOut};
-ghost use Rattle.semcode_records.specs.Records.{taken};
-ghost use Rattle.semcode_records.specs.Path.{borrowed, kindOfEvent, written, activationAt, executionAt, eventOf, frontAt, headAt};
+ghost use Rattle.semcode_records.specs.Maps.{activationIs, executionIs, eventIs, eventOut, frontOut, pathOut, componentsOut};
+ghost use Rattle.semcode_records.specs.Records.{taken, nextOf};
+ghost use Rattle.semcode_records.specs.Sizes.{siteSize};
+ghost use Rattle.semcode_records.specs.Path.{borrowed, kindOfEvent, written, activationAt, executionAt, eventOf, frontAt, pathAt, headAt};
 
 pub const SEMCODE_OWNERSHIP_ANCHOR_MIN_REVISION: u16 = 21;
 
@@ -302,4 +307,57 @@ pub fn read_path(bytes: &[u8], at: usize, header_rev: u16) -> Path
         },
         next: end,
     }
+}
+
+// ---- The place after a path
+
+// The bytes of a site behind an event's kind and mode: a borrow on frame entry has none.
+pub fn site_size(kind: u8, mode: u8) -> usize
+    requires { ⌜ kind + mode ≤ 2 ⌝ }
+    ensures { λ r. ⌜ (r ≡ siteSize kind mode) × (r ≤ 4) ⌝ }
+{
+    if kind + mode == 0 { 0 } else { 4 }
+}
+
+// The place after a path, or 0 where it is not seen so: where modes stand, and each part of any length would be there whole. No branch is for the
+// event or for a component's kind.
+fn seen_end(bytes: &[u8], at: usize, header_rev: u16) -> usize
+    ensures { λ r. ⌜ (0 < r → nextOf (pathAt «header_rev» (now (bytes .entry)) at) ≡ ok r) ⌝ }
+{
+    if header_rev < SEMCODE_OWNERSHIP_ANCHOR_MIN_REVISION {
+        return 0;
+    }
+    if bytes.len() < 12 {
+        return 0;
+    }
+    if bytes.len() - 12 < at {
+        return 0;
+    }
+    let kind = bytes[at];
+    let mode = bytes[at + 1];
+    if 1 < kind {
+        return 0;
+    }
+    if 1 < mode {
+        return 0;
+    }
+    let size = site_size(kind, mode);
+    let count = u16_at(bytes, at + 6 + size);
+    let passed = pass_components(bytes, at + 8 + size, count, header_rev, kind);
+    if passed.left == 0 { passed.next } else { 0 }
+}
+
+// The place after a path.
+pub fn path_end(bytes: &[u8], at: usize, header_rev: u16) -> Components
+    ensures { λ r. ⌜ componentsOut r ≡ nextOf (pathAt «header_rev» (now (bytes .entry)) at) ⌝ }
+{
+    let seen = seen_end(bytes, at, header_rev);
+    if 0 < seen {
+        return Components::Whole { end: seen };
+    }
+    let answer = read_path(bytes, at, header_rev);
+    let Path::Whole { path: _, next } = answer else {
+        return Components::Refused(path_refusal(answer));
+    };
+    Components::Whole { end: next }
 }

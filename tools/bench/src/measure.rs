@@ -1,4 +1,5 @@
-//! Times of a row: both sides by turns, the best of several samples each.
+//! Times of a row: both sides by turns, the best of several samples each. The samples of both sides last equally long, so that what else the
+//! machine does meets them alike: of longer samples fewer are undisturbed.
 
 use crate::rows::{Row, Side};
 use std::time::{Duration, Instant};
@@ -19,39 +20,40 @@ impl Measured {
 }
 
 pub fn measure(row: &Row) -> Measured {
-    let count = calls(row);
+    let results = [Side::Rust, Side::Port].map(|side| row.sum(side, 1));
+    assert_eq!(results[0], results[1], "{}: the results differ", row.name);
+    let [rust, port] = counts(row);
     let mut best = Measured {
         rust: f64::INFINITY,
         port: f64::INFINITY,
     };
     for _ in 0..SAMPLES {
-        let (rust, rust_sum) = sample(row, Side::Rust, count);
-        let (port, port_sum) = sample(row, Side::Port, count);
-        assert_eq!(rust_sum, port_sum, "{}: the results differ", row.name);
-        best.rust = best.rust.min(rust);
-        best.port = best.port.min(port);
+        best.rust = best.rust.min(sample(row, Side::Rust, rust));
+        best.port = best.port.min(sample(row, Side::Port, port));
     }
     best
 }
 
-/// How many calls of the slower side fill a sample; both are warm then.
-fn calls(row: &Row) -> u64 {
-    let mut count = 1;
-    loop {
-        let longest = [Side::Rust, Side::Port]
-            .map(|side| sample(row, side, count).0)
-            .into_iter()
-            .fold(0.0, f64::max);
-        if longest * count as f64 >= SAMPLE.as_nanos() as f64 {
-            return count;
-        }
-        count *= 2;
-    }
+/// How many calls of each side fill a sample, which lasts as long as one call of the slower side at least.
+fn counts(row: &Row) -> [u64; 2] {
+    let calls = [Side::Rust, Side::Port].map(|side| roughly(row, side));
+    let length = calls.into_iter().fold(SAMPLE.as_nanos() as f64, f64::max);
+    calls.map(|call| (length / call).round() as u64)
 }
 
-/// Nanoseconds a call, and the sum of the summaries.
-fn sample(row: &Row, side: Side, count: u64) -> (f64, u64) {
+/// Nanoseconds a call, the best of ever more calls until they fill a sample; the side is warm then.
+fn roughly(row: &Row, side: Side) -> f64 {
+    let (mut count, mut best) = (1, f64::INFINITY);
+    while best * (count as f64) < 2.0 * SAMPLE.as_nanos() as f64 || count < 4 {
+        best = sample(row, side, count).min(best);
+        count *= 2;
+    }
+    best
+}
+
+/// Nanoseconds a call.
+fn sample(row: &Row, side: Side, count: u64) -> f64 {
     let start = Instant::now();
-    let sum = row.sum(side, count);
-    (start.elapsed().as_nanos() as f64 / count as f64, sum)
+    row.sum(side, count);
+    start.elapsed().as_nanos() as f64 / count as f64
 }

@@ -97,15 +97,16 @@ pub struct BlockLists<'a> {
     pub families: &'a [u8],
 }
 
-/// A block: `Fills` in crates/semcode_symbols/specs/Symbols.antt and `Decodes` in crates/semcode_decode/specs/Layout.antt say what the list and the
-/// tables hold.
-#[inline]
-pub fn parse_string_table_debug_and_ownership_in<'a>(
+/// What `then` makes of a block: `Fills` in crates/semcode_symbols/specs/Symbols.antt and `Decodes` in crates/semcode_decode/specs/Layout.antt say
+/// what the list and the tables hold. The answer is not moved, since a copy would wait for it to be written.
+#[inline(always)]
+pub fn parse_string_table_debug_and_ownership_in<T>(
     base_offset: usize,
     code: &[u8],
     header_rev: u16,
-    room: BlockRoom<'a>,
-) -> (Block, BlockLists<'a>) {
+    room: BlockRoom,
+    then: impl FnOnce(&Block, &BlockLists) -> T,
+) -> T {
     let BlockRoom {
         symbols,
         strings,
@@ -121,5 +122,5 @@ pub fn parse_string_table_debug_and_ownership_in<'a>(
             families: families.assume_init_ref(),
         }
     };
-    (block, lists)
+    then(&block, &lists)
 }

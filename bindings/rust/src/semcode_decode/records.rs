@@ -16,6 +16,7 @@ use std::mem::MaybeUninit;
 
 impl Block<'_> {
     /// An accepted block: every record is read at its place.
+    #[inline(always)]
     pub fn records(
         &self,
         answer: &raw::Block,
@@ -23,28 +24,33 @@ impl Block<'_> {
     ) -> StringTableDebugOwnershipParse {
         let code = self.code;
         let starts = &lists.paths[..answer.path_count];
-        let [borrowed_paths, write_paths] = self.paths(starts, answer.instr_start_offset);
+        let mut paths = [Vec::new(), Vec::new()];
+        self.paths(starts, answer.instr_start_offset, &mut paths);
+        let strings = records(
+            code,
+            &lists.strings[..answer.string_count],
+            calls::text_words_in,
+            |[start, len]| accepted_text(code, start as usize, len as usize),
+        );
+        let debug_symbols = lists.symbols[..answer.debug_symbol_count]
+            .iter()
+            .map(|s| DecodedDebugSymbol {
+                pc: s.pc,
+                line: s.line,
+                col: s.col,
+            })
+            .collect();
+        let signature = signature(answer, lists.families);
+        let [borrowed_paths, write_paths] = paths; // copied last, since a copy waits for what was just written
         StringTableDebugOwnershipParse {
-            strings: records(
-                code,
-                &lists.strings[..answer.string_count],
-                calls::text_words_in,
-                |[start, len]| accepted_text(code, start as usize, len as usize),
-            ),
-            debug_symbols: lists.symbols[..answer.debug_symbol_count]
-                .iter()
-                .map(|s| DecodedDebugSymbol {
-                    pc: s.pc,
-                    line: s.line,
-                    col: s.col,
-                })
-                .collect(),
+            strings,
+            debug_symbols,
             borrowed_paths,
             write_paths,
             has_ownership_section: answer.has_ownership_section,
             has_debug_section: answer.has_debug_section,
             string_table_end_offset: answer.string_table_end_offset,
-            signature: signature(answer, lists.families),
+            signature,
             instr_start_offset: answer.instr_start_offset,
         }
     }
@@ -52,21 +58,16 @@ impl Block<'_> {
     /// The paths that start at these places and have ended at `end`, those that are borrowed and those that are written: by their words, some at
     /// a time; where they are long, all at once.
     #[inline]
-    fn paths(&self, starts: &[u64], end: usize) -> [Vec<DecodedAccessPath>; 2] {
-        let mut paths = [
-            Vec::with_capacity(starts.len()),
-            Vec::with_capacity(starts.len()),
-        ];
+    fn paths(&self, starts: &[u64], end: usize, paths: &mut [Vec<DecodedAccessPath>; 2]) {
         if let Some(first) = starts.first() {
             let most = (end - *first as usize) / 3 + 4 * starts.len(); // a component has 3 bytes at least
             if most > 80 * starts.len() {
                 let mut room = Vec::with_capacity(most);
-                self.paths_in(starts, room.spare_capacity_mut(), &mut paths);
+                self.paths_in(starts, room.spare_capacity_mut(), paths);
             } else {
-                self.paths_in(starts, &mut room()[..most.min(80)], &mut paths);
+                self.paths_in(starts, &mut room()[..most.min(80)], paths);
             }
         }
-        paths
     }
 
     /// One that has more words than there is room for is read by itself.
@@ -79,7 +80,7 @@ impl Block<'_> {
         while let Some(first) = starts.first() {
             let (done, mut words) = calls::path_words_in(self.code, self.header_rev, starts, room);
             for _ in 0..done {
-                words = push_path(words, paths);
+                words = push_path(words, starts.len(), paths);
             }
             starts = &starts[done..];
             if done == 0 {
@@ -94,7 +95,7 @@ impl Block<'_> {
         let read = calls::read_path(self.code, start as usize, self.header_rev);
         let mut words = vec![0; 4 + read.component_count as usize];
         whole(calls::path_words(self.code, self.header_rev, &[start], &mut words) == 1);
-        push_path(&words, paths);
+        push_path(&words, 1, paths);
     }
 
     pub fn string(&self, read: raw::Text) -> Read<String> {
@@ -128,9 +129,13 @@ impl Block<'_> {
 }
 
 /// The path of the first of these words, to those that are borrowed or to those that are written, and the words after it. Events are mixed, so
-/// that no branch for them is foreseen.
+/// that no branch for them is foreseen. The first of either makes room for all that are left.
 #[inline(always)]
-fn push_path<'a>(words: &'a [u64], paths: &mut [Vec<DecodedAccessPath>; 2]) -> &'a [u64] {
+fn push_path<'a>(
+    words: &'a [u64],
+    left: usize,
+    paths: &mut [Vec<DecodedAccessPath>; 2],
+) -> &'a [u64] {
     let [number, site, root, count, rest @ ..] = words else {
         panic!("a path has 4 words");
     };
@@ -139,7 +144,11 @@ fn push_path<'a>(words: &'a [u64], paths: &mut [Vec<DecodedAccessPath>; 2]) -> &
         event: *number as u8,
         site: *site as u32,
     });
-    paths[kind as usize].push(DecodedAccessPath {
+    let paths = &mut paths[kind as usize];
+    if paths.capacity() == 0 {
+        *paths = Vec::with_capacity(left);
+    }
+    paths.push(DecodedAccessPath {
         root_symbol_id: *root as u32,
         components: components.iter().map(|word| of_word(*word)).collect(),
         activation,

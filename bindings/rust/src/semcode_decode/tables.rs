@@ -2,9 +2,9 @@
 
 use super::{
     Block, MAX_DEBUG_SYMBOLS_PER_FUNCTION, MAX_SIGNATURE_PARAMETERS_PER_FUNCTION,
-    MAX_STRINGS_PER_FUNCTION,
+    MAX_STRINGS_PER_FUNCTION, StringTableDebugOwnershipParse,
 };
-use crate::calls::{self, BlockLists, BlockRoom, BlockTables};
+use crate::calls::{self, BlockRoom, BlockTables};
 use crate::raw::{DebugSymbol, Refusal};
 use crate::read::Read;
 use std::mem::MaybeUninit;
@@ -15,36 +15,15 @@ pub struct Lent<'a> {
     pub starts: BlockTables<'a>,
 }
 
-impl Lent<'_> {
-    /// As a call has left them.
-    pub fn lists(&self) -> BlockLists<'_> {
-        BlockLists {
-            symbols: self.symbols,
-            strings: self.starts.strings,
-            paths: self.starts.paths,
-            families: self.starts.families,
-        }
-    }
+/// How many strings, symbols, paths and families there is room for first. All of it is written in each call, so it is little.
+const FEW: usize = 8;
 
-    /// The same, for one call.
-    pub fn again(&mut self) -> Lent<'_> {
-        Lent {
-            symbols: self.symbols,
-            starts: BlockTables {
-                strings: self.starts.strings,
-                paths: self.starts.paths,
-                families: self.starts.families,
-            },
-        }
-    }
-}
+/// A symbol takes more time than an entry of another table.
+const FEW_SYMBOLS: usize = 4;
 
-/// How many strings, symbols, paths and families there is room for first.
-const FEW: usize = 16;
-
-/// Room for a few of each. A symbol takes more time than an entry of another table, also where there is none.
+/// Room for a few of each.
 pub struct Few {
-    symbols: [MaybeUninit<DebugSymbol>; FEW / 2],
+    symbols: [MaybeUninit<DebugSymbol>; FEW_SYMBOLS],
     strings: [MaybeUninit<u64>; FEW],
     paths: [MaybeUninit<u64>; FEW],
     families: [MaybeUninit<u8>; FEW],
@@ -54,7 +33,7 @@ impl Few {
     #[inline]
     pub fn new() -> Self {
         Few {
-            symbols: [MaybeUninit::uninit(); FEW / 2],
+            symbols: [MaybeUninit::uninit(); FEW_SYMBOLS],
             strings: [MaybeUninit::uninit(); FEW],
             paths: [MaybeUninit::uninit(); FEW],
             families: [MaybeUninit::uninit(); FEW],
@@ -72,13 +51,53 @@ impl Few {
     }
 }
 
+/// How many of each there is room for, where a few were too few.
+struct Rooms {
+    symbols: usize,
+    strings: usize,
+    paths: usize,
+    families: usize,
+}
+
+impl Rooms {
+    fn few() -> Self {
+        Rooms {
+            symbols: FEW_SYMBOLS,
+            strings: FEW,
+            paths: FEW,
+            families: FEW,
+        }
+    }
+
+    /// Room for the count that was refused with 61. It ends where the refusal stands, and behind the tag of its section; that of the strings has
+    /// no tag, and ends at place 2. Where the place is not known, room for the longest of each.
+    fn widen(&mut self, block: &Block, refused: Refusal) {
+        let count = block.count_before(refused);
+        let tag = |place: usize, tag| calls::tag_at(block.code, place - 6, tag);
+        match block.place(refused) {
+            Some(2) => self.strings = count,
+            Some(place) if tag(place, b"DBG0") => self.symbols = count,
+            Some(place) if tag(place, b"OWN0") => self.paths = count,
+            Some(_) => self.families = count,
+            None => {
+                *self = Rooms {
+                    symbols: MAX_DEBUG_SYMBOLS_PER_FUNCTION,
+                    strings: MAX_STRINGS_PER_FUNCTION,
+                    paths: u16::MAX as usize,
+                    families: MAX_SIGNATURE_PARAMETERS_PER_FUNCTION,
+                }
+            }
+        }
+    }
+}
+
 impl Block<'_> {
     /// The answer of a call that lends tables. Few entries are lent first; where a count is more, and the call refuses with 61, it is made
     /// again with room for that count. So no answer is 61.
     #[inline]
     pub fn lend<T>(&self, mut call: impl FnMut(Lent) -> Read<T>) -> Read<T> {
-        let (mut symbols, mut strings, mut paths, mut families) =
-            ([DebugSymbol::default(); FEW], [0; FEW], [0; FEW], [0; FEW]);
+        let mut symbols = [DebugSymbol::default(); FEW_SYMBOLS];
+        let (mut strings, mut paths, mut families) = ([0; FEW], [0; FEW], [0; FEW]);
         let answer = call(Lent {
             symbols: &mut symbols,
             starts: BlockTables {
@@ -93,27 +112,18 @@ impl Block<'_> {
         }
     }
 
-    /// The count of the strings, which ends at place 2, or one of the others, which may be any; each refusal is of a later one.
+    /// Each refusal is of a later count.
     #[cold]
-    pub fn lend_more<T>(&self, refused: Refusal, mut call: impl FnMut(Lent) -> Read<T>) -> Read<T> {
-        let (mut refused, mut strings, mut others) = (refused, FEW, FEW);
-        let mut starts = [0; MAX_STRINGS_PER_FUNCTION];
+    fn lend_more<T>(&self, refused: Refusal, mut call: impl FnMut(Lent) -> Read<T>) -> Read<T> {
+        let (mut refused, mut rooms) = (refused, Rooms::few());
         loop {
-            let count = self.count_before(refused);
-            match self.place(refused) {
-                Some(2) => strings = count,
-                Some(_) => others = others.max(count),
-                None => (strings, others) = (count, count),
-            }
+            rooms.widen(self, refused);
             let answer = call(Lent {
-                symbols: &mut vec![
-                    DebugSymbol::default();
-                    others.min(MAX_DEBUG_SYMBOLS_PER_FUNCTION)
-                ],
+                symbols: &mut vec![DebugSymbol::default(); rooms.symbols],
                 starts: BlockTables {
-                    strings: &mut starts[..strings.min(MAX_STRINGS_PER_FUNCTION)],
-                    paths: &mut vec![0; others],
-                    families: &mut vec![0; others.min(MAX_SIGNATURE_PARAMETERS_PER_FUNCTION)],
+                    strings: &mut vec![0; rooms.strings],
+                    paths: &mut vec![0; rooms.paths],
+                    families: &mut vec![0; rooms.families],
                 },
             });
             match answer {
@@ -121,6 +131,50 @@ impl Block<'_> {
                 answer => return answer,
             }
         }
+    }
+
+    /// The same of a block that was refused so, in room that need not be written before.
+    #[cold]
+    #[inline(never)]
+    pub fn parse_more(&self, refused: Refusal) -> Read<StringTableDebugOwnershipParse> {
+        let (mut refused, mut rooms) = (refused, Rooms::few());
+        while refused.number == 61 {
+            rooms.widen(self, refused);
+            let mut symbols = Vec::with_capacity(rooms.symbols);
+            let mut strings = Vec::with_capacity(rooms.strings);
+            let mut paths = Vec::with_capacity(rooms.paths);
+            let mut families = Vec::with_capacity(rooms.families);
+            let room = BlockRoom {
+                symbols: &mut symbols.spare_capacity_mut()[..rooms.symbols],
+                strings: &mut strings.spare_capacity_mut()[..rooms.strings],
+                paths: &mut paths.spare_capacity_mut()[..rooms.paths],
+                families: &mut families.spare_capacity_mut()[..rooms.families],
+            };
+            match self.parse_in(room, Err) {
+                Err(refusal) => refused = refusal,
+                parse => return parse,
+            }
+        }
+        Err(refused)
+    }
+
+    /// The block with its records, or what follows from its refusal.
+    #[inline(always)]
+    pub fn parse_in<E>(
+        &self,
+        room: BlockRoom,
+        refused: impl FnOnce(Refusal) -> Result<StringTableDebugOwnershipParse, E>,
+    ) -> Result<StringTableDebugOwnershipParse, E> {
+        calls::parse_string_table_debug_and_ownership_in(
+            self.base_offset,
+            self.code,
+            self.header_rev,
+            room,
+            |answer, lists| match answer.accepted {
+                true => Ok(self.records(answer, lists)),
+                false => refused(answer.refusal),
+            },
+        )
     }
 
     /// Where in the block a refusal stands; an offset that is held at 2^64 - 1 does not say.

@@ -2,8 +2,9 @@
 
 use falgnust::semcode_decode::{
     CallableSignature, CallableValueFamily, DecodeError, DecodedAccessPath,
-    DecodedBorrowActivation, DecodedEvent, component_number,
-    parse_string_table_debug_and_ownership, path_number, string_number, symbol_number,
+    DecodedAccessPathComponent, DecodedBorrowActivation, DecodedEvent, DecodedWriteExecution,
+    component_number, parse_string_table_debug_and_ownership, path_number, string_number,
+    symbol_number,
 };
 
 const BASES: [usize; 3] = [0, 1000, usize::MAX - 3];
@@ -140,6 +141,53 @@ fn numbers_that_are_not_there() {
         assert_eq!(symbol_number(0, block, 21, past), Ok(None));
         assert_eq!(component_number(0, block, 21, 0, past), Ok(None));
         assert_eq!(path_number(0, block, 21, past.max(1)), Ok(None));
+    }
+}
+
+/// The block of these many strings, symbols, paths and families.
+fn with(counts: [usize; 4]) -> Vec<u8> {
+    let [strings, symbols, paths, families] = counts.map(|count| (count as u16).to_le_bytes());
+    [
+        &strings[..],
+        &b"\x01\x00s".repeat(counts[0]),
+        b"DBG0",
+        &symbols,
+        &b"\x07\x00\x00\x00\x08\x00\x00\x00\x09\x00".repeat(counts[1]),
+        b"OWN0",
+        &paths,
+        &b"\x01\x01\x05\x00\x00\x00\x06\x00\x00\x00\x01\x00\x00\x04\x00".repeat(counts[2]),
+        b"SIG0",
+        &families,
+        &b"\x0f".repeat(counts[3]),
+    ]
+    .concat()
+}
+
+/// None of each, or more than there is room for first, at bases where a refusal for a short table says its place and where it does not.
+#[test]
+fn more_than_a_few() {
+    for mask in 0..16 {
+        let counts = [0, 1, 2, 3].map(|table| 100 * (mask >> table & 1));
+        let code = with(counts);
+        for base in BASES {
+            let block = parse_string_table_debug_and_ownership(base, &code, 21).unwrap();
+            assert_eq!(block.strings, vec!["s"; counts[0]]);
+            let symbols = block.debug_symbols.iter().map(|s| (s.pc, s.line, s.col));
+            assert_eq!(symbols.collect::<Vec<_>>(), vec![(7, 8, 9); counts[1]]);
+            let path = DecodedAccessPath {
+                root_symbol_id: 6,
+                components: vec![DecodedAccessPathComponent::TupleIndex(4)],
+                activation: None,
+                write_execution: Some(DecodedWriteExecution::MakeRecordSite(5)),
+            };
+            assert_eq!(block.write_paths, vec![path; counts[2]]);
+            assert!(block.borrowed_paths.is_empty());
+            let families = block.signature.unwrap().families;
+            assert_eq!(families, vec![CallableValueFamily::Bytes; counts[3]]);
+            assert_eq!(block.instr_start_offset, code.len());
+            let last = path_number(base, &code, 21, 99).unwrap();
+            assert_eq!(last.is_some(), counts[2] == 100);
+        }
     }
 }
 

@@ -11,7 +11,8 @@ use f.Tie as tie
 returns-6 : tie.Need-returns-6
 returns-6 c =
     let size = c .before .before .before .before in
-    let a = size .before .before .before .before .before .before .before .before .before .args in
+    let known = size .before .before .before .before .before in
+    let a = known .before .before .before .before .args in
     rw (
       c .u16-at .ensures,
       c .before .u32-at2 .ensures,

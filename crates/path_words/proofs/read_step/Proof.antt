@@ -8,17 +8,19 @@ use Rattle.path_words.proofs.Laws.{size-within, step-sized}
 use Rattle.path_words.proofs.read_step as f
 use f.Tie as tie
 
+abbrev start : tie.Else3 → tie.Start
+start e = let size = e .before in size .before .before .before .before .before .before
+
 -- the component has a size
-by-size : (e : tie.Else3) → let start = e .before .before .before .before .before .before .before in
-    Sized (start .args .header-rev) (start .args .kind) (start .args .code .now) (start .args .at) (e .before .component-size .result)
+by-size : (e : tie.Else3) → let a = start e .args in Sized (a .header-rev) (a .kind) (a .code .now) (a .at) (e .before .component-size .result)
 by-size e =
     let size = e .before in
-    let a = size .before .before .before .before .before .before .args in
+    let a = start e .args in
     sized (a .header-rev) (a .kind) (a .code .now) (a .at) (omega arith) _ (rw (size .before .component-sizes .ensures) at (size .component-size .ensures .0))
     (omega arith)
 
 -- it is made of bytes
-bytes : (e : tie.Else3) (k : ℕ) → getD (e .before .before .before .before .before .before .before .args .code .now) k 0 < 256
+bytes : (e : tie.Else3) (k : ℕ) → getD (start e .args .code .now) k 0 < 256
 bytes e k = e .before .before .before .before .before .before .shared-slice-known .given k .fits
 
 pub read-step-spec : {M : Type 1} → f.Statement.statement M

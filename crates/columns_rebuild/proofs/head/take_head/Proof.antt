@@ -9,7 +9,7 @@ use lib.ListN.{length}
 use Rattle.local_format.proofs.OutLaws.{told}
 use Rattle.evr0_columns.specs.Columns.{headItems}
 use Rattle.column_fields.specs.Maps.{placeIn}
-use Rattle.column_fields.specs.Noted.{Starts, Noted}
+use Rattle.columns_rebuild.specs.Noted.{Starts, Noted}
 use Rattle.columns_rebuild.proofs.ColumnLaws.{first-stand}
 use Rattle.columns_rebuild.proofs.TookLaws.{table-stopped, table-took}
 use Rattle.columns_rebuild.proofs.HeadLaws.{head-stopped, head-took}

@@ -4,7 +4,7 @@ use mathlib.Core.Path.{subst}
 use native.Mathlib.Omega.{arith}
 use Rattle.local_format.proofs.OutLaws.{told}
 use Rattle.column_fields.specs.Maps.{placeIn, itemsOf}
-use Rattle.column_fields.specs.Noted.{Noted}
+use Rattle.columns_rebuild.specs.Noted.{Noted}
 use Rattle.columns_rebuild.proofs.TookLaws.{items-most, table-stopped, table-took}
 use Rattle.columns_rebuild.proofs.table.take_table as f
 use f.Tie as tie

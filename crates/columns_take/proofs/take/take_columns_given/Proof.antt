@@ -1,7 +1,7 @@
 -- Meets its contract: the rules, the columns, the output's length and the decoder, by `TakeLaws`.
 use borrow.Author.Needs.{needs}
 use Prim.Native.Nat.{ℕ}
-use mathlib.Core.Path.{subst}
+use mathlib.Core.Path.{refl, subst}
 use mathlib.Core.List.{List}
 use native.Mathlib.Omega.{arith}
 use Rattle.local_format.proofs.OutLaws.{told}
@@ -43,13 +43,18 @@ module _ (c : tie.After-rebuild) where
 
 returns-3 : tie.Need-returns-3
 returns-3 c =
-    let near = c .before .before .before .before in
-    let r = near .before .before .before .before in
-    let b = r .before .before .before .before .before .before in
+    let third = c .before .before in
+    let second = third .before .before .before .before in
+    let first = second .before .before .before .before in
+    let b = first .before .before .before in
     let t = b .before .before .before .before in
     let s = checked t in
-    no-columns (given s) (columns s) (told checkedOut (s .check-rules .ensures) (ruled-at t .enum-told .given .1)) (t .rebuild .kept .1 .0)
-    (subst (Rebuilds _ _ _) (b .rebuilt .given .1) (t .rebuild .ensures)) (r .refuse-all2 .ensures)
+    let (none, zeros) = subst (Rebuilds _ _ _) (b .rebuilt .given .1) (t .rebuild .ensures) in
+    no-columns (given s) (columns s) (told checkedOut (s .check-rules .ensures) (ruled-at t .enum-told .given .1)) none (record {
+      answer = refl;
+      output = zeros;
+      tables = record { propositions = first .clear .ensures; proofs = second .clear2 .ensures; depths = third .clear3 .ensures };
+    })
 
 -- it has this length
 module _ (c : tie.After-rebuilt2) where
@@ -68,7 +73,7 @@ returns c =
     let t = built-at b in
     let s = checked t in
     too-short (given s) (columns s) (told checkedOut (s .check-rules .ensures) (ruled-at t .enum-told .given .1)) (t .rebuild .kept .1 .0) (built b)
-    (f .before .if1 .taken) (f .refuse .ensures) (r .refuse-all3 .ensures)
+    (f .before .if1 .taken) (f .refuse .ensures) (r .refuse-all2 .ensures)
 
 returns-4 : tie.Need-returns-4
 returns-4 c =
@@ -84,6 +89,7 @@ returns-4 c =
 pub take-columns-given-spec : {M : Type 1} → f.Statement.statement M
 take-columns-given-spec =
     tie.close (tie.spec (search needs) (search needs) (search needs) (search needs) (search needs) (search needs) (search needs) (search needs) (search needs)
-    (search needs) (search needs) (search needs) (search needs) (search needs) returns (search needs) (search needs) (search needs) (search needs)
+    (search needs) (search needs) (search needs) (search needs) (search needs) (search needs) (search needs) returns (search needs) (search needs)
+    (search needs) (search needs)
     (search needs) returns-2 (search needs) (search needs) (search needs) (search needs) returns-3 (search needs) (search needs) (search needs) (search needs)
     returns-4)

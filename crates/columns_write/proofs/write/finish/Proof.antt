@@ -3,6 +3,7 @@ use borrow.Author.Needs.{needs}
 use mathlib.Core.Path.{refl}
 use native.Mathlib.Omega.{arith}
 use Rattle.byte_output.proofs.WrittenLaws.{written-length}
+use Rattle.columns_put.proofs.DueLaws.{put-as}
 use Rattle.columns_write.proofs.CopyLaws.{copies-by, too-short, long-enough}
 use Rattle.columns_write.proofs.write.finish.Statement.{statement}
 use Rattle.columns_write.proofs.write.finish.Tie as tie
@@ -12,10 +13,11 @@ start c = let known = c .before .before .before .before .before in known .before
 
 returns : tie.Need-returns
 returns c = λ full columns e.
-    let a = c .before .before .before .before .before .before .before .before in
+    let known = c .before .before .before .before in
+    let a = known .before .before .before .before in
     let r = a .before .before .before .before .before in
     let p = r .before .before .before .before in
-    let w = p .put-accepted .ensures columns e in
+    let w = put-as (p .put-accepted .ensures) e in
     rw (too-short (full .section) columns w (r .before .if1 .taken), ← r .refuse .ensures)
     (copies-by (record { propositions = refl; proofs = refl; depths = refl; output = written-length w }) (a .refuse-all .ensures))
 
@@ -24,7 +26,7 @@ returns-2 c = λ full columns e.
     let k = c .before .before in
     let i = k .before .before in
     let p = i .before .before .before in
-    let w = p .put-accepted .ensures columns e in
+    let w = put-as (p .put-accepted .ensures) e in
     let room = start p .good .1 .1 .1 .1 .1 .1 .1 .1 .0 in
     long-enough (full .section) columns w (omega arith) (omega (arith, room)) (full .filled) (k .clear-bytes-from .ensures)
 

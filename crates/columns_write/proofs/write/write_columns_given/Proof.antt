@@ -58,7 +58,8 @@ returns c =
 
 returns-2 : tie.Need-returns-2
 returns-2 c =
-    let f = c .before .before .before .before .before .before .before .before in
+    let known = c .before .before .before .before in
+    let f = known .before .before .before .before in
     let o = accepted-at (f .before) in
     let d = decoded-at (o .before .before) in
     accepted-writes (which d) (start d .args .bytes .now) (start d .args .cursor) (brought d) (leaves d) (same d)

@@ -35,11 +35,11 @@ brought c = let a = start c .args in lentOf (a .propositions .now) (a .proofs .n
 -- the tables were read
 module _ (c : tie.After-tables2) where
   abbrev at : tie.After-read-tables
-  at = c .before .before .before .before .before .before .before .before
+  at = let known = c .before .before .before .before in known .before .before .before .before
 
   reads : let a = start at .args in
       Reads (tablesAfter (among at) (spanWidth (a .schema)) (countsOut (a .counts)) (a .payload .now) (a .at)) (a .propositions .now) (a .proofs .now)
-      (at .read-tables .last .1 .1 .1 .1 .1 .1 .1 .0) (at .read-tables .last .1 .1 .1 .1 .1 .1 .1 .1 .0)
+      (a .depths .now) (at .read-tables .last .1 .1 .1 .1 .1 .1 .1 .0) (at .read-tables .last .1 .1 .1 .1 .1 .1 .1 .1 .0)
       (at .read-tables .last .1 .1 .1 .1 .1 .1 .1 .1 .1 .0)
       (ok (record { witnessesAt = c .tables2 .given .0 .0; parentsAt = c .tables2 .given .0 .1 .0 }))
   reads = reads-as (at .read-tables .ensures) (ap placesOut (c .tables2 .given .1))
@@ -70,11 +70,10 @@ module _ (c : tie.After-tables2) where
 -- ---- The answers
 returns : tie.Need-returns
 returns c =
-    let k = c .before .before in
-    let t = k .before .before .before in
-    let r = t .before .before .before .before .before .before .before .before in
-    λ end. tables-refused (among r) (brought r) _ _ _ _ _ (start r .pre .0) (rw (t .tables .given .1) at (r .read-tables .ensures)) refl refl
-    (k .clear .ensures ∙ ap (λ (n : ℕ). lent n []) (r .read-tables .kept .1 .1 .1 .1 .1 .1 .1 .1 .1 .0)) end
+    let t = c .before in
+    let known = t .before .before .before .before in
+    let r = known .before .before .before .before in
+    λ end. tables-refused (among r) (brought r) _ _ _ _ _ (start r .pre .0) (rw (t .tables .given .1) at (r .read-tables .ensures)) refl refl refl end
 
 pub check-tables-spec : {M : Type 1} → f.Statement.statement M
 check-tables-spec =
@@ -82,14 +81,13 @@ check-tables-spec =
     (λ c κs. let on = c .before .before .before .before .before .before in
     let s = on .before .before .before .before in
     let r = ready _ _ _ _ _ (s .pre .0) in
-    ((r .propositions, r .proofs, r .depths), (r .parents, r .within, s .pre .1))) (search needs) (search needs) (search needs)
+    ((r .propositions, r .proofs, r .depths), (r .parents, r .within, s .pre .1))) (search needs) (search needs)
     (λ c. proofs-fit (c .before))
     (λ c. sym (proofs-total (c .before .before)))
     (λ c κs. let t = c .before .before .before in
-    let s = start (at t) in (
-      may-derive (among (at t)) (brought (at t)) (brought (at t)) _ _ _ _ (s .pre .0) (sized t) (reads t),
-      omega (arith, depths-fit t, proofs-total t),
-    )) (search needs) (search needs)
+    let s = start (at t) in
+    let there = may-derive (among (at t)) (brought (at t)) (brought (at t)) _ _ _ _ (s .pre .0) (sized t) (reads t) in
+    ((there, omega (arith, depths-fit t, proofs-total t)), (among (at t), asked t))) (search needs) (search needs)
     (search needs) (search needs) (search needs) (search needs) (search needs) returns (search needs) (search needs) (search needs)
     (λ c. let third = c .before .before in
     let second = third .before .before .before .before in
@@ -99,8 +97,8 @@ check-tables-spec =
     let k = at t .read-tables .kept in
     λ end. not-derived (among (at t)) (brought (at t)) _ _ _ _ _ (start (at t) .pre .0) (sized t) (reads t) (depths-kept t)
     (rw (r .derived .given .1) at (d .derive .ensures (among (at t)) (asked t)))
-    (second .clear2 .ensures ∙ ap (λ (n : ℕ). lent n []) (k .1 .1 .1 .1 .1 .1 .1 .0))
-    (third .clear3 .ensures ∙ ap (λ (n : ℕ). lent n []) (k .1 .1 .1 .1 .1 .1 .1 .1 .0)) refl end)
+    (second .clear .ensures ∙ ap (λ (n : ℕ). lent n []) (k .1 .1 .1 .1 .1 .1 .1 .0))
+    (third .clear2 .ensures ∙ ap (λ (n : ℕ). lent n []) (k .1 .1 .1 .1 .1 .1 .1 .1 .0)) refl end)
     (search needs) (search needs) (search needs)
     (λ c. let d = c .before .before .before .before in
     let t = d .before .before .before .before in

@@ -7,7 +7,8 @@ use lib.ListN.{length}
 use lib.Seq.{length-take-le}
 use Rattle.rule_table.specs.ByTable.{four, table}
 use Rattle.evr0_rules.specs.Maps.{loadingOut}
-use Rattle.evr0.proofs.DecodeLaws.{leaves-by, not-by, no-rules, not-loaded, LoadedAt, loaded-at}
+use Rattle.evr0_rules.proofs.LoadLaws.{no-rules}
+use Rattle.evr0.proofs.DecodeLaws.{leaves-by, not-by, not-loaded, LoadedAt, loaded-at}
 use Rattle.evr0.proofs.section.decode_evr0_by as f
 use f.Tie as tie
 

@@ -3,7 +3,8 @@ use borrow.Author.Needs.{needs}
 use mathlib.Core.Path.{ap}
 use Rattle.derivation.specs.Rule.{fourRules}
 use Rattle.evr0.specs.Maps.{frameOut}
-use Rattle.evr0.proofs.DecodeLaws.{leaves, no-rules}
+use Rattle.evr0_rules.proofs.LoadLaws.{no-rules}
+use Rattle.evr0.proofs.DecodeLaws.{leaves}
 use Rattle.evr0.proofs.section.decode_evr0_unmarked as f
 use f.Tie as tie
 

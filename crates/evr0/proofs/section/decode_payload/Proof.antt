@@ -20,7 +20,7 @@ use f.Tie as tie
 -- ---- The stages
 module _ (c : tie.After-read-checked-head) where
   abbrev start : tie.Start
-  start = c .before .before .before .before .before .before .before
+  start = let known = c .before .before .before .before in known .before .before .before
 
   abbrev among : List Rule
   among = rulesIn (start .args .rules) (start .args .table .now) (start .args .places .now)

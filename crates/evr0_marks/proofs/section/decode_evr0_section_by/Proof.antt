@@ -13,7 +13,7 @@ use f.Tie as tie
 
 -- ---- The stages
 abbrev start : tie.After-least → tie.Start
-start c = c .before .before .before .before .before .before .before
+start c = let known = c .before .before .before .before in known .before .before .before
 
 abbrev which : tie.After-least → Given
 which c = let a = start c .args in givenOut (a .rules) (a .table .now)

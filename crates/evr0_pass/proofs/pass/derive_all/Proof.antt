@@ -45,8 +45,9 @@ loop-holds c =
 
 proof-at-requires : tie.Need-proof-at-requires Inv-loop μ-loop
 proof-at-requires c κs =
-    let at-pre = c .before .before .before .before .before .before .before in
-    let i = c .before .before .before .loop .i in
+    let turn = c .before .before .before in
+    let at-pre = turn .before .before .before .before in
+    let i = turn .loop .i in
     let t = c .before .before .loop-test .taken in
     at-pre .pre .0 .proofs i t .inside
 

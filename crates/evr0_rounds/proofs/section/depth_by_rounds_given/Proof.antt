@@ -1,54 +1,63 @@
--- Meets its contract: what `round_by` leaves, with the tables cleared on a refusal, by `LeavesLaws`.
+-- By the four, or by the table, which is loaded first: `LeavesLaws`.
 use borrow.Author.Needs.{needs}
-use mathlib.Core.Path.{ap}
-use Rattle.rule_table.specs.ByTable.{Given}
-use Rattle.evr0.specs.Answer.{Lent, lentOf}
-use Rattle.evr0.specs.AnswerMaps.{givenOut}
-use Rattle.evr0_rounds.specs.Answer.{roundsGiven}
-use Rattle.evr0_rounds.specs.AnswerMaps.{outcomeOut, answerOut}
-use Rattle.evr0_rounds.specs.Steps.{Ends}
-use Rattle.evr0_rounds.proofs.LeavesLaws.{cleared, marked}
+use Prim.Native.Nat.{_+_, _≤_}
+use mathlib.Core.Path.{refl, sym, ap}
+use native.Mathlib.Omega.{arith}
+use lib.ListN.{length}
+use lib.Seq.{length-take-le}
+use Rattle.rule_table.specs.ByTable.{four, table}
+use Rattle.evr0_rules.specs.Maps.{loadingOut}
+use Rattle.evr0_rules.proofs.LoadLaws.{no-rules}
+use Rattle.evr0.proofs.DecodeLaws.{not-loaded, LoadedAt, loaded-at}
+use Rattle.evr0_rounds.proofs.LeavesLaws.{leaves-by, not-by}
 use Rattle.evr0_rounds.proofs.section.depth_by_rounds_given as f
 use f.Tie as tie
 
--- ---- The stages
-module _ (c : tie.After-round-by) where
+-- ---- A loaded table
+module _ (c : tie.After-loading2) where
+  abbrev load : tie.After-load-into
+  load = c .before .before .before
+
+  abbrev chosen : tie.After-enum-told2
+  chosen = load .before .before
+
   abbrev start : tie.Start
-  start = let on = c .before .before .before .before .before in on .before .before .before .before
+  start = let on = chosen .before .before .before in on .before .before .before .before
 
-  abbrev which : Given
-  which = givenOut (start .args .rules) (start .args .table .now)
+  loads : LoadedAt (start .args .table .now) (load .load-into .last .1 .0) (c .loading2 .given .0 .0)
+  loads = loaded-at (load .load-into .ensures) (ap loadingOut (c .loading2 .given .1))
 
-  abbrev brought : Lent
-  brought = lentOf (start .args .propositions .now) (start .args .proofs .now) (start .args .rounds .now)
-
-  abbrev left : Lent
-  left = lentOf (c .round-by .last .1 .1 .1 .1 .0) (c .round-by .last .1 .1 .1 .1 .1 .0) (c .round-by .last .1 .1 .1 .1 .1 .1 .0)
-
-  ends : let a = start .args in Ends (roundsGiven which brought (a .bytes .now) (a .cursor)) (a .cursor) brought left (answerOut (c .round-by .result))
-  ends = c .round-by .ensures
+  fit : 96 + c .loading2 .given .0 .0 ≤ length (load .load-into .last .1 .0)
+  fit = omega (arith, loads .most, load .load-into .kept .1 .0)
 
 returns : tie.Need-returns
 returns c =
-    let third = c .before .before in
-    let second = third .before .before .before .before in
-    let first = second .before .before .before .before in
-    let o = first .before .before in
-    let on = o .before .before .before .before in
-    let d = on .before .before .before .before in
-    let a = start d .args in
-    let k = d .round-by .kept in
-    cleared (which d) (a .bytes .now) (a .cursor) (brought d) (ends d) _ (ap outcomeOut (o .enum-told .given .1)) (k .1 .1 .1 .1 .0) (k .1 .1 .1 .1 .1 .0)
-    (k .1 .1 .1 .1 .1 .1 .0) (first .clear .ensures) (second .clear2 .ensures) (third .clear3 .ensures)
+    let d = c .before .before .before .before .before .before in
+    let e = d .before .before .before .before .before in
+    rw (e .enum-told .given .1) (leaves-by four _ _ _ _ refl (rw (e .enum-told .given .1) at (d .round-with .ensures)))
 
 returns-2 : tie.Need-returns-2
 returns-2 c =
-    let on = c .before .before .before .before in
-    let d = on .before .before .before .before in
-    let a = start d .args in
-    marked (which d) (a .bytes .now) (a .cursor) (brought d) (ends d) _ (ap outcomeOut (c .enum-told2 .given .1))
+    let n = c .before .before .before .before .before .before in
+    let r = n .before .before .before .before .before in
+    let l = r .before .before .before in
+    rw (l .before .before .enum-told2 .given .1)
+    (not-by (table _) _ _ _ _ (not-loaded (l .load-into .ensures) (ap loadingOut (r .loading .given .1))) (n .no-rounds .ensures))
+
+returns-3 : tie.Need-returns-3
+returns-3 c =
+    let d = c .before .before .before .before .before .before in
+    let l = d .before .before .before .before .before .before in
+    rw (chosen l .enum-told2 .given .1) (leaves-by (table _) _ _ _ _ (loads l .is) (rw (chosen l .enum-told2 .given .1) at (d .round-with2 .ensures)))
 
 pub depth-by-rounds-given-spec : {M : Type 1} → f.Statement.statement M
 depth-by-rounds-given-spec =
-    tie.close (tie.spec (search needs) (search needs) (search needs) (search needs) (search needs) (search needs) (search needs) (search needs) (search needs)
-    returns (search needs) (search needs) (search needs) returns-2)
+    tie.close (tie.spec (search needs) (search needs)
+    (λ c κs. no-rules _) (search needs) (search needs) (search needs) (search needs)
+    (search needs) (search needs)
+    (λ c. omega (arith, loads (c .before) .most))
+    (λ c. fit (c .before))
+    (λ c. sym (length-take-le _ (load (c .before .before) .load-into .last .1 .0) (fit (c .before .before))))
+    (λ c κs. loads (c .before .before .before .before .before) .there) (search needs) (search needs) (search needs) returns (search needs) (search needs)
+    (search needs) returns-2 (search needs)
+    (search needs) (search needs) returns-3)

@@ -14,15 +14,16 @@ use Rattle.evr0_head.specs.Maps.{headRecord, headIn}
 use Rattle.evr0_tables.proofs.RowLaws.{answered}
 use Rattle.evr0.specs.Answer.{Lent, lentOf, roomOf}
 use Rattle.evr0.proofs.AnswerLaws.{passed, not-passed}
-use Rattle.evr0_rounds.specs.Steps.{Passes}
-use Rattle.evr0_rounds.proofs.PayloadLaws.{refusal-ends, no-head, section-ends}
+use Rattle.evr0.specs.Steps.{Passes}
+use Rattle.evr0_rounds.specs.Answer.{answerOf}
+use Rattle.evr0_rounds.proofs.PayloadLaws.{no-head, section-ends}
 use Rattle.evr0_rounds.proofs.section.round_payload as f
 use f.Tie as tie
 
 -- ---- The stages
 module _ (c : tie.After-read-checked-head) where
   abbrev start : tie.Start
-  start = c .before .before .before .before .before .before .before
+  start = let known = c .before .before .before .before in known .before .before .before
 
   abbrev among : List Rule
   among = rulesIn (start .args .rules) (start .args .table .now) (start .args .places .now)
@@ -67,15 +68,17 @@ round-tables-requires c κs =
 
 returns : tie.Need-returns
 returns c =
-    let r = c .before .before in
-    refusal-ends (no-head _ _ _ _ _ (sym (head-is (r .before .before)) ∙ ap (headIn _ _) (r .answer .given .1))) _ (c .refused-rounds .ensures)
+    let n = c .before .before .before .before .before .before in
+    let r = n .before .before .before .before .before in
+    rw (no-head _ _ _ _ _ (sym (head-is (r .before .before)) ∙ ap (headIn _ _) (r .answer .given .1))) (n .no-rounds .ensures)
 
 returns-2 : tie.Need-returns-2
 returns-2 c =
     let k = c .before .before in
     let on = k .before .before .before .before in
     let at = on .before .before .before .before in
-    refusal-ends (not-passed (x at) _ (told checkedOut (passes at .answer) (k .checked .given .1))) _ (c .refused-rounds2 .ensures)
+    let e = not-passed (x at) _ (told checkedOut (passes at .answer) (k .checked .given .1)) in
+    record { answer = c .refused-rounds .ensures ∙ sym (ap (answerOf (given-at at .args .cursor)) e); tables = passes at .tables }
 
 returns-3 : tie.Need-returns-3
 returns-3 c =
@@ -87,4 +90,5 @@ returns-3 c =
 pub round-payload-spec : {M : Type 1} → f.Statement.statement M
 round-payload-spec =
     tie.close (tie.spec (search needs) (search needs) (search needs) (search needs) round-tables-requires (search needs) (search needs) (search needs)
-    returns (search needs) (search needs) (search needs) returns-2 (search needs) (search needs) (search needs) returns-3)
+    (search needs) (search needs) (search needs) returns (search needs) (search needs) (search needs) returns-2 (search needs) (search needs) (search needs)
+    returns-3)

@@ -1,11 +1,12 @@
 -- Meets its contract: the tables are read, and then the rounds are made, by `PayloadLaws`.
 use borrow.Author.Needs.{needs}
-use Prim.Native.Nat.{_≤_}
-use mathlib.Core.Path.{_≡_, refl, sym, ap}
-use mathlib.Core.List.{List}
+use Prim.Native.Nat.{ℕ, _≤_}
+use mathlib.Core.Path.{_≡_, refl, sym, ap, _∙_}
+use mathlib.Core.List.{List, []}
 use native.Mathlib.Omega.{arith}
 use lib.ListN.{length, take, length-take}
 use Rattle.local_format.specs.Out.{ok}
+use Rattle.lent_table.specs.Lent.{lent}
 use Rattle.derivation.specs.Rule.{Rule}
 use Rattle.evr0_section.specs.Head.{spanWidth, witnessSize}
 use Rattle.evr0_section.specs.Section.{tablesAfter}
@@ -14,7 +15,7 @@ use Rattle.evr0_head.specs.Maps.{countsOut}
 use Rattle.evr0_tables.specs.PayloadMaps.{placesOut, Reads}
 use Rattle.evr0.specs.Answer.{Lent, lentOf}
 use Rattle.evr0.proofs.CheckLaws.{ready, reads-as, may-derive}
-use Rattle.evr0_rounds.proofs.PayloadLaws.{tables-refused, rounds-made}
+use Rattle.evr0_rounds.proofs.PayloadLaws.{tables-refused, not-made, rounds-made}
 use Rattle.evr0_rounds.proofs.section.round_tables as f
 use f.Tie as tie
 
@@ -34,11 +35,11 @@ brought c = let a = start c .args in lentOf (a .propositions .now) (a .proofs .n
 -- the tables were read
 module _ (c : tie.After-tables2) where
   abbrev at : tie.After-read-tables
-  at = c .before .before .before .before .before .before .before .before
+  at = let known = c .before .before .before .before in known .before .before .before .before
 
   reads : let a = start at .args in
       Reads (tablesAfter (among at) (spanWidth (a .schema)) (countsOut (a .counts)) (a .payload .now) (a .at)) (a .propositions .now) (a .proofs .now)
-      (at .read-tables .last .1 .1 .1 .1 .1 .1 .1 .0) (at .read-tables .last .1 .1 .1 .1 .1 .1 .1 .1 .0)
+      (a .rounds .now) (at .read-tables .last .1 .1 .1 .1 .1 .1 .1 .0) (at .read-tables .last .1 .1 .1 .1 .1 .1 .1 .1 .0)
       (at .read-tables .last .1 .1 .1 .1 .1 .1 .1 .1 .1 .0)
       (ok (record { witnessesAt = c .tables2 .given .0 .0; parentsAt = c .tables2 .given .0 .1 .0 }))
   reads = reads-as (at .read-tables .ensures) (ap placesOut (c .tables2 .given .1))
@@ -61,15 +62,34 @@ module _ (c : tie.After-tables2) where
 returns : tie.Need-returns
 returns c =
     let t = c .before in
-    let r = t .before .before .before .before .before .before .before .before in
-    λ end. tables-refused (among r) (brought r) _ _ _ _ _ (start r .pre .0) (rw (t .tables .given .1) at (r .read-tables .ensures)) end
+    let known = t .before .before .before .before in
+    let r = known .before .before .before .before in
+    λ end. tables-refused (among r) (brought r) _ _ _ _ _ (start r .pre .0) (rw (t .tables .given .1) at (r .read-tables .ensures)) refl refl refl end
 
 returns-2 : tie.Need-returns-2
 returns-2 c =
-    let d = c .before .before in
+    let third = c .before .before in
+    let second = third .before .before .before .before in
+    let first = second .before .before .before .before in
+    let r = first .before .before .before in
+    let d = r .before .before .before .before in
+    let t = d .before .before .before .before in
+    let k = at t .read-tables .kept in
+    λ end. not-made (among (at t)) (brought (at t)) _ _ _ _ _ (start (at t) .pre .0) (sized t) (reads t)
+    (rw (r .filled .given .1) at (d .fill-rounds .ensures (among (at t))))
+    (record {
+      propositions = first .clear .ensures ∙ ap (λ (n : ℕ). lent n []) (k .1 .1 .1 .1 .1 .1 .1 .0);
+      proofs = second .clear2 .ensures ∙ ap (λ (n : ℕ). lent n []) (k .1 .1 .1 .1 .1 .1 .1 .1 .0);
+      depths = third .clear3 .ensures ∙ ap (λ (n : ℕ). lent n []) (d .fill-rounds .kept .1 .1 .1 .0 ∙ rounds-kept t);
+    })
+    end
+
+returns-3 : tie.Need-returns-3
+returns-3 c =
+    let d = c .before .before .before .before in
     let t = d .before .before .before .before in
     λ end. rounds-made (among (at t)) (brought (at t)) _ _ _ _ _ (start (at t) .pre .0) (sized t) (reads t) (rounds-kept t)
-    (d .fill-rounds .ensures (among (at t))) refl refl refl end
+    (rw (c .enum-told .given .1) at (d .fill-rounds .ensures (among (at t)))) refl refl refl end
 
 pub round-tables-spec : {M : Type 1} → f.Statement.statement M
 round-tables-spec =
@@ -86,4 +106,5 @@ round-tables-spec =
       may-derive (among (at t)) (brought (at t)) (brought (at t)) _ _ _ _ (s .pre .0) (sized t) (reads t),
       omega (arith, r .depths, rounds-kept t, proofs-total t),
     ))
-    (search needs) (search needs) (search needs) returns (search needs) (search needs) (search needs) returns-2)
+    (search needs) (search needs) (search needs) (search needs) (search needs) (search needs) (search needs) (search needs) returns (search needs)
+    (search needs) (search needs) returns-2 (search needs) (search needs) (search needs) returns-3)

@@ -12,7 +12,7 @@ use f.Tie as tie
 
 module _ (c : tie.After-frame2) where
   abbrev start : tie.Start
-  start = let at = c .before .before in at .before .before .before .before .before .before .before
+  start = let known = c .before .before .before .before .before in known .before .before .before .before
 
   frame-read : frameAt (start .args .bytes .now) (start .args .cursor) ≡ ok (record { start = c .frame2 .given .0 .0; len = c .frame2 .given .0 .1 .0 })
   frame-read = told frameOut (c .before .before .read-frame .ensures) (c .frame2 .given .1)
@@ -21,8 +21,10 @@ pub round-with-spec : {M : Type 1} → f.Statement.statement M
 round-with-spec =
     tie.close (tie.spec (search needs) (search needs) (search needs) (search needs)
     (λ c κs. let k = c .before .before .before .before in (frame-place _ _ (frame-read k) .1, start k .pre))
-    (λ c. let f = c .before .before in
-    no-frame _ _ _ _ _ _ (told frameOut (f .before .before .read-frame .ensures) (f .frame .given .1)) (c .refused-rounds .ensures))
+    (search needs) (search needs) (search needs)
+    (λ c. let n = c .before .before .before .before .before .before in
+    let f = n .before .before .before .before .before in
+    no-frame _ _ _ _ _ _ (told frameOut (f .before .before .read-frame .ensures) (f .frame .given .1)) (n .no-rounds .ensures))
     (search needs) (search needs) (search needs)
     (λ c. let d = c .before .before .before .before .before .before in
     framed _ _ _ _ _ _ (frame-read (d .before .before .before .before .before)) (d .round-at .ensures)))

@@ -15,7 +15,7 @@ use f.Tie as tie
 -- ---- The rule at which the tree ends
 module _ (c : tie.After-shared-slice-known4) where
   abbrev start : tie.Start
-  start = c .before .before .before .before .before .before .before .before
+  start = let known = c .before .before .before .before in known .before .before .before .before
 
   abbrev places : List ℕ
   places = start .args .places .now
@@ -45,6 +45,9 @@ rule-sought-spec =
     (λ c κs. rw (from-on 96 (places c)) (start c .pre .starts (end c) (within c)))
     (λ c κs. let k = c .before .before in rw (from-on 96 (places k)) (start k .pre .starts (end k) (within k)))
     returns-2
-    (λ c κs. let s = c .before .before .before .before .before .before .before in rw (from-on 96 (s .args .places .now)) (s .pre .starts))
-    (λ c. let s = c .before .before .before .before .before .before .before .before in
+    (λ c κs. let known = c .before .before .before .before in
+    let s = known .before .before .before in
+    rw (from-on 96 (s .args .places .now)) (s .pre .starts))
+    (λ c. let known = c .before .before .before .before in
+    let s = known .before .before .before .before in
     rw (from-on 96 (s .args .places .now)) at (c .rule-named-in .ensures)))

@@ -15,5 +15,6 @@ load-into-spec =
     (λ c. let l = c .before .before .before .before .before in
     behind _ refl (rw (c .before .loading .given .1) at (l .load-starts .ensures))) (search needs)
     (λ c. let h = c .before .before in
-    let l = h .before .before .before .before .before .before .before in
+    let known = h .before .before .before .before in
+    let l = known .before .before .before in
     behind _ (h .fill-tree .ensures) (rw (h .before .before .before .loading2 .given .1) at (l .load-starts .ensures))))

@@ -21,7 +21,7 @@ abbrev μ-loop : tie.MeasureT-loop
 μ-loop table places₀ count at₀ i₀ places at i = count - i
 
 abbrev start-at : tie.At-loop Inv-loop μ-loop → tie.Start Inv-loop μ-loop
-start-at l = l .before .before .before .before .before .before .before
+start-at l = let known = l .before .before .before .before in known .before .before .before
 
 abbrev loop-at : tie.After-rule-at Inv-loop μ-loop → tie.At-loop Inv-loop μ-loop
 loop-at c = c .before .before
@@ -50,7 +50,8 @@ load-starts-spec =
     (λ c. omega (arith, c .shared-slice-known2 .given 0)) (search needs)
     (λ c. let t = c .before .before .before .before .before .before .args .table .now in
     refused-loads t _ _ _ (few t (omega arith) (c .before .if2 .taken)) (c .refused2 .ensures)) (search needs)
-    (λ c. let t = c .before .before .before .before .before .before .before .args .table .now in
+    (λ c. let known = c .before .before .before .before in
+    let t = known .before .before .before .args .table .now in
     refused-loads t _ _ _ (many t (omega arith) (c .before .if3 .taken)) (c .refused3 .ensures))
     (λ c. let t = c .before .before .before .before .before .before .args .table .now in
     (starting t (omega arith) (omega arith) (omega arith), c .before .before .before .before .before .before .pre, omega arith))

@@ -26,7 +26,7 @@ use f.Tie as tie
 
 -- ---- The stages
 abbrev start : tie.After-read-propositions → tie.Start
-start c = c .before .before .before .before .before .before .before .before
+start c = let known = c .before .before .before .before in known .before .before .before .before
 
 abbrev among : tie.After-read-propositions → List Rule
 among c = let a = start c .args in rulesIn (a .rules) (a .table .now) (a .places .now)
@@ -67,7 +67,7 @@ returns c =
     let p = first-at f in
     let e : placesIn (whole p) ≡ refused (refusalOut (c .refuse .result)) =
     rw (tables-kept, first-is f, second-is s, ← o .all-owned .ensures, not-true (o .all-owned .result) (c .before .if1 .taken), c .refuse .ensures) in
-    unread e _ _ _
+    unread e _ _ _ _
 
 pub read-four-spec : {M : Type 1} → f.Statement.statement M
 read-four-spec =
@@ -88,13 +88,14 @@ read-four-spec =
     (λ c. let p = c .before .before .before .before .before in
     let e : placesIn (whole p) ≡ refused (refusalOut (c .before .first .given .0 .0)) =
     rw (tables-kept, told tableOut (p .read-propositions .ensures .0) (c .before .first .given .1)) in
-    unread e _ _ _) (search needs) (search needs) (search needs)
-    (λ c. let q = c .before .before .before .before .before .before .before in
+    unread e _ _ _ _) (search needs) (search needs) (search needs)
+    (λ c. let known = c .before .before .before .before in
+    let q = known .before .before .before in
     let f = opened q in
     let p = first-at f in
     let e : placesIn (whole p) ≡ refused (refusalOut (c .before .second .given .0 .0)) =
     rw (tables-kept, first-is f, told proofTableOut (q .read-proofs .ensures .0) (c .before .second .given .1)) in
-    unread e _ _ _) (search needs) (search needs) (search needs)
+    unread e _ _ _ _) (search needs) (search needs) (search needs)
     (λ c. let r = c .before in
     let i = r .before .before .before in
     let s = i .before .before .before in
@@ -110,7 +111,7 @@ read-four-spec =
       not-false (i .before .all-owned .result) (i .if1 .left),
       told tableOut (r .before .before .read-rest .ensures) (r .rest .given .1),
     ) in
-    unread e _ _ _) (search needs) (search needs) (search needs)
+    unread e _ _ _ _) (search needs) (search needs) (search needs)
     (λ c. let r = c .before in
     let i = r .before .before .before in
     let s = i .before .before .before in

@@ -9,21 +9,27 @@ use f.Tie as tie
 pub read-tables-spec : {M : Type 1} → f.Statement.statement M
 read-tables-spec =
     tie.close (tie.spec
-    (λ c κs. c .before .before .before .before .before .before .before .before .before .pre) (search needs) (search needs) (search needs) (search needs)
+    (λ c κs. let known = c .before .before .before .before .before in
+    known .before .before .before .before .pre) (search needs) (search needs) (search needs) (search needs)
     (search needs) (search needs) (search needs) (search needs)
+    (search needs)
+    (search needs)
+    (λ c. let third = c .before .before in
+    let second = third .before .before .before .before in
+    let one = second .before .before .before .before in
+    let r = one .before .before .before in
+    let known = r .before .before .before .before in
+    let f = known .before .before .before .before in
+    let d = f .read-four in
+    cleared (told placesOut (d .ensures .answer) (r .read .given .1)) _ _ _ (d .last .1 .1 .1 .1 .1 .1 .1 .0) (d .last .1 .1 .1 .1 .1 .1 .1 .1 .0)
+    (d .last .1 .1 .1 .1 .1 .1 .1 .1 .1 .0) (d .kept .1 .1 .1 .1 .1 .1 .1 .0) (d .kept .1 .1 .1 .1 .1 .1 .1 .1 .0)
+    (d .kept .1 .1 .1 .1 .1 .1 .1 .1 .1 .0) (second .clear2 .ensures) (third .clear3 .ensures) (one .clear .ensures)) (search needs) (search needs)
     (search needs)
     (λ c. let second = c .before .before in
     let one = second .before .before .before .before in
     let r = one .before .before .before in
-    let f = r .before .before .before .before .before .before .before .before in
-    let d = f .read-four in
-    cleared (told placesOut (d .ensures .answer) (r .read .given .1)) _ _ (d .last .1 .1 .1 .1 .1 .1 .1 .0) (d .last .1 .1 .1 .1 .1 .1 .1 .1 .0) _
-    (d .kept .1 .1 .1 .1 .1 .1 .1 .0) (d .kept .1 .1 .1 .1 .1 .1 .1 .1 .0) (one .clear .ensures)
-    (second .clear2 .ensures)) (search needs) (search needs) (search needs)
-    (λ c. let second = c .before .before in
-    let one = second .before .before .before .before in
-    let r = one .before .before .before in
-    let f = r .before .before .before .before .before .before .before .before in
+    let known = r .before .before .before .before in
+    let f = known .before .before .before .before in
     let d = f .read-four in
     cleared-past _ _ _ _ _ _ _ (rw (r .read2 .given .1) at (d .ensures)) (d .kept .1 .1 .1 .1 .1 .1 .1 .0) (d .kept .1 .1 .1 .1 .1 .1 .1 .1 .0)
     (one .clear-from .ensures) (second .clear-from2 .ensures)))

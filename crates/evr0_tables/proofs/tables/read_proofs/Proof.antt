@@ -4,10 +4,11 @@ use Prim.Native.Nat.{_+_, _-_, _<_}
 use mathlib.Core.Path.{_≡_, refl, sym, ap, _∙_}
 use mathlib.Core.List.{List, [], _∷_, _++_}
 use native.Mathlib.Omega.{arith}
-use lib.ListN.{length, take, length-set}
+use lib.ListN.{length, take, drop, length-set}
+use lib.Seq.{drop-set-lt}
 use Rattle.local_format.specs.Out.{refused}
 use Rattle.local_format.specs.Maps.{refusalOut}
-use Rattle.local_format.proofs.OutLaws.{told}
+use Rattle.local_format.proofs.OutLaws.{told, never}
 use Rattle.derivation.specs.Rule.{Rule}
 use Rattle.evr0_section.specs.Proof.{noneOwned, proofRow}
 use Rattle.evr0_section.proofs.Inside.{proofRowIn}
@@ -18,7 +19,7 @@ use Rattle.evr0_records.specs.Maps.{unownedOut}
 use Rattle.evr0_tables.specs.Maps.{proofRowOut, asked, ownedIn}
 use Rattle.evr0_tables.proofs.RowLaws.{noted-kept, noted-refused}
 use Rattle.evr0_tables.proofs.TableLaws.{Stands, Stopped, starting, advance, stop, stored, one-more, noted, read-owned}
-use Rattle.evr0_tables.proofs.TableLaws.{read-front, noted-front, refused-front}
+use Rattle.evr0_tables.proofs.TableLaws.{read-front, asked-laid, refused-front}
 use Rattle.evr0_tables.proofs.tables.read_proofs as f
 use f.Tie as tie
 
@@ -29,6 +30,7 @@ Inv-loop rules table places payload counts at starts₀ polarities₀ count unow
     × Progress (proofRow (rulesIn rules table places) (countsOut counts)) asked payload (counts .proofs) at noneOwned i place (unownedOut unowned)
     (take i polarities)
     × (length polarities ≡ length polarities₀)
+    × (drop (counts .proofs) polarities ≡ drop (counts .proofs) polarities₀)
 
 abbrev μ-loop : tie.MeasureT-loop
 μ-loop rules table places payload counts at starts₀ polarities₀ count unowned₀ place₀ i₀ starts polarities unowned place i = counts .proofs - i
@@ -70,26 +72,28 @@ pub read-proofs-spec : {M : Type 1} → f.Statement.statement M
 read-proofs-spec =
     tie.close (tie.spec Inv-loop μ-loop
     (λ c. let pre = c .before .before .before .before .before .pre in
-    (starting (proofRow _ _) _ _ _ noneOwned (pre .1 .0), refl, begun (proofRow _ _) asked _ _ _ noneOwned, refl))
+    (starting (proofRow _ _) _ _ _ noneOwned (pre .1 .0), refl, begun (proofRow _ _) asked _ _ _ noneOwned, refl, refl))
     (λ c κs. start (c .before) .pre .1 .1) (search needs) (search needs)
     (search needs) (search needs) (search needs) (search needs)
     (λ c. omega (arith, on (c .before) .within)) (search needs) (search needs)
     (λ c. let k = c .before in
     let i = l k .loop .inv in
     let fit = start (l k) .pre .0 in
-    let h : l k .loop .i < length (l k .loop .polarities) = omega (arith, i .3) in (
+    let h : l k .loop .i < length (l k .loop .polarities) = omega (arith, i .3) in
+    let more : l k .loop .i < start (l k) .args .counts .proofs = omega arith in (
       stored _ _ _ (on k) (omega (arith, i .1)),
       simp length-set (i .1),
       rw (one-more _ _ _ h) (asks k),
       simp length-set (i .3),
+      drop-set-lt _ _ _ _ more ∙ i .4,
     )) (search needs)
     (λ c κs. omega (arith, stopped (c .before) .within)) (search needs) (search needs)
     (λ c. let e = stopped (c .before .before) .is in
-    (ap refused (c .moved .ensures) ∙ sym (ap ownedIn e), (refused-front (λ e. e .start) _ e, refused-front asked _ e))) (search needs) (search needs)
+    (ap refused (c .moved .ensures) ∙ sym (ap ownedIn e), (refused-front _ e, λ t k. absurd (never (sym e ∙ k))))) (search needs) (search needs)
     (λ c. let i = c .before .loop .inv in (
       read-owned (i .0) (omega arith),
       (
         read-front (i .0) (omega arith) _ refl (omega (arith, i .1)),
-        noted-front (i .2) (i .0 .few) (omega arith) _ refl (omega (arith, i .3)),
+        asked-laid _ _ (i .2) (omega (arith, i .0 .few)) (i .4) (omega (arith, i .3)),
       ),
     )))

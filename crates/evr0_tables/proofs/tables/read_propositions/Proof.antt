@@ -57,6 +57,6 @@ read-propositions-spec =
     (stored _ _ _ (on k) (omega (arith, l k .loop .inv .1)), simp length-set (l k .loop .inv .1))) (search needs)
     (λ c κs. omega (arith, stopped (c .before) .within)) (search needs)
     (λ c. let e = stopped (c .before .before) .is in
-    (ap refused (c .moved .ensures) ∙ sym (ap nextIn e), refused-front (λ e. e .start) _ e)) (search needs)
+    (ap refused (c .moved .ensures) ∙ sym (ap nextIn e), refused-front _ e)) (search needs)
     (λ c. let i = c .before .loop .inv in
     (read-next (i .0) (omega arith), read-front (i .0) (omega arith) _ refl (omega (arith, i .1)))))

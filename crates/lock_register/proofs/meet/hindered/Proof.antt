@@ -41,17 +41,19 @@ meets-requires c κs =
 
 returns : tie.Need-returns Inv-loop μ-loop
 returns c =
-    let l = c .before .before .before .before .loop in
+    let turn = c .before .before .before .before in
+    let l = turn .loop in
     let going = l .inv in
-    let a = c .before .before .before .before .before .before .before .before .args in
+    let a = turn .before .before .before .before .args in
     let met = sym (c .before .meets .ensures) ∙ c .if1 .taken in
     some-lock _ _ (going .i) _ (omega arith) (rw (slot-at (a .words .now) (going .i) (l .at) (going .is-at)) at met)
 
 loop-again : tie.Need-loop-again Inv-loop μ-loop
 loop-again c =
-    let l = c .before .before .before .before .loop in
+    let turn = c .before .before .before .before in
+    let l = turn .loop in
     let going = l .inv in
-    let a = c .before .before .before .before .before .before .before .before .args in
+    let a = turn .before .before .before .before .args in
     let free = sym (c .before .meets .ensures) ∙ c .if1 .left in
     record {
       i = going .i + 1;

@@ -30,7 +30,8 @@ loop-again : tie.Need-loop-again Inv-loop μ-loop
 loop-again c =
     let l = c .before .before .before .before .loop in
     let call = c .before .before .before .before .before in
-    let a = call .before .before .before .before .before .before .before .args in
+    let known = call .before .before .before .before in
+    let a = known .before .before .before .args in
     let e = counted (l .k) (omega arith) in (
       search needs,
       agreeing-more (a .lock .now) (a .key .now) (l .k - 1) (call .shorter .result) (λ j h i. l .inv .1 j (omega arith) i) (rw (← e) (omega arith)),

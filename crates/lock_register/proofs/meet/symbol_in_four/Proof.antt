@@ -21,7 +21,8 @@ returns-2 c =
 
 returns-3 : tie.Need-returns-3
 returns-3 c =
-    let a = c .before .before .before .before .before .before .before .args in
+    let known = c .before .before .before .before in
+    let a = known .before .before .before .args in
     let e = c .before .word3 .ensures in
     one-found _ _ (a .i) (a .i + 2) (omega arith) (omega arith)
 

@@ -10,7 +10,8 @@ returns c = part-told _ _ (search needs) (search needs) _ (omega arith) (c .part
 
 returns-2 : tie.Need-returns-2
 returns-2 c =
-    let a = c .before .before .before .before .before .before .before .args in
+    let known = c .before .before .before .before in
+    let a = known .before .before .before .args in
     part-refused (a .words .now) (a .number) (search needs) (search needs) (a .part) (omega arith) (c .refuse .ensures)
 
 returns-3 : tie.Need-returns-3

@@ -7,10 +7,14 @@ use f.Tie as tie
 returns : tie.Need-returns
 unfolding these
 returns c =
-    let third = c .before .before .before .before .before .before .before .before .before in
-    let second = third .before .before .before .before .before .before .before .before .before in
-    let first = second .before .before .before .before .before .before .before .before .before in
-    let start = first .before .before .before .before .before .before .before .before .before .before in
+    let known = c .before .before .before .before .before in
+    let third = known .before .before .before .before in
+    let known = third .before .before .before .before .before in
+    let second = known .before .before .before .before in
+    let known = second .before .before .before .before .before in
+    let first = known .before .before .before .before in
+    let known = first .before .before .before .before .before in
+    let start = known .before .before .before .before .before in
     whole (start .args .source .now)
     (first .source-word .result) (second .source-word2 .result) (third .source-word3 .result) (c .source-word4 .result)
     (start .pre)

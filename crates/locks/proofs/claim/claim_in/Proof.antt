@@ -25,7 +25,7 @@ left p = let l = p .parse-block .last .1 .1 .1 .1 in tables (l .0) (l .1 .0) (l 
 
 -- the same call where the block was accepted, and where its paths have been claimed
 abbrev decoded : tie.After-answer → tie.After-parse-block
-decoded k = k .before .before .before .before .before .before .before .before
+decoded k = let known = k .before .before .before .before in known .before .before .before .before
 
 abbrev accepted : tie.After-claim-paths → tie.After-answer
 accepted k = k .before .before .before .before
@@ -33,7 +33,8 @@ accepted k = k .before .before .before .before
 returns : tie.Need-returns
 returns c =
     let told = c .before in
-    let p = told .before .before .before .before .before .before .before .before in
+    let known = told .before .before .before .before in
+    let p = known .before .before .before .before in
     let a = start p .args in
     block-refused (sourceIs (a .source)) (a .owner) (a .base-offset) (a .header-rev) (a .code .now) (a .words .now) (brought p) (left p)
     (p .parse-block .ensures)

@@ -49,7 +49,7 @@ returns c a b =
     (short a b (asked u .same-source .ensures) (first-part u .before .if1 .taken)
     (l .list .ensures _ _ (viewed a (first-part u .payload-of .ensures) (first-front u .front .ensures))
     (viewed b (second-part u .payload-of2 .ensures) (u .front2 .ensures)))
-    _ (omega (arith, c .before .if2 .taken, l .list .kept .1 .1 .1 .1 .1 .1 .0)))
+    (omega (arith, c .before .if2 .taken, l .list .kept .1 .1 .1 .1 .1 .1 .0)))
 
 tally-requires : tie.Need-tally-requires
 tally-requires c κs =
@@ -77,7 +77,7 @@ returns-2 c a b =
 returns-3 : tie.Need-returns-3
 returns-3 c a b =
     let s = c .before .before in
-    rw (c .refuse2 .ensures) (differ a b (s .same-source .ensures) _ _ (c .before .if1 .left))
+    rw (c .refuse2 .ensures) (differ a b (s .same-source .ensures) _ (c .before .if1 .left))
 
 pub hold-spec : {M : Type 1} → f.Statement.statement M
 hold-spec =

@@ -8,8 +8,8 @@ use Rattle.local_format.specs.Out.{Out}
 use Rattle.local_format.proofs.OutLaws.{told}
 use Rattle.semcode_records.specs.Records.{Taken}
 use Rattle.semcode_records.specs.Path.{Path, pathAt}
-use Rattle.semcode_records.specs.Maps.{pathOut}
-use Rattle.semcode_records.proofs.PathLaws.{path-refused, path-read}
+use Rattle.semcode_records.specs.Maps.{componentsOut}
+use Rattle.semcode_records.proofs.RecordsLaws.{next-refused, next-read}
 use Rattle.semcode_decode.proofs.TableLaws.{Filling, fill-first, fill-refused, fill-on, filled}
 use Rattle.semcode_decode.proofs.table.fill_paths as f
 use f.Tie as tie
@@ -37,14 +37,14 @@ fill-paths-spec =
     let e =
     fill-refused (reader l) (a .count) (a .at) (a .paths .now) (l .loop .i) (l .loop .cursor) (l .loop .paths) (l .loop .inv .2)
     (r .before .loop-test .taken)
-    (path-refused (a .header-rev) (a .bytes .now) (l .loop .cursor) (told pathOut (r .read-path .ensures) (c .before .enum-told .given .1)))
+    (next-refused (reader l (l .loop .cursor)) (told componentsOut (r .path-end .ensures) (c .before .enum-told .given .1)))
     in
-    rw (e, c .path-refusal .ensures, c .before .enum-told .given .1) (refl, tt)) (search needs) (search needs) (search needs) (search needs)
+    rw (e, c .components-refusal .ensures, c .before .enum-told .given .1) (refl, tt)) (search needs) (search needs) (search needs) (search needs)
     (λ c. let r = c .before .before .before in
     let l = r .before .before in
     let a = l .before .before .before .args in
     let more = r .before .loop-test .taken in
-    let p = path-read (a .header-rev) (a .bytes .now) (l .loop .cursor) (told pathOut (r .read-path .ensures) (c .before .answer .given .1)) in (
+    let p = next-read (reader l (l .loop .cursor)) (told componentsOut (r .path-end .ensures) (c .before .answer .given .1)) in (
       omega arith,
       simp length-set (l .loop .inv .1),
       fill-on (reader l) (a .count) (a .at) (a .paths .now) (l .loop .i) (l .loop .cursor) (l .loop .paths) (l .loop .inv .2) more (omega arith) (p .1),

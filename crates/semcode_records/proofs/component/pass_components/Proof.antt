@@ -10,7 +10,7 @@ use Rattle.semcode_records.specs.Records.{records, ends}
 use Rattle.semcode_records.specs.Component.{componentAt}
 use Rattle.semcode_records.specs.Sizes.{sizes, sizeIn}
 use Rattle.semcode_records.proofs.RecordsLaws.{ends-on}
-use Rattle.semcode_records.proofs.SizeLaws.{sized, sized-end, tuple-size}
+use Rattle.semcode_records.proofs.SizeLaws.{sized, sized-end}
 use Rattle.semcode_records.proofs.component.pass_components as f
 use f.Tie as tie
 
@@ -30,27 +30,26 @@ abbrev μ-loop : tie.MeasureT-loop
 
 loop-holds : tie.Need-loop-holds Inv-loop μ-loop
 loop-holds c =
-    let a = c .before .before .before .before .args in
-    let e = rw (c .before .component-sizes .ensures) at (c .component-size .ensures .0) in
-    let three = e ∙ tuple-size (a .header-rev) (a .kind) in
-    (refl, record { is = e; some = omega arith; small = omega arith })
+    let first = c .before in
+    let e = rw (first .before .before .component-sizes .ensures) at (first .component-size .ensures .0) in
+    (refl, record { is = e; some = omega arith; small = first .component-size .ensures .1 })
 
 add-cursor : tie.Need-add-cursor Inv-loop μ-loop
 add-cursor c =
     let old = c .before .before .before .before .before .loop .inv .1 .small in
-    ⊎-elim (λ w. let new = w .1 .ensures .1 in omega arith) (λ w. omega arith) (c .before .if3 .came)
+    ⊎-elim (λ w. let new = w .1 .ensures .1 in omega arith) (λ w. omega arith) (c .before .if5 .came)
 
 loop-again : tie.Need-loop-again Inv-loop μ-loop
 loop-again c =
     let l = c .before .before .before .before .before in
-    let a = l .before .before .before .before .before .args in
+    let sizes = l .before .before .before .before in
+    let a = sizes .before .before .before .before .args in
     let old = l .loop .inv .1 in
-    let is-here : c .before .if3 .known ≡ getD (a .bytes .now) (l .loop .cursor) 0 = ⊎-elim (λ w. w .3) (λ w. omega arith) (c .before .if3 .came) in
-    let k : Known (a .header-rev) (a .kind) (c .before .if3 .known) (c .before .if3 .size) =
+    let is-here : c .before .if5 .known ≡ getD (a .bytes .now) (l .loop .cursor) 0 = ⊎-elim (λ w. w .3) (λ w. omega arith) (c .before .if5 .came) in
+    let k : Known (a .header-rev) (a .kind) (c .before .if5 .known) (c .before .if5 .size) =
     ⊎-elim
-    (λ w. rw (w .3, w .4)
-    (record { is = rw (l .before .before .component-sizes .ensures) at (w .1 .ensures .0); some = omega arith; small = w .1 .ensures .1 }))
-    (λ w. rw (w .1, w .2) old) (c .before .if3 .came)
+    (λ w. rw (w .3, w .4) (record { is = rw (sizes .component-sizes .ensures) at (w .1 .ensures .0); some = omega arith; small = w .1 .ensures .1 }))
+    (λ w. rw (w .1, w .2) old) (c .before .if5 .came)
     in
     let next = sized-end (sized (a .header-rev) (a .kind) (a .bytes .now) (l .loop .cursor) (omega arith) _ (rw is-here at (k .is)) (k .some)) in (
       l .loop .inv .0
@@ -61,7 +60,7 @@ loop-again c =
 pub pass-components-spec : {M : Type 1} → f.Statement.statement M
 pass-components-spec =
     tie.close (tie.spec Inv-loop μ-loop
-    (λ c. refl) (search needs) (search needs) (search needs) loop-holds
+    (λ c. refl) (search needs) (λ c. refl) (search needs) (search needs) (search needs) (λ c. refl) loop-holds
     (λ c. c .before .before .loop .inv .0) (search needs) (search needs)
     (λ c. c .before .before .before .before .before .before .loop .inv .0)
     add-cursor (search needs) (search needs) loop-again

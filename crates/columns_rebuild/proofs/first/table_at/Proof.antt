@@ -7,12 +7,12 @@ use lib.ListN.{length, length-set}
 use Rattle.local_format.proofs.OutLaws.{told}
 use Rattle.evr0_fields.specs.declared.place.Place.{Place}
 use Rattle.evr0_columns.specs.Layout.{Item}
 use Rattle.column_fields.specs.Past.{columnPast}
 use Rattle.column_fields.specs.Maps.{placeIn, itemOf, itemsOf}
-use Rattle.column_fields.specs.Noted.{Starts, Noted}
-use Rattle.column_fields.proofs.TableLaws.{Walked, walked-first, walked-all, walked-more, walked-refused, starts-none, starts-more, starts-all}
-use Rattle.column_fields.proofs.table.table_at.Statement.{statement}
-use Rattle.column_fields.proofs.table.table_at.Tie as tie
+use Rattle.columns_rebuild.specs.Noted.{Starts, Noted}
+use Rattle.columns_rebuild.proofs.FirstLaws.{Walked, walked-first, walked-all, walked-more, walked-refused, starts-none, starts-more, starts-all}
+use Rattle.columns_rebuild.proofs.first.table_at.Statement.{statement}
+use Rattle.columns_rebuild.proofs.first.table_at.Tie as tie
 
 abbrev Inv-loop : tie.InvT-loop
 Inv-loop bytes at count table starts₀ columns next₀ j₀ starts next j =

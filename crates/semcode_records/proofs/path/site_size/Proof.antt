@@ -2,7 +2,7 @@
 use borrow.Author.Needs.{needs}
 use borrow.Author.Tests.{eq-eqb, ne-eqb}
 use native.Mathlib.Omega.{arith}
-use Rattle.path_words.proofs.site_size as f
+use Rattle.semcode_records.proofs.path.site_size as f
 use f.Tie as tie
 
 pub site-size-spec : {M : Type 1} → f.Statement.statement M
