@@ -1,4 +1,6 @@
 // Zeros in a lent table, of 64-bit numbers or of bytes, and bytes copied into one.
+#![tactic(auto)]
+
 ghost use Rattle.std.specs.Prelude.{◌≤◌, min, ◌≡◌, [], length, take, drop};
 ghost use Rattle.lent_table.specs.Lent.{lent};
 

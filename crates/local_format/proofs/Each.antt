@@ -1,12 +1,11 @@
 -- Whatever a reader answers has P, and whatever it refuses has Q: one law for each kind of step, so that `search steps` goes through a
 -- whole definition. Each law says of the answer of a step all that is known of it.
-use Prim.Native.Nat.{ℕ, ◌+◌, ◌≤◌}
+use Prim.Native.Nat.{ℕ, ◌+◌, ◌≤◌, zero-le}
 use mathlib.Core.Path.{◌≡◌, refl, sym}
 use mathlib.Core.Bool.{Bool, true, false, cond}
 use mathlib.Core.List.{List}
 use lib.Dec.{leb}
 use lib.ListN.{length}
-use borrow.Author.Rules.{zero≤}
 use borrow.Author.Tests.{leb-true}
 use Rattle.local_format.specs.Refusal.{Refusal, refusal}
 use Rattle.local_format.specs.Out.{Out, ok, refused, check, at_offset, moved, ◌>>=◌, ◌>>◌}
@@ -117,4 +116,4 @@ pub last_check : {Q : Refusal → Type 0} (t : Bool) (n at : ℕ) → (t ≡ fal
 last_check true n at h = answers tt
 last_check false n at h = refuses (h refl)
 
-pub ruleset steps = (tt, within, zero≤, answers, on_field, on_text, on_bind, on_then, then_bind, on_check)
+pub ruleset steps = (tt, within, zero-le, answers, on_field, on_text, on_bind, on_then, then_bind, on_check)

@@ -4,7 +4,7 @@ ghost use Rattle.local_format.specs.Refusal.{among, limits, kind_of, refusal};
 ghost use Rattle.local_format.specs.Out.{held, at_offset};
 ghost use Rattle.local_format.specs.Maps.{kind_out, refusal_out};
 
-#[derive(Drop)]
+#[derive(Clone, Copy)]
 pub enum Kind {
     Invalid,
     Limit,
@@ -17,7 +17,7 @@ pub enum Kind {
     Signature,
 }
 
-#[derive(Drop)]
+#[derive(Clone, Copy)]
 pub struct Refusal {
     pub kind: Kind,
     pub number: u8,

@@ -1,4 +1,6 @@
 // UTF-8: whether bytes are well-formed, their number of characters, and whether one is a control character.
+#![tactic(auto)]
+
 ghost use Rattle.std.specs.Prelude.{◌≡◌, cond, ℕ, ◌+◌, ◌<◌, max, length, eqb, leb};
 ghost use Rattle.utf8.specs.Utf8.{fresh, decode, is_control};
 ghost use Rattle.utf8.specs.Scan.{scan_of, printable, all_printable, later_at, utf8_at};
