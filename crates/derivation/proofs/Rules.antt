@@ -33,6 +33,7 @@ module _ (P : Rule → Type 0) (pos : P pos_witness1) (neg : P neg_witness1) (jo
   of_four r (Memᴰ.tail (Memᴰ.head e)) = subst P (sym e) neg
   of_four r (Memᴰ.tail (Memᴰ.tail (Memᴰ.head e))) = subst P (sym e) join
   of_four r (Memᴰ.tail (Memᴰ.tail (Memᴰ.tail (Memᴰ.head e)))) = subst P (sym e) op
+  of_four r (Memᴰ.tail (Memᴰ.tail (Memᴰ.tail (Memᴰ.tail x)))) = elim x [ ]
 
 pub four_shaped : (r : Rule) → Memᴰ r four_rules → Shaped r
 four_shaped =

@@ -1,1 +1,3 @@
 // Definitions and theorems only: the derivations of an evidence section.
+
+#![tactic(auto)]

@@ -4,7 +4,7 @@ use mathlib.Core.Logic.{◌↔◌}
 use mathlib.Core.List.Memᴰ
 use mathlib.Core.List.{List, [], ◌∷◌, Memᴰ}
 use Rattle.evr0_section.specs.Proposition.{Key}
-use Rattle.evr0_compare.specs.Compare.{Standing, Verdict, Listed, compared, of_both, Below, Rising, also, standing_key, listed_key}
+use Rattle.evr0_compare.specs.Compare.{Standing, Verdict, Listed, compared, of_both, Below, Rising, also, standing_key, listed_key, none}
 use Rattle.evr0_compare.specs.Compare.{Judged, in_both, in_first, in_second, Found, ListedAll}
 use Rattle.evr0_compare.proofs.KeyOrder.{keys_ordered}
 use Rattle.evr0_compare.proofs.Compare.{never_itself, listed_all}
@@ -17,6 +17,7 @@ module _ {A : Type 0} (key : A → Key) where
   once {y = y} (also b r) (Memᴰ.head e) (Memᴰ.tail n) k = absurd (never_itself (b y n) (ap key (sym e) ∙ k))
   once {x = x} (also b r) (Memᴰ.tail m) (Memᴰ.head f) k = absurd (never_itself (b x m) (ap key (sym f) ∙ sym k))
   once (also b r) (Memᴰ.tail m) (Memᴰ.tail n) k = once r m n k
+  once {x = x} {y = y} none x10 _ k = elim x10 [ ]
 
   tail_in : {x y z : A} {ys : List A} → x ≡ y → Below (key x) (key z) → Memᴰ z (y ∷ ys) → Memᴰ z ys
   tail_in e b (Memᴰ.head f) = absurd (never_itself b (ap key (e ∙ sym f)))

@@ -211,7 +211,12 @@ bytes_within s n k m h =
     ext_get_or 0 _ _ (a ∙ sym b) λ i g.
     let j : i < m = omega arith in
     let q : k + i < n = omega arith in
-    rw (get_or-take m (drop k (take n s)) i 0 j, get_or-take m (drop k s) i 0 j, get_or-drop k (take n s) i 0, get_or-drop k s i 0) (get_or-take n s (k + i) 0 q)
+    rw (
+      get_or-take m (drop k (take n s)) i 0 j,
+      get_or-take m (drop k s) i 0 j,
+      get_or-drop k (take n s) i 0,
+      get_or-drop k s i 0,
+    ) (get_or-take n s (k + i) 0 q)
 
 pub source_set_at_lem : (given : Given) (x : Input) (d : Section) → decoded given x ≡ ok d
     → d.tables.head.source_set ≡ bytes_at x.bytes (source_set_at x) 32

@@ -1,1 +1,3 @@
 // Definitions and theorems only: what an evidence section is.
+
+#![tactic(auto)]

@@ -64,7 +64,8 @@ module _ (s : Section) (r : ℕ) (ms : List ℕ) where
       let xs : List ℕ = turns s r ms i 0 in
       let at : length xs + (j - i) ≡ j = omega (arith, turns_length s ms r i 0) in
       let e : i + (j - i) ≡ j = omega arith in
-      ap (λ (j : ℕ). get_or (xs ++ drop i ms) j 0) (sym at) ∙ get_or-append-add xs (drop i ms) (j - i) 0 ∙ get_or-drop i ms (j - i) 0 ∙ ap (λ (j : ℕ). get_or ms j 0) e
+      ap (λ (j : ℕ). get_or (xs ++ drop i ms) j 0) (sym at) ∙ get_or-append-add xs (drop i ms) (j - i) 0 ∙ get_or-drop i ms (j - i) 0
+      ∙ ap (λ (j : ℕ). get_or ms j 0) e
 
   partly_length : (i : ℕ) → i ≤ length ms → length (partly i) ≡ length ms
   unfolding partly

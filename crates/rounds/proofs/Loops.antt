@@ -72,7 +72,8 @@ module _ (s : Section) (r : ℕ) (t : List ℕ) (i : ℕ) where
   unfolding turn_in
   turn_marked n = rw (ne_eqb (get_or t i 0) 0 n)
 
-  pub turn_unmarked : (b : Bool) → get_or t i 0 ≡ 0 → were_marked s r t (proof_at s i).parent_count (proof_at s i).first_parent ≡ b → turn_in s r t i ≡ cond b r 0
+  pub turn_unmarked : (b : Bool) → get_or t i 0 ≡ 0 → were_marked s r t (proof_at s i).parent_count (proof_at s i).first_parent ≡ b
+      → turn_in s r t i ≡ cond b r 0
   unfolding turn_in
   turn_unmarked b z e = rw (eq-eqb (get_or t i 0) 0 z, e)
 

@@ -145,7 +145,8 @@ module _ (cells_at : ℕ) (s : Section) (checked : Checked s) (pass : kin cells_
       ⊎_elim (λ g. g)
       (λ g.
       let some =
-      from_some max (λ m. n < m) (max_one (suc n)) s (heights s) (proof_at s i).parent_count (proof_at s i).first_parent 0 (omega (arith, heights_made.1 i l)) in
+      from_some max (λ m. n < m) (max_one (suc n)) s (heights s) (proof_at s i).parent_count (proof_at s i).first_parent 0 (omega (arith, heights_made.1 i l))
+      in
       absurd (⊎_elim (λ q. omega arith) (λ q. omega (arith, q.2, upto q.0 q.1)) some))
       (order (height s i) (suc n))
 

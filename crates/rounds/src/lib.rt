@@ -1,1 +1,3 @@
 // Definitions and theorems only: the depths of an evidence section by rounds.
+
+#![tactic(auto)]

@@ -9,7 +9,7 @@ use Rattle.local_format.specs.Text.{Span, text_at}
 use Rattle.local_format.specs.Tag.{equal}
 use Rattle.utf8.specs.Utf8 as utf8
 use Rattle.derivation.specs.Rule.{Rule, Named, known, unknown, rule_named, four_rules}
-use Rattle.rule_table.specs.Load.{is_shaped, bounded, rule_in, rule_at, named_in, rules_from, rules_of, Distinct, also, rule_bytes, each_rule, written}
+use Rattle.rule_table.specs.Load.{is_shaped, bounded, rule_in, rule_at, named_in, rules_from, rules_of, Distinct, also, rule_bytes, each_rule, written, none}
 use Rattle.derivation.proofs.Rules.{named}
 use Rattle.rule_table.proofs.Load.{equal_self, differ, loaded}
 
@@ -17,6 +17,7 @@ found : {rs : List Rule} {r : Rule} → Distinct rs → Memᴰ r rs → rule_nam
 unfolding rule_named
 found {r = r} (also {r = x} other d) (Memᴰ.head e) = simp (e, equal_self x.name)
 found {r = r} (also {r = x} other d) (Memᴰ.tail m) = simp (differ r.name x.name (other r m)) (found d m)
+found {r = r} none x3 = elim x3 [ ]
 
 -- the name finds exactly the rule that has it
 pub loaded_named : {rs : List Rule} → Distinct rs → (name : List ℕ) (r : Rule) → (rule_named rs name ≡ known r) ↔ (Memᴰ r rs × (name ≡ r.name))

@@ -173,7 +173,8 @@ rule_written s at x e =
     subst (λ (x : Loaded). (x.next ≤ length s) × (drop at s ≡ rule_bytes x.rule ++ drop x.next s)) (ok_same e3)
     (omega arith, rw k at (rule_at_lem s at fits short))
 
-rules_written : (n : ℕ) (before : List Rule) (s : List ℕ) (at : ℕ) (rs : List Rule) → at ≤ length s → rules_from n before s at ≡ ok rs → drop at s ≡ each_rule rs
+rules_written : (n : ℕ) (before : List Rule) (s : List ℕ) (at : ℕ) (rs : List Rule) → at ≤ length s → rules_from n before s at ≡ ok rs
+    → drop at s ≡ each_rule rs
 unfolding rules_from each_rule
 rules_written zero before s at rs l e =
     let (t, e1) = checked_ok (eqb at (length s)) 69 0 _ e in
