@@ -24,7 +24,7 @@ use local_format::refusal::Refusal;
 
 // What is given of an accepted section: the schema, the epoch, the places in the payload of both namespaces' lengths, how many characters each has,
 // and the counts.
-#[derive(Drop)]
+#[derive(Clone, Copy)]
 pub struct Accepted {
     pub schema: u16,
     pub epoch: u16,
@@ -35,7 +35,7 @@ pub struct Accepted {
     pub counts: Counts,
 }
 
-#[derive(Drop)]
+#[derive(Clone, Copy)]
 pub enum Outcome {
     Accepted(Accepted),
     Refused(Refusal),

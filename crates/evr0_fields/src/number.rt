@@ -1,13 +1,13 @@
 // Numbers of records. A proof number never serves as a proposition index or a witness number.
 ghost use Rattle.std.specs.Prelude.{◌≡◌};
 
-#[derive(Drop)]
+#[derive(Clone, Copy)]
 pub struct ProofNumber(pub u32);
 
-#[derive(Drop)]
+#[derive(Clone, Copy)]
 pub struct PropositionIndex(pub u32);
 
-#[derive(Drop)]
+#[derive(Clone, Copy)]
 pub struct WitnessNumber(pub u32);
 
 impl ProofNumber {

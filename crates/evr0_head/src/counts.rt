@@ -8,7 +8,7 @@ ghost use Rattle.evr0_head.specs.Maps.{counted_out};
 use local_format::field::U32;
 use local_format::refusal::Refusal;
 
-#[derive(Drop)]
+#[derive(Clone, Copy)]
 pub struct Counts {
     pub propositions: usize,
     pub proofs: usize,

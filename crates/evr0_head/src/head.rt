@@ -17,7 +17,7 @@ use local_format::refusal::Refusal;
 use local_format::text::Text;
 
 // The places of the namespaces' lengths and of the first count, and the place after the counts.
-#[derive(Drop)]
+#[derive(Clone, Copy)]
 pub struct Head {
     pub schema: u16,
     pub epoch: u16,
@@ -30,7 +30,7 @@ pub struct Head {
     pub next: usize,
 }
 
-#[derive(Drop)]
+#[derive(Clone, Copy)]
 pub enum HeadAnswer {
     Read(Head),
     Refused(Refusal),

@@ -15,7 +15,7 @@ use local_format::field::{u16_at, u32_at};
 use local_format::refusal::Refusal;
 
 // The counts of the tables, the size of a witness, and where the tables of the witnesses and of the parents start.
-#[derive(Drop)]
+#[derive(Clone, Copy)]
 pub struct Layout {
     pub counts: Counts,
     pub witness_size: usize,
@@ -24,7 +24,7 @@ pub struct Layout {
 }
 
 // A proof with the polarity that its rule asks.
-#[derive(Drop)]
+#[derive(Clone, Copy)]
 pub struct SettledProof {
     pub proof_id: ProofNumber,
     pub proposition_index: PropositionIndex,

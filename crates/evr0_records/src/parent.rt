@@ -1,6 +1,6 @@
 // A parent cell.
 ghost use Rattle.std.specs.Prelude.{◌≡◌};
-ghost use Rattle.evr0_section.specs.Witness.{parent_row_lem};
+ghost use Rattle.evr0_section.specs.Witness.{parent_row};
 ghost use Rattle.evr0_records.specs.Maps.{parent_out};
 
 use evr0_fields::number::ProofNumber;

@@ -24,7 +24,7 @@ use local_format::field::{U16, U32};
 use local_format::refusal::Refusal;
 use local_format::text::Text;
 
-#[derive(Drop)]
+#[derive(Clone, Copy)]
 pub struct Proof {
     pub proof_id: ProofNumber,
     pub proposition_index: PropositionIndex,
@@ -58,7 +58,7 @@ pub struct Ruled {
 }
 
 // The next proof's number, and the next unowned witness and parent cell.
-#[derive(Drop)]
+#[derive(Clone, Copy)]
 pub struct Unowned {
     pub proof: usize,
     pub witness: usize,

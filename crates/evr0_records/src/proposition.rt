@@ -10,7 +10,7 @@ use local_format::field::U32;
 use local_format::refusal::Refusal;
 use local_format::text::Text;
 
-#[derive(Drop)]
+#[derive(Clone, Copy)]
 pub struct Proposition {
     pub kind: Span,
     pub ast_owner_id: u32,

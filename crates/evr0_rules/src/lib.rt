@@ -1,4 +1,6 @@
 // The proof rules of a section: the four, or those of a table that comes as bytes.
+#![tactic(auto)]
+
 pub mod find;
 mod four;
 mod grow;

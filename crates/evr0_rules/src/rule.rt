@@ -10,7 +10,7 @@ use evr0_fields::check::both;
 use local_format::field::u16_at;
 
 // How many witnesses and parents, and which operation, a proof by it has; the polarity that it asks of its witness, 2 where it asks none.
-#[derive(Drop)]
+#[derive(Clone, Copy)]
 pub struct Rule {
     pub polarity: u8,
     pub witnesses: u8,

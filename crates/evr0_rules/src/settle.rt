@@ -6,7 +6,7 @@ ghost use Rattle.evr0_rules.specs.Maps.{named_out, rules_in, RulesThere};
 use crate::find::{Named, rule_sought};
 use crate::four::rule_named;
 
-#[derive(Drop)]
+#[derive(Clone, Copy)]
 pub enum Rules {
     Four,
     Table,

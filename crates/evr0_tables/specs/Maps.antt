@@ -28,7 +28,8 @@ before_out p (prior.After start r) = props.after (props.key_of (drop start p) (p
 
 -- a proposition at the front of s
 abbrev pub proposition_row_out : List ℕ → PropositionRead → Out (Row props.Proposition props.Before)
-proposition_row_out s (proposition.Read r n) = ok (record { item = proposition_record r; size = n; state = props.after (props.key_of s (proposition_record r)) })
+proposition_row_out s (proposition.Read r n) =
+    ok (record { item = proposition_record r; size = n; state = props.after (props.key_of s (proposition_record r)) })
 proposition_row_out s (proposition.Refused r) = refused (refusal_out r)
 
 -- what is unowned after a proof, by its own record

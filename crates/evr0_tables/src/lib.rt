@@ -1,4 +1,6 @@
 // The four tables of a payload.
+#![tactic(auto)]
+
 pub mod part;
 pub mod payload;
 mod rows;

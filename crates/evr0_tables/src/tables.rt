@@ -7,7 +7,7 @@ ghost use Rattle.evr0_section.specs.Head.{span_width};
 ghost use Rattle.evr0_section.specs.Proposition.{first, proposition_row};
 ghost use Rattle.evr0_section.specs.Proof as of;
 ghost use Rattle.evr0_section.specs.Proof.{none_owned, proof_row};
-ghost use Rattle.evr0_section.specs.Witness.{witness_row, parent_row_lem};
+ghost use Rattle.evr0_section.specs.Witness.{witness_row, parent_row};
 ghost use Rattle.evr0_head.specs.Maps.{counts_out};
 ghost use Rattle.evr0_rules.specs.Maps.{rules_in, RulesThere};
 ghost use Rattle.evr0_tables.specs.Maps.{next_in, asked, starts_in, table_out, owned_in, proof_table_out};
