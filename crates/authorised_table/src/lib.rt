@@ -1,2 +1,4 @@
 // Of every proposition of an evidence section, whether it is authorised.
+#![tactic(auto)]
+
 pub mod table;

@@ -161,7 +161,8 @@ module _ (which : Given) (first : List ℕ) (first_cursor : ℕ) (second : List 
     known : (rules : List Rule) × (rules_given which ≡ ok rules)
     known = let (rules, is, n) = bind_ok (rules_given which) _ (sym loads ∙ loaded) in (rules, is)
 
-    pub by_first : {r : Refusal} (after : Lent) → given.outcome ≡ refused r → Answers which first first_cursor second second_cursor before after (first_refused r)
+    pub by_first : {r : Refusal} (after : Lent) → given.outcome ≡ refused r
+        → Answers which first first_cursor second second_cursor before after (first_refused r)
     by_first {r} after e =
         let is : all ≡ first_refused r = first_refused_lem which x₁ y₁ (length before.verdicts) known.0 known.1 r (not_decoded tells e) in
         record { answer = ap told (sym is); tables = λ c g. absurd (first_never (sym is ∙ g)) }

@@ -21,7 +21,7 @@ use local_format::refusal::Refusal;
 use section_pair::pair::{Pair, Totals, hold};
 
 // The totals; or a refusal and whose it is: that of the table of rules, of the first section, of the second, or of the pair.
-#[derive(Drop)]
+#[derive(Clone, Copy)]
 pub enum Comparison {
     Held(Totals),
     RulesRefused(Refusal),

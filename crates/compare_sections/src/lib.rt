@@ -1,2 +1,4 @@
 // Two evidence sections held against each other.
+#![tactic(auto)]
+
 pub mod compare;

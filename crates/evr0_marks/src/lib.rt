@@ -1,4 +1,6 @@
 // Evidence sections (EVR0) with the marks of their proofs.
+#![tactic(auto)]
+
 mod marks;
 pub mod record;
 pub mod section;

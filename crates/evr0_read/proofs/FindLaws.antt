@@ -107,7 +107,8 @@ by_given which room bytes cursor is = bind_ok (rules_given which) _ is
 
 -- ---- For each table
 module _ (which : Given) (bytes : List ℕ) (cursor : ℕ) (before : Lent) {after : Lent} where
-  pub finds_none : (w : Wanted) {r : Refusal} → decode_given which before bytes cursor ≡ refused r → Filled (decode_given which before bytes cursor) before after
+  pub finds_none : (w : Wanted) {r : Refusal} → decode_given which before bytes cursor ≡ refused r
+      → Filled (decode_given which before bytes cursor) before after
       → Finds which w bytes cursor before after (refused r)
   finds_none (wanted.Proposition n) = gone _ n.0 which bytes cursor before
   finds_none (wanted.Proof n) = gone _ n.0 which bytes cursor before

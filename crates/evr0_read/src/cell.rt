@@ -3,7 +3,7 @@ ghost use Rattle.std.specs.Prelude.{◌≡◌, ◌-◌, ◌*◌, ◌≤◌};
 ghost use Rattle.local_format.specs.Out.{refused};
 ghost use Rattle.local_format.specs.Maps.{refusal_out};
 ghost use Rattle.evr0_section.specs.Head.{span_width, witness_size};
-ghost use Rattle.evr0_section.specs.Witness.{witness_of, parent_row_lem};
+ghost use Rattle.evr0_section.specs.Witness.{witness_of, parent_row};
 ghost use Rattle.evr0_read.specs.Entry.{placed_witness, placed_parent, record_at};
 ghost use Rattle.evr0_read.specs.Place.{witness_place, parent_place};
 ghost use Rattle.evr0_read.specs.Maps.{witness_entry_out, witness_beside, parent_entry_out};

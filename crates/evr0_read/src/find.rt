@@ -25,7 +25,7 @@ pub enum Wanted {
 }
 
 // The section's schema, the cursor after it, its counts, and where the record starts in the payload.
-#[derive(Drop)]
+#[derive(Clone, Copy)]
 pub enum Found {
     At {
         schema: u16,

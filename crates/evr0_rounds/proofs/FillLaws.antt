@@ -1,6 +1,6 @@
 -- The rounds or their refusal, from the checks of the parents and from the table after 256 rounds; and what the lent table then holds.
 use Prim.Native.Nat.{ℕ, ◌≤◌}
-use mathlib.Core.Path.{◌≡◌, refl, sym, ap, ap₂, ◌∙◌}
+use mathlib.Core.Path.{◌≡◌, sym, ap, ap₂, ◌∙◌}
 use mathlib.Core.Bool.{Bool, true, false}
 use mathlib.Core.List.{List, ◌++◌}
 use native.Mathlib.Omega.{arith}
@@ -8,7 +8,7 @@ use lib.ListN.{length, take, drop, length-append, length-drop}
 use lib.Seq.{take_at}
 use Rattle.local_format.specs.Refusal.{Refusal}
 use Rattle.local_format.specs.Out.{Out, ok, refused, refuse}
-use Rattle.local_format.proofs.OutLaws.{never, ok_same, on_refused}
+use Rattle.local_format.proofs.OutLaws.{never, ok_same}
 use Rattle.lent_table.specs.Lent.{lent}
 use Rattle.derivation.specs.Section.{Section}
 use Rattle.rounds.specs.Rounds.{kin, rounds}

@@ -1,9 +1,8 @@
 -- The parents of a proof by one cell, as the payload's bytes hold it; and of all proofs, one after the other.
 use Prim.Native.Nat.{ℕ, ◌+◌, ◌-◌, ◌*◌, ◌≤◌, ◌<◌}
-use mathlib.Core.Path.{◌≡◌, refl, sym, ap, ap₂, ◌∙◌}
-use mathlib.Core.Bool.{Bool, true, false, ◌&&◌}
+use mathlib.Core.Path.{◌≡◌, refl, sym, ap, ◌∙◌}
+use mathlib.Core.Bool.{true, false, ◌&&◌}
 use mathlib.Core.List.{List, []}
-use native.Mathlib.Omega.{arith}
 use lib.Dec.{eqb, ltb, leb}
 use lib.ListN.{length, get_or}
 use Rattle.local_format.specs.Out.{Out, ok, refuse}
@@ -13,7 +12,7 @@ use Rattle.derivation.specs.Section.{Proof, Section, proof_at, parent_at}
 use Rattle.derivation.specs.Pass.{agrees, parents_from}
 use Rattle.derivation.proofs.Laws.{parents_none, parents_25, parents_26, parents_turn}
 use Rattle.rounds.specs.Rounds.{kin_of}
-use Rattle.evr0_pass.specs.View.{Layout, after_name, proof_view, view, TablesThere, ProofThere}
+use Rattle.evr0_pass.specs.View.{Layout, after_name, proof_view, view, ProofThere}
 use Rattle.evr0_pass.proofs.ViewLaws.{proof_at_lem, parent_at_lem, agrees_at}
 use Rattle.evr0_rounds.specs.Steps.{Numbers, cells_pass}
 

@@ -27,7 +27,7 @@ use evr0_rules::settle::Rules;
 use evr0_tables::payload::Places;
 use local_format::refusal::Refusal;
 
-#[derive(Drop)]
+#[derive(Clone, Copy)]
 pub enum Outcome {
     // How many proofs there are, each of them marked.
     Marked(usize),

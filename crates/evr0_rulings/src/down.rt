@@ -1,6 +1,6 @@
 // The way down: from a proof, always the first parent.
 ghost use Rattle.std.specs.Prelude.{◌≡◌, ◌*◌, ◌<◌, length};
-ghost use Rattle.derivation.specs.Down.{way_down_lem};
+ghost use Rattle.derivation.specs.Down.{way_down};
 ghost use Rattle.evr0_section.specs.Section.{Section, section_of};
 ghost use Rattle.evr0.specs.Answer.{lent_of};
 ghost use Rattle.evr0.specs.AnswerMaps.{given_out};

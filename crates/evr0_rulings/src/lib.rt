@@ -1,3 +1,5 @@
 // What is asked of a ruling: its way down.
+#![tactic(auto)]
+
 pub mod down;
 mod held;

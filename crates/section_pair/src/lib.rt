@@ -1,4 +1,6 @@
 // Two evidence sections that were decoded: the list of their propositions.
+#![tactic(auto)]
+
 mod key;
 mod list;
 pub mod pair;

@@ -11,7 +11,7 @@ use local_format::refusal::Refusal;
 use local_format::tag::same;
 
 // How many propositions are agreed, contradicted, of the first section alone, of the second alone.
-#[derive(Drop)]
+#[derive(Clone, Copy)]
 pub struct Totals {
     pub agreed: usize,
     pub contradicted: usize,
