@@ -29,7 +29,7 @@ sets_part s at xs h e =
     let a : take (length s - at) (drop at s) ≡ drop at s = take_all (length s - at) (drop at s) (omega arith) in
     let b : drop (length s - at) (drop at s) ≡ [] = drop_of_length-le (drop at s) {i = length s - at} (omega arith) in
     let z : 0 + length xs ≡ length xs = omega arith in
-    rw (e, a, b, append-nil, sets-eq xs (drop at s) 0 (omega arith), sets-eq xs s at h, z, drop-drop (length xs) at s, append_assoc)
+    rw (e, a, b, append-nil, sets-eq xs (drop at s) 0 (omega arith), sets-eq xs s at h, z, drop-drop (length xs) at s, append_assoc, append_assoc)
 
 sets_past : (s : List ℕ) (at : ℕ) (ys : List ℕ) → length s ≤ at → sets s at ys ≡ s
 sets_past s at [] h = refl

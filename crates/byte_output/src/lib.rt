@@ -1,5 +1,7 @@
 // Bytes into a lent buffer. Those past its end are dropped and counted: the place after the last of them, held at the largest 64-bit
 // number, is the length that all of them take, so it is above the buffer's length exactly where some were dropped.
+#![tactic(auto)]
+
 ghost use Rattle.std.specs.Prelude.{◌≤◌, ◌≡◌, [], ◌∷◌, length};
 ghost use Rattle.std.proofs.lemmas.List.Edits.{sets};
 ghost use Rattle.byte_output.specs.Written.{Written};

@@ -39,7 +39,8 @@ module _ (c : List ℕ) (at : ℕ) where
   unfolding field_moved field copied
   raw_moved n h = ap (written (field in_groups (raw n))) (raw_long in_bytes c at n h)
 
-  pub whole_moved : (width : ℕ) {y : Out (Read ℕ)} → y ≡ (in_bytes width).get (length c) (drop at c) → field_moved (whole width) c at ≡ written (in_groups width) y
+  pub whole_moved : (width : ℕ) {y : Out (Read ℕ)} → y ≡ (in_bytes width).get (length c) (drop at c)
+      → field_moved (whole width) c at ≡ written (in_groups width) y
   unfolding field_moved field
   whole_moved width e = ap (written (field in_groups (whole width))) (whole_got in_bytes c at width e)
 

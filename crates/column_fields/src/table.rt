@@ -9,7 +9,7 @@ use crate::item::Item;
 use groups::read::Width;
 
 // The tables of a section; a span of a witness has so many bytes. The head is one of a single record.
-#[derive(Drop)]
+#[derive(Clone, Copy)]
 pub enum Table {
     Head,
     Propositions,

@@ -1,4 +1,6 @@
 // What writing the columns of a section and taking them back answer.
+#![tactic(auto)]
+
 ghost use Rattle.local_format.specs.Out.{refused};
 ghost use Rattle.local_format.specs.Maps.{refusal_out};
 ghost use Rattle.evr0.specs.Answer.{lent_of};

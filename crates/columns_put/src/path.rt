@@ -12,7 +12,7 @@ use groups::read::Width;
 use local_format::field::u16_at;
 
 // So far from the record's start, or so far behind a text of it.
-#[derive(Drop)]
+#[derive(Clone, Copy)]
 pub enum Path {
     From(usize),
     Behind { text: usize, offset: usize },

@@ -3,7 +3,7 @@ ghost use Rattle.std.specs.Prelude.{◌≡◌, ◌<◌, length, get_or};
 ghost use Rattle.columns_put.specs.Maps.{starts_in, Fits};
 
 // Those that start at the places of a list, or `count` of one size, one after the other.
-#[derive(Drop)]
+#[derive(Clone, Copy)]
 pub enum Records {
     Listed,
     Even {

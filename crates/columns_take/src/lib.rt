@@ -1,2 +1,4 @@
 // Columns taken back.
+#![tactic(auto)]
+
 pub mod take;

@@ -1,2 +1,4 @@
 // Sections written as their columns.
+#![tactic(auto)]
+
 pub mod write;
