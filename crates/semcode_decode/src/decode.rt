@@ -14,7 +14,7 @@ use lent_table::{clear, clear_bytes, clear_from, copy_bytes};
 use local_format::refusal::{Refusal, based, refuse};
 
 // Counts, tags found and places in the block.
-#[derive(Drop)]
+#[derive(Clone, Copy)]
 pub struct StringTableDebugOwnershipParse {
     pub string_count: usize,
     pub string_table_end_offset: usize,
@@ -29,7 +29,7 @@ pub struct StringTableDebugOwnershipParse {
     pub instr_start_offset: usize,
 }
 
-#[derive(Drop)]
+#[derive(Clone, Copy)]
 pub enum Parse {
     Whole(StringTableDebugOwnershipParse),
     Refused(Refusal),

@@ -1,4 +1,6 @@
 // The string, DBG0, OWN0 and SIG0 tables of a function's block.
+#![tactic(auto)]
+
 pub mod decode;
 mod signature;
 mod table;

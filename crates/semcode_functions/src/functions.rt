@@ -17,7 +17,7 @@ use semcode_decode::decode::{Parse, StringTableDebugOwnershipParse, parse_refusa
 pub const MAX_FUNCTIONS: usize = 1024;
 
 // The last function's block: where it starts in the file, and its counts, tags and places.
-#[derive(Drop)]
+#[derive(Clone, Copy)]
 pub enum Last {
     Nothing,
     Block {
@@ -27,14 +27,14 @@ pub enum Last {
 }
 
 // How many functions there are, the cursor after them, and the last one's block.
-#[derive(Drop)]
+#[derive(Clone, Copy)]
 pub struct File {
     pub functions: usize,
     pub cursor: usize,
     pub last: Last,
 }
 
-#[derive(Drop)]
+#[derive(Clone, Copy)]
 pub enum Functions {
     Whole(File),
     Refused(Refusal),

@@ -1,4 +1,6 @@
 // A string, a debug symbol, a path and a path's component by number. Each decodes the block anew first.
+#![tactic(auto)]
+
 ghost use Rattle.std.specs.Prelude.{◌≡◌};
 ghost use Rattle.local_format.specs.Out.{refuse};
 ghost use Rattle.local_format.specs.Refusal.{refusal};

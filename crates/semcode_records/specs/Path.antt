@@ -68,8 +68,8 @@ or_unknown number at unknown = refuse number at
 
 -- the byte of an event's kind
 abbrev pub kind_of_event : Event → ℕ
-kind_of_event (borrow activation) = 0
-kind_of_event (write execution) = 1
+kind_of_event (borrow _) = 0
+kind_of_event (write _) = 1
 
 -- ---- The path
 

@@ -24,21 +24,21 @@ pub const WRITE_EXECUTION_MODE_STORE_VAR_SITE: u8 = 0;
 
 pub const WRITE_EXECUTION_MODE_MAKE_RECORD_SITE: u8 = 1;
 
-#[derive(Drop)]
+#[derive(Clone, Copy)]
 pub enum DecodedBorrowActivation {
     None,
     FrameEntry,
     StoreVarSite(u32),
 }
 
-#[derive(Drop)]
+#[derive(Clone, Copy)]
 pub enum DecodedWriteExecution {
     None,
     StoreVarSite(u32),
     MakeRecordSite(u32),
 }
 
-#[derive(Drop)]
+#[derive(Clone, Copy)]
 pub enum DecodedEvent {
     Borrow(DecodedBorrowActivation),
     Write(DecodedWriteExecution),

@@ -1,8 +1,6 @@
 pub mod SymbolsLaws
 pub mod BlockSymbols
-pub mod Again
 pub mod Filled
 pub mod PartSymbols
 pub mod FileLaws
 pub mod Wanted
-pub mod Walk

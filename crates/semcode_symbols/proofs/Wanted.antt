@@ -15,10 +15,10 @@ struct_of y = record { pc = y.pc; line = y.line; col = y.column }
 abbrev pub none : DebugSymbol
 none = struct_of no_symbol
 
-get_d_map : {A B : Type 0} (f : A → B) (xs : List A) (i : ℕ) (d : A) → get_or (map f xs) i (f d) ≡ f (get_or xs i d)
-get_d_map f [] i d = refl
-get_d_map f (x ∷ xs) zero d = refl
-get_d_map f (x ∷ xs) (suc i) d = get_d_map f xs i d
+get_or_map : {A B : Type 0} (f : A → B) (xs : List A) (i : ℕ) (d : A) → get_or (map f xs) i (f d) ≡ f (get_or xs i d)
+get_or_map f [] i d = refl
+get_or_map f (x ∷ xs) zero d = refl
+get_or_map f (x ∷ xs) (suc i) d = get_or_map f xs i d
 
 get_or_zeros : {A : Type 0} (m i : ℕ) (d : A) → get_or (replicate m d) i d ≡ d
 get_or_zeros zero i d = refl
@@ -51,4 +51,4 @@ module _ (n : ℕ) (xs : List Symbol) where
   -- a record with the numbers of symbol i, or zeros past the symbols
   pub is_wanted : (i : ℕ) (r : DebugSymbol) → symbol_is r ≡ get_or xs i no_symbol → r ≡ get_or wanted i none
   is_wanted i r e =
-      ap struct_of (e ∙ sym (get_or_padded xs (n - length xs) i no_symbol)) ∙ sym (get_d_map struct_of (lent_symbols n xs) i no_symbol)
+      ap struct_of (e ∙ sym (get_or_padded xs (n - length xs) i no_symbol)) ∙ sym (get_or_map struct_of (lent_symbols n xs) i no_symbol)

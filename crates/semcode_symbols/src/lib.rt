@@ -1,5 +1,7 @@
 // Debug symbols in a lent list of records. Four functions take the list: one stores a record, one fills the list, and the two tops decode
 // a block, or all functions of a file, and fill it.
+#![tactic(auto)]
+
 ghost use Rattle.std.specs.Prelude.{◌≡◌, map, ◌-◌, ◌*◌, ◌≤◌, ◌<◌, length, get_or, set};
 ghost use Rattle.semcode_records.specs.Records.{records};
 ghost use Rattle.semcode_records.specs.Symbol.{symbol_at};
