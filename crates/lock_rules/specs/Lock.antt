@@ -25,8 +25,8 @@ pub record Lock (R : Type 0) : Type 0 where
   pub parts : List Part
 
 abbrev pub is_write : Event → Bool
-is_write (borrow activation) = false
-is_write (write execution) = true
+is_write (borrow _) = false
+is_write (write _) = true
 
 -- the lock that an owner takes on a path, whose symbol stands for a root
 abbrev pub lock_of : {R : Type 0} → (ℕ → R) → ℕ → Path → Lock R

@@ -1,1 +1,3 @@
 // Definitions and theorems only: locks with owners.
+
+#![tactic(auto)]

@@ -6,7 +6,7 @@ ghost use Rattle.lock_words.specs.Maps.{source_is};
 use local_format::field::le32;
 
 // Eight bytes to a word, lowest first.
-#[derive(Drop)]
+#[derive(Clone, Copy)]
 pub struct Source {
     pub a: u64,
     pub b: u64,

@@ -221,5 +221,6 @@ module _ (revision : ℕ) (s starts : List ℕ) (count : ℕ) (source : List ℕ
       let k = locks_length (held_in words) words in
       let room : leb (length (locks_in words) + length paths) 256 ≡ true = le-leb (length (locks_in words) + length paths) 256 (omega arith) in
       let z : length (locks_in words ++ map (lock_of (root_under source) owner) paths) ≡ n =
-      length-append (locks_in words) (map (lock_of (root_under source) owner) paths) ∙ rw (length-map paths (lock_of (root_under source) owner)) (omega arith) in
+      length-append (locks_in words) (map (lock_of (root_under source) owner) paths)
+      ∙ rw (length-map paths (lock_of (root_under source) owner)) (omega arith) in
       rw (← a paths l, ← b paths l (sym (a paths l)), room) (record { told = ap ok (sym z); left = x.locks paths l (sym (a paths l)) })
