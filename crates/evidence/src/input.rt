@@ -1,6 +1,8 @@
 // Standard input, with a read that fails told from its end.
 ghost use Rattle.io.specs.Counts.{IsPrefixLen};
 
+use std::io::{Read, Stdin};
+
 // How many bytes were read, and whether a read failed after them.
 #[derive(Drop)]
 pub struct Input {
@@ -9,16 +11,15 @@ pub struct Input {
 }
 
 // Reads until the buffer is full, the input ends or a read fails.
-pub fn read_input(buf: &mut [u8]) -> Input
+pub fn read_input(mut from: Stdin, buf: &mut [u8]) -> Input
     ensures { IsPrefixLen result.len buf.new }
 {
     let mut len: usize = 0;
     while len < buf.len() {
-        let got = libc::read(libc::STDIN_FILENO, &mut buf[len..]);
-        if got < 0 {
+        let got = from.read(&mut buf[len..]);
+        let Ok(more) = got else {
             return Input { len, failed: true };
-        }
-        let more = io::count(got, &buf[len..]);
+        };
         if more == 0 {
             return Input { len, failed: false };
         }

@@ -106,6 +106,7 @@ numeral_of (also {d} a b none) alone = let e : 10 * 0 + (d - 0x30) ≡ d - 0x30 
 numeral_of (also {d} {ds} a b rest) (first l) =
     let e : 10 * 0 + (d - 0x30) ≡ d - 0x30 = omega arith in
     rw e (after_positive (d - 0x30) (omega arith) rest ∙ ap (λ (x : List ℕ). x ++ ds) (one_digit d a b))
+numeral_of none x3 = elim x3 [ ]
 
 pub only_numeral : {n : ℕ} {ds : List ℕ} → Numeral n ds → ds ≡ decimal n
 only_numeral r = sym (numeral_of r.digits r.leads) ∙ ap decimal r.value

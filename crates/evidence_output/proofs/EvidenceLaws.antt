@@ -1,5 +1,5 @@
 -- The output from what the decoder answers and leaves in its lent tables.
-use Prim.Native.Nat.{ℕ, ◌+◌, ◌-◌, ◌≤◌, ◌<◌}
+use Prim.Native.Nat.{ℕ, ◌-◌, ◌≤◌, ◌<◌}
 use mathlib.Core.Path.{◌≡◌, sym, ap, ap₂, subst, ◌∙◌}
 use mathlib.Core.List.{List, [], ◌∷◌, ◌++◌}
 use lib.ListN.{length, take, drop, length-map}
@@ -19,7 +19,7 @@ use Rattle.evr0.specs.Answer.{answer_of, proof_starts, proof_depths}
 use Rattle.evr0_section.specs.Rows.{starts_of}
 use Rattle.evidence_output.specs.Listed.{lines_at}
 use Rattle.evidence_output.specs.Output.{spaced, line, too_long, refused_word, head_line, printed, enough, output_of}
-use Rattle.evr0_read.proofs.AcceptedLaws.{payload_to, Accepted, accepted}
+use Rattle.evr0_read.proofs.AcceptedLaws.{payload_to, accepted}
 use Rattle.evidence_output.proofs.ListedLaws.{lines_of_table}
 use Rattle.evidence_output.proofs.OutputLength.{proofs_few, records_few}
 

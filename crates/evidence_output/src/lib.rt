@@ -1,4 +1,6 @@
 // The program's work: from the bytes of its input to those of its output.
+#![tactic(auto)]
+
 mod line;
 mod listed;
 mod write;

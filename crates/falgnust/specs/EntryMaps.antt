@@ -14,7 +14,7 @@ use Rattle.falgnust.specs.declared.proposition.Proposition.{Proposition}
 use Rattle.falgnust.specs.declared.proof.Proof.{Proof}
 use Rattle.falgnust.specs.declared.witness.Witness.{Witness}
 use Rattle.falgnust.specs.declared.parent.Parent.{Parent}
-use Rattle.falgnust.specs.declared.way_down_lem.WayDown.{WayDown}
+use Rattle.falgnust.specs.declared.way_down.WayDown.{WayDown}
 use Rattle.falgnust.specs.declared.authorised.Authorised.{Authorised}
 
 abbrev pub flat_span : text.Span → Span

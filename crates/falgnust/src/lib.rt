@@ -1,4 +1,6 @@
 // The decoders as C functions, for programs in other languages. An answer is a flat struct in C's layout.
+#![tactic(auto)]
+
 pub mod authorised;
 pub mod authorised_all;
 pub mod block;

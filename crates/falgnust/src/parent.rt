@@ -1,6 +1,6 @@
 // A parent cell of a section by number, for which the section is decoded anew, and at a place of its payload.
 ghost use Rattle.std.specs.Prelude.{◌≡◌};
-ghost use Rattle.evr0_section.specs.Witness.{parent_row_lem};
+ghost use Rattle.evr0_section.specs.Witness.{parent_row};
 ghost use Rattle.rule_table.specs.ByTable.{table};
 ghost use Rattle.evr0.specs.Answer.{lent_of};
 ghost use Rattle.evr0_read.specs.Asked.{Answers, AnswersBy};

@@ -1,4 +1,6 @@
 // The fields of paths and of their components as words of a lent table, for whoever copies all paths of a block that was decoded.
+#![tactic(auto)]
+
 ghost use Rattle.std.specs.Prelude.{◌≡◌, [], ◌∷◌, ◌+◌, ◌-◌, ◌*◌, ◌%◌, ◌^◌, ◌≤◌, ◌<◌, length};
 ghost use Rattle.semcode_records.specs.Component.{component_at};
 ghost use Rattle.semcode_records.specs.Maps.{component_is, event_is};
@@ -113,7 +115,7 @@ fn put_components(
     to: usize,
 ) -> bool
     requires { to + count ≤ length words.old }
-    ensures { Puts-components (component_at header_rev kind code.now) count at to words.old words.new result }
+    ensures { PutsComponents (component_at header_rev kind code.now) count at to words.old words.new result }
 {
     let mut cursor = at;
     let mut i: usize = 0;
@@ -255,7 +257,7 @@ fn read_opening(code: &[u8], at: usize, header_rev: u16) -> Opening
 // The path at a place, to the words from `to` on: how many, 0 where it is refused or does not fit.
 fn put_path(code: &[u8], at: usize, header_rev: u16, words: &mut [u64], to: usize) -> usize
     requires { to ≤ length words.old }
-    ensures { Puts-one (path_words header_rev code.now at) to words.old words.new result }
+    ensures { PutsOne (path_words header_rev code.now at) to words.old words.new result }
 {
     let opening = read_opening(code, at, header_rev);
     if !opening.whole {

@@ -1,17 +1,16 @@
 -- The words of a record that was read are its fields: the steps of its reading say where in the payload each field lies, and a field of one
 -- byte before three reserved bytes, which are zeros, is the field of all four.
-use Prim.Native.Nat.{ℕ, ◌+◌, ◌*◌, ◌-◌, ◌≤◌}
+use Prim.Native.Nat.{ℕ, ◌+◌, ◌*◌, ◌≤◌}
 use mathlib.Core.Path.{◌≡◌, refl, ap, ap₂, sym, ◌∙◌}
 use mathlib.Core.Bool.{Bool, true, false, cond}
 use mathlib.Core.List.{List, [], ◌∷◌}
 use native.Mathlib.Omega.{arith}
-use native.Mathlib.Nat.{add_assoc}
 use lib.Dec.{eqb, leb}
 use lib.ListN.{length, take, drop, length-drop}
 use lib.Seq.{drop-drop}
 use borrow.Author.Tests.{eqb-true, le-leb, leb-true}
 use Rattle.utf8.specs.Utf8.{Decoded, ill, decode}
-use Rattle.local_format.specs.Out.{Out, ok, refused, check, ◌>>=◌, ◌>>◌}
+use Rattle.local_format.specs.Out.{Out, ok, refused, ◌>>=◌}
 use Rattle.local_format.specs.Field.{le, field}
 use Rattle.local_format.specs.Text.{Span, or_ill, bytes_at, section_field, text_at, decode_at, string_at}
 use Rattle.local_format.proofs.OutLaws.{never, ok_same, bind_ok, checked_ok}

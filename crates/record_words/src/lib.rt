@@ -1,5 +1,7 @@
 // The fields of records as words of a lent table, for whoever copies all records of what was decoded. Each record is read at its start, and
 // nothing is checked but that it is there.
+#![tactic(auto)]
+
 ghost use Rattle.std.specs.Prelude.{◌≡◌, cond, [], ◌∷◌, ◌+◌, ◌-◌, ◌*◌, ◌≤◌, ◌<◌, length};
 ghost use Rattle.record_words.specs.Words.{
   fields,

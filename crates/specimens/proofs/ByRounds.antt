@@ -2,7 +2,6 @@
 -- cells have passed, so no round is computed.
 use Prim.Native.Nat.{ℕ}
 use mathlib.Core.Path.{◌≡◌, refl, ap, ◌∙◌}
-use mathlib.Core.List.{List}
 use Rattle.local_format.specs.Refusal.{refusal}
 use Rattle.local_format.specs.Out.{ok, refuse}
 use Rattle.derivation.specs.Rule.{four_rules}
@@ -16,7 +15,7 @@ use Rattle.rounds.specs.Rounds.{kin_from, kin, rounds}
 use Rattle.rounds.specs.Height.{left_aside}
 use Rattle.rounds.specs.ByRounds.{rounds_by}
 use Rattle.rounds.proofs.ByRounds.{rounds_refused, rounds_by_lem, methods_by}
-use Rattle.specimens.specs.Written.{written, enough, Reads}
+use Rattle.specimens.specs.Written.{written, enough}
 use Rattle.specimens.specs.Examples.{chain, ops_from, up_from}
 use Rattle.specimens.proofs.Computed.{decoded}
 use Rattle.specimens.proofs.Chains.{chain_accepted, chain_refused}

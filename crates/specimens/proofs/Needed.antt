@@ -1,6 +1,6 @@
 -- The conditions of Slip 7 are needed: by computation.
 use Prim.Native.Nat.{ℕ, zero, suc}
-use mathlib.Core.Path.{◌≡◌, refl, sym, ap, ◌∙◌}
+use mathlib.Core.Path.{◌≡◌, refl}
 use mathlib.Core.List.{List, [], ◌∷◌, ◌++◌}
 use lib.ListN.{get_or}
 use Rattle.local_format.specs.Out.{ok, refuse, ◌>>=◌}

@@ -3,7 +3,7 @@ use Prim.Native.Nat.{ℕ, ◌+◌}
 use mathlib.Core.Path.{◌≡◌, sym, ap, ◌∙◌}
 use mathlib.Core.List.{List}
 use Rattle.local_format.specs.Refusal.{refusal}
-use Rattle.local_format.specs.Out.{Out, ok, refused, refuse, ◌>>=◌}
+use Rattle.local_format.specs.Out.{Out, ok, refuse, ◌>>=◌}
 use Rattle.local_format.proofs.OutLaws.{bind_ok, ok_same}
 use Rattle.derivation.specs.Rule.{four_rules}
 use Rattle.derivation.specs.Section.{Section}

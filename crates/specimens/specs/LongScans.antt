@@ -4,7 +4,7 @@ use Rattle.local_format.specs.Out.{Out, ok, refuse, ◌>>=◌}
 use Rattle.derivation.specs.Rule.{pos_witness1}
 use Rattle.derivation.specs.Section.{Witness}
 use Rattle.evr0_section.specs.Section.{section_of, decode_section}
-use Rattle.specimens.specs.Build.{Free, number, bytes, text, payload_of, framed, leaf}
+use Rattle.specimens.specs.Build.{Free, number, bytes, text, payload_of, leaf}
 use Rattle.specimens.specs.EvidenceSpecimens.{two, none}
 
 -- the witness 0 of proposition 0, positive, with this span

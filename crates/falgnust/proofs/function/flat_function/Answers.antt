@@ -1,0 +1,10 @@
+-- Either variant is told by its own fields.
+use Rattle.falgnust.proofs.function.flat_function.Goals as goal
+
+pub returns-in-Whole : goal.returns-in-Whole
+returns-in-Whole c =
+    rw (c.no_refusal.ensures, c.in-Whole.is)
+
+pub returns-in-Refused : goal.returns-in-Refused
+returns-in-Refused c =
+    rw (c.flat_refusal.ensures, c.in-Refused.is)

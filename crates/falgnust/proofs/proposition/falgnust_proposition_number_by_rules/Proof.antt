@@ -1,9 +1,0 @@
--- The flat struct holds what `proposition_number_given` answers, and the tables are as it left them.
-use borrow.Author.Rules.{rules}
-use Rattle.falgnust.proofs.proposition.falgnust_proposition_number_by_rules as f
-
-pub falgnust-proposition-number-by-rules-spec : {M : Type 1} → f.Statement.statement M
-falgnust-proposition-number-by-rules-spec =
-    f.Tie.close (f.Tie.spec (search rules) (search rules) (search rules) (search rules) (search rules)
-    λ c. let on = c.before.before.before.before.before.before in let read = on.before.proposition-number-given.ensures in
-    record { answer = rw (c.flat-proposition.ensures, read.answer); tables = read.tables })

@@ -1,8 +1,0 @@
--- Either variant is told by its own fields.
-use borrow.Author.Rules.{rules}
-use Rattle.falgnust.proofs.register.flat_lock_part as f
-
-pub flat-lock-part-spec : {M : Type 1} → f.Statement.statement M
-flat-lock-part-spec =
-    f.Tie.close (f.Tie.spec (search rules) (search rules) (search rules) (search rules)
-    (λ c. rw (c.no-refusal.ensures, c.before.before.read.given.1)) λ c. rw (c.flat-refusal.ensures, c.before.before.read2.given.1))

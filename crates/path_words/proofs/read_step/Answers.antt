@@ -1,0 +1,38 @@
+-- Meets its contract: where 7 bytes are there, the component's size decides its word.
+use Prim.Native.Nat.{ℕ, ◌<◌}
+use native.Mathlib.Omega.{arith}
+use lib.ListN.{get_or}
+use Rattle.semcode_records.proofs.SizeLaws.{Sized, sized}
+use Rattle.path_words.proofs.Laws.{size_within, step_sized}
+use Rattle.path_words.proofs.read_step.Goals as goal
+
+pub returns-then-code-lt7 : goal.returns-then-code-lt7
+returns-then-code-lt7 c =
+    c.slow_step.ensures
+
+pub returns-then-code-at : goal.returns-then-code-at
+returns-then-code-at c =
+    c.slow_step-then-code-at.ensures
+
+pub returns-then-size-eq0 : goal.returns-then-size-eq0
+returns-then-size-eq0 c =
+    c.slow_step-then-size-eq0.ensures
+
+pub sized_word-word-requires : goal.sized_word-word-requires
+sized_word-word-requires c =
+    let bytes : (k : ℕ) → get_or c.args.code.now k 0 < 256 = λ k. (c.type_inv.code k).fits in
+    let by_size : let a = c.args in Sized a.header_rev a.kind a.code.now a.at c.component_size-size.result =
+    let a = c.args in
+    sized a.header_rev a.kind a.code.now a.at (omega arith) _ (rw c.component_sizes.ensures at c.component_size-size.ensures.0)
+    (omega arith) in
+    size_within _ _ _ _ _ bytes by_size
+
+pub returns : goal.returns
+returns c =
+    let bytes : (k : ℕ) → get_or c.args.code.now k 0 < 256 = λ k. (c.type_inv.code k).fits in
+    let by_size : let a = c.args in Sized a.header_rev a.kind a.code.now a.at c.component_size-size.result =
+    let a = c.args in
+    sized a.header_rev a.kind a.code.now a.at (omega arith) _ (rw c.component_sizes.ensures at c.component_size-size.ensures.0)
+    (omega arith) in
+    rw (c.sized_word-word.ensures, c.u16_at.ensures, c.u32_at.ensures)
+    (step_sized _ _ _ _ _ bytes by_size)

@@ -1,0 +1,14 @@
+-- Meets its contract. The invariant: the words of i records are written, and the rest follows.
+use Prim.Native.Nat.{◌-◌, ◌≤◌}
+use mathlib.Core.Path.{◌≡◌}
+use lib.ListN.{length}
+use Rattle.record_words.specs.Words.{text_whole, text_words}
+use Rattle.record_words.proofs.Laws.{Filling}
+use Rattle.record_words.proofs.read_texts.Given as goal
+
+abbrev pub invariant-loop-i : goal.invariant-loop-i
+invariant-loop-i l = (l.i ≤ length l.starts) × (l.to ≤ length l.words) × (length l.words ≡ length l.initial.words)
+    × Filling (text_whole l.front l.back l.bytes) (text_words l.front l.back l.bytes) l.starts l.i l.to l.words
+
+abbrev pub decreases-loop-i : goal.decreases-loop-i
+decreases-loop-i l = length l.starts - l.i
