@@ -1,11 +1,16 @@
 // Writes the sections of a list from standard input by column, or takes columns back, each into an output of some length, and prints the length
 // written, or the refusal, and the whole output. tools/columns/make.py writes the list, and what is to be printed by plain lines of its own.
+#![tactic(auto)]
+
 use columns_answer::ColumnsAnswer;
 use columns_take::take::take_columns;
 use columns_write::write::write_columns;
-use libc::{STDIN_FILENO, STDOUT_FILENO};
 use local_format::field::le16;
 use local_format::refusal::diag_offset;
+
+const STDIN: i32 = 0;
+
+const STDOUT: i32 = 1;
 
 const LIST: usize = 65536;
 
@@ -19,12 +24,12 @@ const OLD: u64 = 11936128518282651045;
 const OLD_BYTE: u8 = 165;
 
 fn put(text: &[u8]) {
-    io::write_all(STDOUT_FILENO, text);
+    io::write_all(STDOUT, text);
 }
 
 fn put_byte(byte: u8) {
     put(b" ");
-    io::print_decimal(STDOUT_FILENO, byte as u64);
+    io::print_decimal(STDOUT, byte as u64);
 }
 
 fn put_output(output: &[u8]) {
@@ -39,13 +44,13 @@ fn put_answer(answer: ColumnsAnswer) {
     match answer {
         ColumnsAnswer::Written(length) => {
             put(b"written ");
-            io::print_decimal(STDOUT_FILENO, length as u64);
+            io::print_decimal(STDOUT, length as u64);
         }
         ColumnsAnswer::Refused(refused) => {
             put(b"refused ");
-            io::print_decimal(STDOUT_FILENO, refused.number as u64);
+            io::print_decimal(STDOUT, refused.number as u64);
             put(b" ");
-            io::print_decimal(STDOUT_FILENO, refused.offset as u64);
+            io::print_decimal(STDOUT, refused.offset as u64);
         }
     }
     put(b":");
@@ -104,7 +109,7 @@ fn entry(list: &[u8], at: usize) -> usize {
 // No list has more entries than bytes.
 fn main() {
     let mut list = [0u8; LIST];
-    let len = io::read_full(STDIN_FILENO, &mut list);
+    let len = io::read_full(STDIN, &mut list);
     let mut at: usize = 0;
     let mut turns: usize = len;
     while turns > 0 {

@@ -1,11 +1,16 @@
 // Compares the pairs of sections of a list from standard input, each with a table of verdicts of some length, by the four or by a table of rules, and
 // prints the totals, or whose refusal it is, and the verdicts; then the marks and the authorised propositions of either section, each table whole.
 // tools/sections/pairs.py writes the list, and what is to be printed by plain lines of its own.
+#![tactic(auto)]
+
 use compare_sections::compare::{Comparison, compare_sections_given};
 use evr0_rules::settle::Rules;
-use libc::{STDIN_FILENO, STDOUT_FILENO};
 use local_format::field::le16;
 use local_format::refusal::{Refusal, diag_offset};
+
+const STDIN: i32 = 0;
+
+const STDOUT: i32 = 1;
 
 const LIST: usize = 131072;
 
@@ -19,17 +24,17 @@ const OLD: u64 = 11936128518282651045;
 const OLD_BYTE: u8 = 165;
 
 fn put(text: &[u8]) {
-    io::write_all(STDOUT_FILENO, text);
+    io::write_all(STDOUT, text);
 }
 
 fn put_number(number: usize) {
     put(b" ");
-    io::print_decimal(STDOUT_FILENO, number as u64);
+    io::print_decimal(STDOUT, number as u64);
 }
 
 fn put_byte(byte: u8) {
     put(b" ");
-    io::print_decimal(STDOUT_FILENO, byte as u64);
+    io::print_decimal(STDOUT, byte as u64);
 }
 
 fn put_bytes(bytes: &[u8]) {
@@ -42,7 +47,7 @@ fn put_bytes(bytes: &[u8]) {
 
 fn put_refusal(refused: Refusal) {
     put(b" refused ");
-    io::print_decimal(STDOUT_FILENO, refused.number as u64);
+    io::print_decimal(STDOUT, refused.number as u64);
     put_number(refused.offset);
 }
 
@@ -161,7 +166,7 @@ fn entry(list: &[u8], at: usize) -> usize {
 // No list has more entries than bytes.
 fn main() {
     let mut list = [0u8; LIST];
-    let len = io::read_full(STDIN_FILENO, &mut list);
+    let len = io::read_full(STDIN, &mut list);
     let mut at: usize = 0;
     let mut turns: usize = len;
     while turns > 0 {

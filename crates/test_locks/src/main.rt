@@ -1,19 +1,22 @@
 // A register of locks, from zeros: two owners, a borrow beside a borrow, a write that is refused and, after a release, accepted; then two suppliers with
 // equal symbols. Each line is a call and its answer; at the end stand the locks that are held.
-use libc::STDOUT_FILENO;
+#![tactic(auto)]
+
 use local_format::refusal::Refusal;
 use lock_register::read::{LockRead, PartRead, held, lock_number, lock_part};
 use lock_register::release::release;
 use lock_words::source::source_bytes;
 use locks::claim::{Answer, claim};
 
+const STDOUT: i32 = 1;
+
 fn number(title: &[u8], n: u64) {
-    io::write_all(STDOUT_FILENO, title);
-    io::print_decimal(STDOUT_FILENO, n);
+    io::write_all(STDOUT, title);
+    io::print_decimal(STDOUT, n);
 }
 
 fn line() {
-    io::write_all(STDOUT_FILENO, b"\n");
+    io::write_all(STDOUT, b"\n");
 }
 
 fn refused(refusal: Refusal) {
@@ -39,7 +42,7 @@ fn claims(register: &mut [u64; 6145], title: &[u8], owner: u32, code: &[u8], sou
         &mut families,
     );
     number(b"owner ", owner as u64);
-    io::write_all(STDOUT_FILENO, title);
+    io::write_all(STDOUT, title);
     match answer {
         Answer::Held(n) => {
             number(b"held ", n as u64);
@@ -83,9 +86,9 @@ fn lock(register: &[u64; 6145], i: usize) {
             number(b"lock ", i as u64);
             number(b": owner ", l.owner as u64);
             if l.write {
-                io::write_all(STDOUT_FILENO, b", write");
+                io::write_all(STDOUT, b", write");
             } else {
-                io::write_all(STDOUT_FILENO, b", borrow");
+                io::write_all(STDOUT, b", borrow");
             }
             number(b", root ", l.symbol as u64);
             let set = source_bytes(l.source);

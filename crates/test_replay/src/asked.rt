@@ -4,7 +4,7 @@ use local_format::refusal::diag_offset;
 
 // 0 is a section, whose tables are those of propositions, proofs and depths; 1 is a block, with strings, symbols, paths and families; 2 is a
 // file, with functions, strings, paths and families.
-#[derive(Drop)]
+#[derive(Clone, Copy)]
 pub struct Asked {
     pub decoder: u8,
     pub revision: u16,

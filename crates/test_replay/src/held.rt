@@ -3,7 +3,7 @@ use local_format::field::{U8, U32};
 use local_format::refusal::{Kind, Refusal};
 
 // The place in the list after what was compared, and whether all of it was the same.
-#[derive(Drop)]
+#[derive(Clone, Copy)]
 pub struct Held {
     pub at: usize,
     pub same: bool,

@@ -1,7 +1,8 @@
 // Replays a list of inputs with their answers, from standard input, up to the first that the decoders answer otherwise, and prints how many
 // answers agree. Inputs count from 0. tools/replay/make_list.py writes the list.
+#![tactic(auto)]
+
 use crate::list::Tally;
-use libc::{STDIN_FILENO, STDOUT_FILENO};
 
 mod asked;
 mod block;
@@ -10,12 +11,16 @@ mod held;
 mod list;
 mod section;
 
+const STDIN: i32 = 0;
+
+const STDOUT: i32 = 1;
+
 const PAGE: usize = 262144;
 
 // The next page of the list.
 fn page() -> Tally {
     let mut list = [0u8; PAGE];
-    let n = io::read_full(STDIN_FILENO, &mut list);
+    let n = io::read_full(STDIN, &mut list);
     crate::list::replay(&list[..n])
 }
 
@@ -36,11 +41,11 @@ fn pages() -> Tally {
 
 fn main() {
     let tally = pages();
-    io::print_decimal(STDOUT_FILENO, tally.same as u64);
-    io::write_all(STDOUT_FILENO, b" answers agree");
+    io::print_decimal(STDOUT, tally.same as u64);
+    io::write_all(STDOUT, b" answers agree");
     if !tally.all {
-        io::write_all(STDOUT_FILENO, b", not that of input ");
-        io::print_decimal(STDOUT_FILENO, tally.same as u64);
+        io::write_all(STDOUT, b", not that of input ");
+        io::print_decimal(STDOUT, tally.same as u64);
     }
-    io::write_all(STDOUT_FILENO, b"\n");
+    io::write_all(STDOUT, b"\n");
 }

@@ -1,12 +1,17 @@
 // Takes the sections of a list from standard input by rounds and by the decoder, each by the four or by a table of rules, and prints of the rounds how
 // many proofs are marked, or the refusal, the whole lent table and how many entries of the two tables of starts are filled; then what the decoder
 // says, and its table of depths. tools/rounds/make.py writes the list, and what is to be printed by plain lines of its own.
+#![tactic(auto)]
+
 use evr0::section::decode_evr0_by;
 use evr0_rounds::section::depth_by_rounds_given;
 use evr0_rules::settle::Rules;
-use libc::{STDIN_FILENO, STDOUT_FILENO};
 use local_format::field::le16;
 use local_format::refusal::{Refusal, diag_offset};
+
+const STDIN: i32 = 0;
+
+const STDOUT: i32 = 1;
 
 const LIST: usize = 131072;
 
@@ -16,12 +21,12 @@ const ENTRIES: usize = 300;
 const OLD: u64 = 11936128518282651045;
 
 fn put(text: &[u8]) {
-    io::write_all(STDOUT_FILENO, text);
+    io::write_all(STDOUT, text);
 }
 
 fn put_number(number: u64) {
     put(b" ");
-    io::print_decimal(STDOUT_FILENO, number);
+    io::print_decimal(STDOUT, number);
 }
 
 fn put_numbers(numbers: &[u64]) {
@@ -150,7 +155,7 @@ fn entry(list: &[u8], at: usize) -> usize {
 // No list has more entries than bytes.
 fn main() {
     let mut list = [0u8; LIST];
-    let len = io::read_full(STDIN_FILENO, &mut list);
+    let len = io::read_full(STDIN, &mut list);
     let mut at: usize = 0;
     let mut turns: usize = len;
     while turns > 0 {

@@ -1,11 +1,16 @@
 // Decodes the sections of a list from standard input, each by the rules of a table, and prints whether it is accepted, or the refusal of the
 // table or of the section, and the whole table of depths. tools/rules/make.py writes the list, and what is to be printed by plain lines of its
 // own.
+#![tactic(auto)]
+
 use evr0::section::{Outcome, decode_evr0_by};
 use evr0_rules::settle::Rules;
-use libc::{STDIN_FILENO, STDOUT_FILENO};
 use local_format::field::le16;
 use local_format::refusal::diag_offset;
+
+const STDIN: i32 = 0;
+
+const STDOUT: i32 = 1;
 
 const LIST: usize = 65536;
 
@@ -15,12 +20,12 @@ const ENTRIES: usize = 8;
 const OLD: u64 = 11936128518282651045;
 
 fn put(text: &[u8]) {
-    io::write_all(STDOUT_FILENO, text);
+    io::write_all(STDOUT, text);
 }
 
 fn put_depth(depth: u64) {
     put(b" ");
-    io::print_decimal(STDOUT_FILENO, depth);
+    io::print_decimal(STDOUT, depth);
 }
 
 fn put_depths(depths: &[u64]) {
@@ -51,9 +56,9 @@ fn show(table: &[u8], input: &[u8]) {
         }
         Outcome::Refused(refused) => {
             put(b"refused ");
-            io::print_decimal(STDOUT_FILENO, refused.number as u64);
+            io::print_decimal(STDOUT, refused.number as u64);
             put(b" ");
-            io::print_decimal(STDOUT_FILENO, refused.offset as u64);
+            io::print_decimal(STDOUT, refused.offset as u64);
             put(b":");
         }
     }
@@ -79,7 +84,7 @@ fn entry(list: &[u8], at: usize) -> usize {
 // No list has more entries than bytes.
 fn main() {
     let mut list = [0u8; LIST];
-    let len = io::read_full(STDIN_FILENO, &mut list);
+    let len = io::read_full(STDIN, &mut list);
     let mut at: usize = 0;
     let mut turns: usize = len;
     while turns > 0 {

@@ -1,13 +1,18 @@
 // Decodes the sections of a list from standard input, each with a table of marks of some length, and prints whether it is accepted, or its
 // refusal, and the whole table; then, of the section decoded anew, whether its first proposition is authorised. tools/sections/make.py
 // writes the list, and what is to be printed by plain lines of its own.
+#![tactic(auto)]
+
 use evr0::section::Outcome;
 use evr0_authorised::authorised::AuthorisedAnswer;
 use evr0_fields::number::PropositionIndex;
 use evr0_marks::section::decode_evr0_section;
-use libc::{STDIN_FILENO, STDOUT_FILENO};
 use local_format::field::le16;
 use local_format::refusal::diag_offset;
+
+const STDIN: i32 = 0;
+
+const STDOUT: i32 = 1;
 
 const LIST: usize = 65536;
 
@@ -19,12 +24,12 @@ const OLD: u64 = 11936128518282651045;
 const OLD_BYTE: u8 = 165;
 
 fn put(text: &[u8]) {
-    io::write_all(STDOUT_FILENO, text);
+    io::write_all(STDOUT, text);
 }
 
 fn put_mark(mark: u8) {
     put(b" ");
-    io::print_decimal(STDOUT_FILENO, mark as u64);
+    io::print_decimal(STDOUT, mark as u64);
 }
 
 fn put_marks(marks: &[u8]) {
@@ -47,9 +52,9 @@ fn show(input: &[u8], marks: &mut [u8]) {
         }
         Outcome::Refused(refused) => {
             put(b"refused ");
-            io::print_decimal(STDOUT_FILENO, refused.number as u64);
+            io::print_decimal(STDOUT, refused.number as u64);
             put(b" ");
-            io::print_decimal(STDOUT_FILENO, refused.offset as u64);
+            io::print_decimal(STDOUT, refused.offset as u64);
             put(b":");
         }
     }
@@ -79,7 +84,7 @@ fn show_authorised(input: &[u8], marks: &mut [u8]) {
         }
         AuthorisedAnswer::Refused(refused) => {
             put(b"; refused ");
-            io::print_decimal(STDOUT_FILENO, refused.number as u64);
+            io::print_decimal(STDOUT, refused.number as u64);
             put(b":");
         }
     }
@@ -115,7 +120,7 @@ fn entry(list: &[u8], at: usize) -> usize {
 // No list has more entries than bytes.
 fn main() {
     let mut list = [0u8; LIST];
-    let len = io::read_full(STDIN_FILENO, &mut list);
+    let len = io::read_full(STDIN, &mut list);
     let mut at: usize = 0;
     let mut turns: usize = len;
     while turns > 0 {

@@ -1,9 +1,19 @@
 // Lends a list of four debug symbols, with old entries in it, and prints it after three blocks: one with two symbols, one whose second
 // symbol is cut, and one with five symbols.
+#![tactic(auto)]
+
 ghost use Rattle.std.specs.Prelude.{◌<◌};
 
-use libc::STDOUT_FILENO;
 use semcode_records::symbol::DecodedDebugSymbol;
+
+const STDOUT: i32 = 1;
+
+// What the lent list holds before a call.
+const OLD: DecodedDebugSymbol = DecodedDebugSymbol {
+    pc: 9,
+    line: 9,
+    col: 9,
+};
 
 // Entry `i` of the list after a block at base 0, at the last revision without signatures.
 fn entry(
@@ -15,11 +25,7 @@ fn entry(
 ) -> DecodedDebugSymbol
     requires { i < 4 }
 {
-    let mut symbols = [DecodedDebugSymbol {
-        pc: 9,
-        line: 9,
-        col: 9,
-    }; 4];
+    let mut symbols = [OLD; 4];
     semcode_symbols::parse_string_table_debug_and_ownership(
         0,
         code,
@@ -29,7 +35,12 @@ fn entry(
         paths,
         families,
     );
-    symbols[i]
+    let symbol = &symbols[i];
+    DecodedDebugSymbol {
+        pc: symbol.pc,
+        line: symbol.line,
+        col: symbol.col,
+    }
 }
 
 fn print_entry(code: &[u8], i: usize)
@@ -39,16 +50,16 @@ fn print_entry(code: &[u8], i: usize)
     let mut paths = [0u64; 4];
     let mut families = [0u8; 4];
     let symbol = entry(code, &mut strings, &mut paths, &mut families, i);
-    io::print_decimal(STDOUT_FILENO, symbol.pc as u64);
-    io::write_all(STDOUT_FILENO, b" ");
-    io::print_decimal(STDOUT_FILENO, symbol.line as u64);
-    io::write_all(STDOUT_FILENO, b" ");
-    io::print_decimal(STDOUT_FILENO, symbol.col as u64);
-    io::write_all(STDOUT_FILENO, b"\n");
+    io::print_decimal(STDOUT, symbol.pc as u64);
+    io::write_all(STDOUT, b" ");
+    io::print_decimal(STDOUT, symbol.line as u64);
+    io::write_all(STDOUT, b" ");
+    io::print_decimal(STDOUT, symbol.col as u64);
+    io::write_all(STDOUT, b"\n");
 }
 
 fn show(title: &[u8], code: &[u8]) {
-    io::write_all(STDOUT_FILENO, title);
+    io::write_all(STDOUT, title);
     print_entry(code, 0);
     print_entry(code, 1);
     print_entry(code, 2);

@@ -1,0 +1,5 @@
+-- Safe and ending: the turns left fall.
+use Rattle.test_sections.proofs.main.Given as goal
+
+abbrev pub decreases-loop-turns : goal.decreases-loop-turns
+decreases-loop-turns l = l.turns
