@@ -1,6 +1,6 @@
 /* Decoders of EVR0 evidence sections and of SemCode functions and their blocks, proved, as C functions.
  *
- * Link target/staticlib/libfalgnust.a, which `rt staticlib falgnust` writes (x86-64 Linux). The functions of crates/falgnust/src are
+ * Link target/staticlib/libfalgnust.a, which tools/library writes (x86-64 Linux). The functions of crates/falgnust/src are
  * declared here in full; each has there, as its contract, the definition that its answer is proved to equal. They allocate nothing, keep
  * nothing between calls, write to the lent tables and to a register that is brought alone, and may be called from several threads.
  *

@@ -1,4 +1,4 @@
-//! Links target/staticlib/libfalgnust.a, which `rt staticlib falgnust` writes.
+//! Links target/staticlib/libfalgnust.a, which tools/library writes.
 
 use std::path::Path;
 
@@ -7,9 +7,7 @@ fn main() {
     let library = folder.join("libfalgnust.a");
     println!("cargo::rerun-if-changed={}", library.display());
     if !library.exists() {
-        println!(
-            "cargo::error=`rt staticlib falgnust` has to write target/staticlib/libfalgnust.a"
-        );
+        println!("cargo::error=tools/library has to write target/staticlib/libfalgnust.a");
     }
     println!("cargo::rustc-link-search=native={}", folder.display());
     println!("cargo::rustc-link-lib=static=falgnust");

@@ -1,22 +1,22 @@
-"""Blocks: `decodeBlock`, with the tags, the places, and every string's start, symbol, path and family."""
+"""Blocks: `decode_block`, with the tags, the places, and every string's start, symbol, path and family."""
 import re
 
 from terms import listed, numbers, refused
 
 CRATE = "semcode_decode"
-NAMES = ["startOf", "valueOf", "toldSymbol", "toldPath", "told", "rooms", "answer"]
+NAMES = ["start_of", "value_of", "told_symbol", "told_path", "told", "rooms", "answer"]
 HEAD = """use Prim.Native.Nat.{ℕ}
-use mathlib.Core.Path.{_≡_, refl}
+use mathlib.Core.Path.{◌≡◌, refl}
 use mathlib.Core.Bool.{Bool, true, false}
-use mathlib.Core.List.{List, [], _∷_, map}
-use Rattle·local_format.specs.Out.{Out, ok, refused}
-use Rattle·local_format.specs.Refusal.{Kind, limit, strings, debug, ownership, signature}
-use Rattle·semcode_records.specs.Records.{Entry}
-use Rattle·semcode_records.specs.Symbol.{Symbol}
-use Rattle·semcode_records.specs.Component.{Component, tupleIndex, fieldSymbol, variant, sequenceIndex}
-use Rattle·semcode_records.specs.Path.{Path, Event, borrow, write}
-use Rattle·semcode_records.specs.Path.{noActivation, frameEntry, borrowStoreSite, noExecution, writeStoreSite, writeRecordSite}
-use Rattle·semcode_decode.specs.Block.{Block, Rooms, decodeBlock}
+use mathlib.Core.List.{List, [], ◌∷◌, map}
+use Rattle.local_format.specs.Out.{Out, ok, refused}
+use Rattle.local_format.specs.Refusal.{Kind, limit, strings, debug, ownership, signature}
+use Rattle.semcode_records.specs.Records.{Entry}
+use Rattle.semcode_records.specs.Symbol.{Symbol}
+use Rattle.semcode_records.specs.Component.{Component, tuple_index, field_symbol, variant, sequence_index}
+use Rattle.semcode_records.specs.Path.{Path, Event, borrow, write}
+use Rattle.semcode_records.specs.Path.{no_activation, frame_entry, borrow_store_site, no_execution, write_store_site, write_record_site}
+use Rattle.semcode_decode.specs.Block.{Block, Rooms, decode_block}
 
 pub data ToldSymbol : Type 0 where
   symbol : ℕ → ℕ → ℕ → ToldSymbol
@@ -26,43 +26,43 @@ pub data ToldPath : Type 0 where
 
 pub data Told : Type 0 where
   accepted : Bool → Bool → Bool → ℕ → ℕ → ℕ → List ℕ → List ToldSymbol → List ToldPath → List ℕ → Told
-  turnedBack : Kind → ℕ → ℕ → Told
+  turned_back : Kind → ℕ → ℕ → Told
 
-startOf : {A : Type 0} → Entry A → ℕ
-startOf e = e .start
+start_of : {A : Type 0} → Entry A → ℕ
+start_of e = e.start
 
-valueOf : {A : Type 0} → Entry A → A
-valueOf e = e .value
+value_of : {A : Type 0} → Entry A → A
+value_of e = e.value
 
-toldSymbol : Entry Symbol → ToldSymbol
-toldSymbol e = symbol (e .value .pc) (e .value .line) (e .value .column)
+told_symbol : Entry Symbol → ToldSymbol
+told_symbol e = symbol e.value.pc e.value.line e.value.column
 
-toldPath : Entry Path → ToldPath
-toldPath e = path (e .start) (e .value .event) (e .value .root) (map valueOf (e .value .components .entries))
+told_path : Entry Path → ToldPath
+told_path e = path e.start e.value.event e.value.root (map value_of e.value.components.entries)
 
 told : Out Block → Told
 told (ok b) =
-    accepted (b .debug .found) (b .ownership .found) (b .signature .found) (b .strings .end) (b .signature .table .start) (b .signature .table .end)
-    (map startOf (b .strings .entries)) (map toldSymbol (b .debug .table .entries)) (map toldPath (b .ownership .table .entries))
-    (map valueOf (b .signature .table .entries))
-told (refused r) = turnedBack (r .kind) (r .number) (r .offset)
+    accepted b.debug.found b.ownership.found b.signature.found b.strings.end b.signature.table.start b.signature.table.end
+    (map start_of b.strings.entries) (map told_symbol b.debug.table.entries) (map told_path b.ownership.table.entries)
+    (map value_of b.signature.table.entries)
+told (refused r) = turned_back r.kind r.number r.offset
 
 rooms : Rooms
 rooms = record { strings = 256; symbols = 8192; paths = 65535; families = 4096 }
 
 answer : List ℕ → ℕ → ℕ → Told
-answer s base revision = told (decodeBlock base revision rooms s)
+answer s base revision = told (decode_block base revision rooms s)
 """
 
 EVENTS = {
-    "borrow": "borrow noActivation",
-    "borrow-frame-entry": "borrow frameEntry",
-    "borrow-store-site": "borrow (borrowStoreSite {})",
-    "write": "write noExecution",
-    "write-store-site": "write (writeStoreSite {})",
-    "write-record-site": "write (writeRecordSite {})",
+    "borrow": "borrow no_activation",
+    "borrow-frame-entry": "borrow frame_entry",
+    "borrow-store-site": "borrow (borrow_store_site {})",
+    "write": "write no_execution",
+    "write-store-site": "write (write_store_site {})",
+    "write-record-site": "write (write_record_site {})",
 }
-COMPONENTS = {"tuple": "tupleIndex", "field": "fieldSymbol", "variant": "variant", "sequence": "sequenceIndex"}
+COMPONENTS = {"tuple": "tuple_index", "field": "field_symbol", "variant": "variant", "sequence": "sequence_index"}
 
 
 def question(line):

@@ -1,12 +1,12 @@
-"""Column files: `rebuilt`, with 75 and 76, and of those that give a section `columnsOf` of that. Both are held to the plain lines."""
+"""Column files: `rebuilt`, with 75 and 76, and of those that give a section `columns_of` of that. Both are held to the plain lines."""
 from terms import listed
 
 CRATE = "evr0_columns"
 NAMES = ["zip"]
-HEAD = """use mathlib.Core.Path.{_≡_, refl}
-use mathlib.Core.List.{List, [], _∷_, zip}
-use Rattle·local_format.specs.Out.{Out, ok, refuse}
-use Rattle·evr0_columns.specs.Columns.{columnsOf, rebuilt}
+HEAD = """use mathlib.Core.Path.{◌≡◌, refl}
+use mathlib.Core.List.{List, [], ◌∷◌, zip}
+use Rattle.local_format.specs.Out.{Out, ok, refuse}
+use Rattle.evr0_columns.specs.Columns.{columns_of, rebuilt}
 """
 
 

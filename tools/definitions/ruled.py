@@ -1,4 +1,4 @@
-"""Sections by the rules of a table: `decodeBy`, with all that is told of a section; the table's refusal comes before any of the section's."""
+"""Sections by the rules of a table: `decode_by`, with all that is told of a section; the table's refusal comes before any of the section's."""
 import sections
 from terms import listed
 
@@ -6,9 +6,9 @@ CRATE = "rule_table"
 NAMES = sections.NAMES
 HEAD = (
     sections.HEAD.replace("{Kind, invalid, limit}", "{Kind, invalid, limit, added}")
-    .replace("{Section, decodeSection}", "{Section}")
-    .replace("use Rattle·evr0_section.specs.Marks", "use Rattle·rule_table.specs.ByTable.{table, decodeBy}\nuse Rattle·evr0_section.specs.Marks")
-    .replace("answer : List ℕ → ℕ → Told\nanswer s cursor = told (decodeSection room s cursor)", "answer : List ℕ → List ℕ → ℕ → Told\nanswer t s cursor = told (decodeBy (table t) room s cursor)")
+    .replace("{Section, decode_section}", "{Section}")
+    .replace("use Rattle.evr0_section.specs.Marks", "use Rattle.rule_table.specs.ByTable.{table, decode_by}\nuse Rattle.evr0_section.specs.Marks")
+    .replace("answer : List ℕ → ℕ → Told\nanswer s cursor = told (decode_section room s cursor)", "answer : List ℕ → List ℕ → ℕ → Told\nanswer t s cursor = told (decode_by (table t) room s cursor)")
 )
 answer = sections.answer
 

@@ -1,44 +1,44 @@
-"""Sections: `decodeSection`, with the cursor, the schema, the starts of propositions and proofs, the depths, the spans of the witnesses, and `marksOf`,
+"""Sections: `decode_section`, with the cursor, the schema, the starts of propositions and proofs, the depths, the spans of the witnesses, and `marks_of`,
 which the Rust does not have. Those of schema 2 are held to the model."""
 from terms import listed, numbers, refused
 
 CRATE = "evr0_section"
-NAMES = ["startOf", "spanStartOf", "spanEndOf", "told", "room", "answer"]
+NAMES = ["start_of", "span_start_of", "span_end_of", "told", "room", "answer"]
 HEAD = """use Prim.Native.Nat.{ℕ}
-use mathlib.Core.Path.{_≡_, refl}
-use mathlib.Core.List.{List, [], _∷_, map}
-use Rattle·local_format.specs.Out.{Out, ok, refused}
-use Rattle·local_format.specs.Refusal.{Kind, invalid, limit}
-use Rattle·evr0_section.specs.Head.{Room}
-use Rattle·evr0_section.specs.Rows.{Entry}
-use Rattle·evr0_section.specs.Section.{Section, decodeSection}
-use Rattle·evr0_section.specs.Witness.{WitnessRecord}
-use Rattle·evr0_section.specs.Marks.{marksOf}
+use mathlib.Core.Path.{◌≡◌, refl}
+use mathlib.Core.List.{List, [], ◌∷◌, map}
+use Rattle.local_format.specs.Out.{Out, ok, refused}
+use Rattle.local_format.specs.Refusal.{Kind, invalid, limit}
+use Rattle.evr0_section.specs.Head.{Room}
+use Rattle.evr0_section.specs.Rows.{Entry}
+use Rattle.evr0_section.specs.Section.{Section, decode_section}
+use Rattle.evr0_section.specs.Witness.{WitnessRecord}
+use Rattle.evr0_section.specs.Marks.{marks_of}
 
 pub data Told : Type 0 where
   accepted : ℕ → ℕ → List ℕ → List ℕ → List ℕ → List ℕ → List ℕ → List ℕ → Told
-  turnedBack : Kind → ℕ → ℕ → Told
+  turned_back : Kind → ℕ → ℕ → Told
 
-startOf : {A : Type 0} → Entry A → ℕ
-startOf e = e .start
+start_of : {A : Type 0} → Entry A → ℕ
+start_of e = e.start
 
-spanStartOf : Entry WitnessRecord → ℕ
-spanStartOf e = e .item .spanStart
+span_start_of : Entry WitnessRecord → ℕ
+span_start_of e = e.item.span_start
 
-spanEndOf : Entry WitnessRecord → ℕ
-spanEndOf e = e .item .spanEnd
+span_end_of : Entry WitnessRecord → ℕ
+span_end_of e = e.item.span_end
 
 told : Out Section → Told
 told (ok s) =
-    accepted (s .cursor) (s .tables .head .schema) (map startOf (s .tables .propositions .entries)) (map startOf (s .tables .proofs .entries)) (s .depths)
-    (marksOf s) (map spanStartOf (s .tables .witnesses .entries)) (map spanEndOf (s .tables .witnesses .entries))
-told (refused r) = turnedBack (r .kind) (r .number) (r .offset)
+    accepted s.cursor s.tables.head.schema (map start_of s.tables.propositions.entries) (map start_of s.tables.proofs.entries) s.depths
+    (marks_of s) (map span_start_of s.tables.witnesses.entries) (map span_end_of s.tables.witnesses.entries)
+told (refused r) = turned_back r.kind r.number r.offset
 
 room : Room
 room = record { propositions = 65536; proofs = 65536; depths = 65536 }
 
 answer : List ℕ → ℕ → Told
-answer s cursor = told (decodeSection room s cursor)
+answer s cursor = told (decode_section room s cursor)
 """
 
 

@@ -13,4 +13,4 @@ def numbers(text):
 def refused(answer):
     """From `refused KIND NUMBER OFFSET`."""
     _, kind, number, offset = answer.split(" ")
-    return f"turnedBack {kind.lower()} {number} {offset}"
+    return f"turned_back {kind.lower()} {number} {offset}"

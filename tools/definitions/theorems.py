@@ -21,8 +21,8 @@ def unfoldable(repository, crate):
         module = os.path.basename(path)[: -len(".antt")]
         found = re.findall(r"^ *unfoldable pub (\S+) :", open(path).read(), flags=re.M)
         if found:
-            uses.append(f"use Rattle·{crate}.specs.{module} as {crate}-{module}")
-            names += [f"{crate}-{module}.{name}" for name in found]
+            uses.append(f"use Rattle.{crate}.specs.{module} as {crate}_{module}")
+            names += [f"{crate}_{module}.{name}" for name in found]
     return uses, names
 
 
@@ -50,9 +50,9 @@ def main():
         text.append(f"case{number} = refl\n")
     folder_of_cases = f"{repository}/crates/{kind}_cases"
     for folder, name, content in [
-        ("src", "lib.rt", "// No code.\n"),
-        ("specs", "Lib.antt", "pub mod Cases\n"),
-        ("specs", "Cases.antt", "\n".join(text)),
+        ("src", "lib.rt", "// Theorems only.\n#![tactic(auto)]\n"),
+        ("proofs", "Lib.antt", "pub mod Cases\n"),
+        ("proofs", "Cases.antt", "\n".join(text)),
     ]:
         os.makedirs(f"{folder_of_cases}/{folder}", exist_ok=True)
         with open(f"{folder_of_cases}/{folder}/{name}", "w") as out:

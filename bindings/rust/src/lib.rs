@@ -3,7 +3,7 @@
 //! The module [`evr0`] takes the place of the one of that name in skulmakov-oss/Semantic, whole: the same functions, types, fields and
 //! messages, but for what schema 2 asks, so that a caller changes a path and little else. [`semcode_decode`] has the parts of that module that read a file's functions
 //! and a function's block, which is private there; `decode_semcode` itself is missing. [`locks`] is not in the original: it keeps which paths are claimed. Behind all stands the static library that
-//! `rt staticlib falgnust` writes; nothing here parses a byte.
+//! tools/library writes; nothing here parses a byte.
 //!
 //! ```
 //! use falgnust::evr0::decode_evr0_section;

@@ -9,7 +9,10 @@ use std::io::{Read, Write};
 use std::path::Path;
 use std::process::{Command, Stdio};
 
-const PROGRAM: &str = concat!(env!("CARGO_MANIFEST_DIR"), "/../../target/bin/evidence");
+const PROGRAM: &str = concat!(
+    env!("CARGO_MANIFEST_DIR"),
+    "/../../crates/evidence/out/evidence"
+);
 
 pub fn rows() -> Vec<Plan> {
     vec![
@@ -43,7 +46,7 @@ fn runs(program: &Path, args: &'static [&str], section: Vec<u8>) -> Calls {
             .stdin(Stdio::piped())
             .stdout(Stdio::piped())
             .spawn()
-            .expect("a program: rt check evidence writes it");
+            .expect("a program: rt run writes it");
         let mut input = child.stdin.take().expect("a pipe");
         input.write_all(&section).expect("a reader");
         drop(input);

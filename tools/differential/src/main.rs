@@ -64,7 +64,7 @@ fn main() {
     }
 }
 
-const NOT_GIVEN: &str = "14 and 15 are never given: evr0_section/Stages.never-14-15.
+const NOT_GIVEN: &str = "14 and 15 are never given: evr0_section/Stages.never_14_15.
 61 and 62 have no Rust side: they are compared with document 01.
 Marks and what they authorise have none either, nor have locks: they are compared with plain lines from document 02 over the Rust's records.
 Tables of rules have none either: they are compared with plain lines, and sections by other rules than the four with a model.

@@ -6,7 +6,7 @@
 //!     ruled TABLE HEX CURSOR TAB ANSWER
 //!     compared HEX CURSOR HEX CURSOR ROOM TAB ANSWER
 //!     columns rebuilt HEX TAB ANSWER
-//!     columns columnsOf HEX TAB ANSWER
+//!     columns columns_of HEX TAB ANSWER
 //!
 //! `ruled` are sections by the rules of a table, from the model and the plain lines; `compared` pairs of sections with room for so many verdicts, and
 //! `columns` column files with the bytes that they give, and sections with their columns, both from the plain lines. Either so many for each refusal
@@ -275,7 +275,7 @@ fn columns(seed: usize, mut picked: Picked, longest: usize) {
         };
         println!("columns rebuilt {}\t{answer}", hex_or_none(&file));
         if let Ok(section) = taken {
-            println!("columns columnsOf {}\tok {}", hex(&section), hex(&file));
+            println!("columns columns_of {}\tok {}", hex(&section), hex(&file));
         }
     }
 }

@@ -1,8 +1,8 @@
 //! The records of a section, as the proved functions give them.
 //!
 //! A text is copied without a second look at its bytes. That they are UTF-8 is in the contracts: a section is accepted, and a record read,
-//! only where each of its texts is (`textAt` in crates/local_format/specs/Text.antt, refusal 7), and the words of a record that was read are
-//! its fields (`proposition-words`, `proof-words` and `text-words` in crates/record_words/proofs/Read.antt).
+//! only where each of its texts is (`text_at` in crates/local_format/specs/Text.antt, refusal 7), and the words of a record that was read are
+//! its fields (`proposition_words`, `proof_words` and `text_words_lem` in crates/record_words/proofs/Read.antt).
 
 use super::{DecodedEvr0, Proof, Proposition, Witness};
 use crate::calls;

@@ -1,8 +1,8 @@
 //! The records of a block, as the proved functions give them.
 //!
 //! A string is copied without a second look at its bytes. That they are UTF-8 is in the contracts: a block is accepted, and a string read,
-//! only where each string is (`stringAt` in crates/local_format/specs/Text.antt, refusal 34), and the words of a string that was read are
-//! its place and length (`string-words` in crates/record_words/proofs/Read.antt).
+//! only where each string is (`string_at` in crates/local_format/specs/Text.antt, refusal 34), and the words of a string that was read are
+//! its place and length (`string_words` in crates/record_words/proofs/Read.antt).
 
 use super::signature::signature;
 use super::{
