@@ -1,35 +1,26 @@
 -- Bytes written after other bytes are the bytes of both written at once, wherever the list ends.
-use Prim.Native.Nat.{ℕ, suc, ◌+◌, ◌-◌, ◌≤◌, ◌<◌, min}
+use Prim.Native.Nat.{ℕ, suc, ◌+◌, ◌≤◌, ◌<◌, min}
 use mathlib.Core.Path.{◌≡◌, refl, sym, ap, ◌∙◌}
-use mathlib.Core.List.{List, [], ◌∷◌, ◌++◌, append_assoc, append-nil}
+use mathlib.Core.List.{List, [], ◌∷◌, ◌++◌, append_assoc}
 use native.Mathlib.Omega.{arith}
 use native.Mathlib.Nat.{add-zero, add-suc, suc-add, lt_of_not-le}
 use native.Mathlib.Decide.{dec_le}
-use native.Mathlib.Numerals.{add-one}
-use lib.ListN.{length, get_or, take, drop, set, length-append, length-drop, drop_of_length-le}
-use lib.Seq.{sets, length-sets, sets-eq, set_out, take-suc, take_all, drop-drop, length-take-le, take-append_seam}
+use lib.ListN.{length, take, length-append}
+use lib.Seq.{sets, length-sets, sets-eq, set_out, drop-drop, take-append_seam}
+use borrow.Rule.Slice.PartMut.{put_mid}
 use Rattle.local_format.specs.Out.{held}
 use Rattle.byte_output.specs.Written.{Written}
+use Rattle.byte_output.specs.Maps.{Same, Writes}
+use Rattle.byte_output.specs.declared.Output.{Output}
 
 sets_append : (s : List ℕ) (at : ℕ) (xs ys : List ℕ) → sets s at (xs ++ ys) ≡ sets (sets s at xs) (at + length xs) ys
 sets_append s at [] ys = rw add-zero
 sets_append s at (x ∷ xs) ys = rw (add-suc at (length xs), ← suc-add at (length xs)) (sets_append _ (suc at) xs ys)
 
--- one more of the bytes
-pub sets_more : (s xs : List ℕ) (i : ℕ) → i < length xs → set (sets s 0 (take i xs)) i (get_or xs i 0) ≡ sets s 0 (take (i + 1) xs)
-sets_more s xs i h =
-    let n : 0 + length (take i xs) ≡ i = omega (arith, length-take-le i xs (omega arith)) in
-    rw (add-one i, take-suc xs i 0 h, sets_append s 0 (take i xs) (get_or xs i 0 ∷ []), n)
-
--- written into the part from a place on, where they fit
-pub sets_part : (s : List ℕ) (at : ℕ) (xs : List ℕ) {part : List ℕ} → at + length xs ≤ length s → part ≡ sets (take (length s - at) (drop at s)) 0 xs
-    → take at s ++ (part ++ drop (length s - at) (drop at s)) ≡ sets s at xs
-sets_part s at xs h e =
-    let l = length-drop at s in
-    let a : take (length s - at) (drop at s) ≡ drop at s = take_all (length s - at) (drop at s) (omega arith) in
-    let b : drop (length s - at) (drop at s) ≡ [] = drop_of_length-le (drop at s) {i = length s - at} (omega arith) in
-    let z : 0 + length xs ≡ length xs = omega arith in
-    rw (e, a, b, append-nil, sets-eq xs (drop at s) 0 (omega arith), sets-eq xs s at h, z, drop-drop (length xs) at s, append_assoc, append_assoc)
+-- written over a part of as many, where they fit
+pub sets_mid : (s : List ℕ) (at k : ℕ) (xs : List ℕ) {part : List ℕ} → at + length xs ≤ length s → k ≡ length xs → part ≡ xs
+    → put_mid at k s part ≡ sets s at xs
+sets_mid s at k xs h e p = rw (p, e, sets-eq xs s at h, drop-drop (length xs) at s, append_assoc)
 
 sets_past : (s : List ℕ) (at : ℕ) (ys : List ℕ) → length s ≤ at → sets s at ys ≡ s
 sets_past s at [] h = refl
@@ -70,3 +61,20 @@ module _ {s t : List ℕ} {n : ℕ} {xs : List ℕ} (w : Written s 0 xs t n) whe
       let e : n ≡ length xs = omega (arith, w.place) in
       let l : 0 + length xs ≤ length s = omega arith in
       rw (e, w.holds, sets-eq xs s 0 l) (take-append_seam xs _)
+
+-- ---- The same of an output
+pub same_none : (o : Output) → Same o o
+same_none o = record { name = refl; long = refl; stands = λ h. h }
+
+pub same_more : {a b c : Output} → Same a b → Same b c → Same a c
+same_more s t = record { name = t.name ∙ s.name; long = t.long ∙ s.long; stands = λ h. t.stands (s.stands h) }
+
+pub writes_now : {a b : Output} {xs : List ℕ} → b.bytes.ghost_name ≡ a.bytes.ghost_name → Written a.bytes.now a.next xs b.bytes.now b.next → Writes a xs b
+unfolding held
+writes_now e w = record { same = record { name = e; long = written_length w; stands = λ h. omega (arith, w.place) }; written = λ h. w }
+
+pub writes_none : (o : Output) → length o.bytes.now ≤ 18446744073709551615 → Writes o [] o
+writes_none o h = record { same = same_none o; written = λ k. written_none o.bytes.now o.next h k }
+
+pub writes_append : {a b c : Output} {xs ys : List ℕ} → Writes a xs b → Writes b ys c → Writes a (xs ++ ys) c
+writes_append v w = record { same = same_more v.same w.same; written = λ h. written_append (v.written h) (w.written (v.same.stands h)) }

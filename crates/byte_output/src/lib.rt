@@ -2,46 +2,41 @@
 // number, is the length that all of them take, so it is above the buffer's length exactly where some were dropped.
 #![tactic(auto)]
 
-ghost use Rattle.std.specs.Prelude.{◌≤◌, ◌≡◌, [], ◌∷◌, length};
-ghost use Rattle.std.proofs.lemmas.List.Edits.{sets};
-ghost use Rattle.byte_output.specs.Written.{Written};
+ghost use Rattle.std.specs.Prelude.{◌≡◌, [], ◌∷◌};
+ghost use Rattle.byte_output.specs.Maps.{Writes};
 
-pub fn put(out: &mut [u8], at: usize, byte: u8) -> usize
-    ensures { Written out.old at (byte ∷ []) out.new result }
-{
-    if at < out.len() {
-        out[at] = byte;
-        return at + 1;
-    }
-    local_format::refusal::diag_offset(at, 1)
+// A lent buffer, and the place of the next byte.
+#[derive(Drop)]
+pub struct Output<'a> {
+    pub bytes: &'a mut [u8],
+    pub next: usize,
 }
 
-// Bytes to the front, where all of them fit.
-fn copy(out: &mut [u8], bytes: &[u8])
-    requires { length bytes.now ≤ length out.old }
-    ensures { out.new ≡ sets out.old 0 bytes.now }
-{
-    let mut i: usize = 0;
-    while i < bytes.len() {
-        out[i] = bytes[i];
-        i += 1;
-    }
-}
-
-pub fn put_bytes(out: &mut [u8], at: usize, bytes: &[u8]) -> usize
-    ensures { Written out.old at bytes.now out.new result }
-{
-    if at < out.len() {
-        if bytes.len() <= out.len() - at {
-            copy(&mut out[at..], bytes);
-            return at + bytes.len();
+impl<'a> Output<'a> {
+    pub fn put(&mut self, byte: u8)
+        ensures { Writes self.old (byte ∷ []) self.new }
+    {
+        if self.next < self.bytes.len() {
+            self.bytes[self.next] = byte;
+            self.next += 1;
+        } else {
+            self.next = local_format::refusal::diag_offset(self.next, 1);
         }
     }
-    let mut next = at;
-    let mut i: usize = 0;
-    while i < bytes.len() {
-        next = put(out, next, bytes[i]);
-        i += 1;
+
+    pub fn put_bytes(&mut self, bytes: &[u8])
+        ensures { Writes self.old bytes.now self.new }
+    {
+        if self.next < self.bytes.len() {
+            if bytes.len() <= self.bytes.len() - self.next {
+                let end = self.next + bytes.len();
+                self.bytes[self.next..end].copy_from_slice(bytes);
+                self.next = end;
+                return;
+            }
+        }
+        for &byte in bytes {
+            self.put(byte);
+        }
     }
-    next
 }

@@ -1,10 +1,9 @@
 -- From the code's enums to the definitions' types.
-use Rattle.std.specs.Prelude.{List, ℕ, drop}
-use Rattle.local_format.specs.Out.{Out, ok, refused}
-use Rattle.local_format.specs.Maps.{refusal_out}
+use Rattle.std.specs.Prelude.{List, ℕ, drop, Result}
+use Rattle.local_format.specs.Out.{Out}
+use Rattle.local_format.specs.Maps.{answer_out}
+use Rattle.local_format.specs.declared.refusal.Refusal.{Refusal}
 use Rattle.groups.specs.Maps.{width_of}
-use Rattle.evr0_fields.specs.declared.place.Place.{Place}
-use Rattle.evr0_fields.specs.declared.place.Place.TheVariants as place
 use Rattle.evr0_columns.specs.Columns.{head_items, proposition_items, proof_items, witness_items, parent_items}
 use Rattle.evr0_columns.specs.Layout.{Item, raw, whole, text}
 use Rattle.column_fields.specs.declared.table.Table.{Table}
@@ -13,9 +12,8 @@ use Rattle.column_fields.specs.declared.item.Item as code
 use Rattle.column_fields.specs.declared.item.Item.TheVariants as item
 
 -- what is left of a file after a place
-abbrev pub place_in : List ℕ → Place → Out (List ℕ)
-place_in c (place.Next n) = ok (drop n c)
-place_in c (place.Refused r) = refused (refusal_out r)
+abbrev pub place_in : List ℕ → Result ℕ Refusal → Out (List ℕ)
+place_in c place = answer_out (λ n. drop n c) place
 
 abbrev pub item_of : code.Item → Item
 item_of (item.Raw n) = raw n

@@ -1,10 +1,9 @@
--- From the code's enum to the definition's type.
-use Rattle.std.specs.Prelude.{ℕ}
-use Rattle.local_format.specs.Out.{Out, ok, refused}
-use Rattle.local_format.specs.Maps.{refusal_out}
-use Rattle.columns_answer.specs.declared.ColumnsAnswer.{ColumnsAnswer}
-use Rattle.columns_answer.specs.declared.ColumnsAnswer.TheVariants as answer
+-- From the code's answer to the definition's type.
+use Rattle.std.specs.Prelude.{ℕ, Result}
+use Rattle.local_format.specs.Out.{Out}
+use Rattle.local_format.specs.Maps.{answer_out}
+use Rattle.local_format.specs.declared.refusal.Refusal.{Refusal}
 
-abbrev pub columns_out : ColumnsAnswer → Out ℕ
-columns_out (answer.Written n) = ok n
-columns_out (answer.Refused r) = refused (refusal_out r)
+-- the length written, or a refusal
+abbrev pub columns_out : Result ℕ Refusal → Out ℕ
+columns_out answer = answer_out (λ n. n) answer

@@ -1,4 +1,4 @@
-// What writing the columns of a section and taking them back answer.
+// What writing the columns of a section and taking them back answer where they refuse.
 #![tactic(auto)]
 
 ghost use Rattle.local_format.specs.Out.{refused};
@@ -7,15 +7,8 @@ ghost use Rattle.evr0.specs.Answer.{lent_of};
 ghost use Rattle.columns_answer.specs.Copies.{with_output, Copies};
 ghost use Rattle.columns_answer.specs.Maps.{columns_out};
 
-use lent_table::{clear, clear_bytes};
+use lent_table::clear;
 use local_format::refusal::Refusal;
-
-// The length written, or a refusal.
-#[derive(Drop)]
-pub enum ColumnsAnswer {
-    Written(usize),
-    Refused(Refusal),
-}
 
 // A refusal, which leaves zeros in every lent table and in the output.
 pub fn refuse_all(
@@ -24,7 +17,7 @@ pub fn refuse_all(
     proofs: &mut [u64],
     depths: &mut [u64],
     output: &mut [u8],
-) -> ColumnsAnswer
+) -> Result<usize, Refusal>
     ensures { Copies (refused (refusal_out refusal))
         (with_output (lent_of propositions.old proofs.old depths.old) output.old)
         (with_output (lent_of propositions.new proofs.new depths.new) output.new) (columns_out result) }
@@ -32,6 +25,6 @@ pub fn refuse_all(
     clear(propositions);
     clear(proofs);
     clear(depths);
-    clear_bytes(output);
-    ColumnsAnswer::Refused(refusal)
+    clear(output);
+    Err(refusal)
 }

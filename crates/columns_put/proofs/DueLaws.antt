@@ -15,7 +15,9 @@ use Rattle.evr0_section.specs.Section.{Tables}
 use Rattle.evr0_section.proofs.CheckedTables.{Steps, steps}
 use Rattle.evr0_section.proofs.RecordLaws.{witness_lies, parent_lies}
 use Rattle.byte_output.specs.Written.{Written}
-use Rattle.byte_output.proofs.WrittenLaws.{written_append}
+use Rattle.byte_output.specs.Maps.{Writes}
+use Rattle.byte_output.specs.declared.Output.{Output}
+use Rattle.byte_output.proofs.WrittenLaws.{writes_append}
 use Rattle.evr0_columns.specs.Form.{rewritten}
 use Rattle.evr0_columns.specs.Layout.{Table}
 use Rattle.evr0_columns.specs.Columns.{head_items, proposition_items, proof_items, witness_items, parent_items, layout_of, layout, columns_of}
@@ -166,10 +168,11 @@ module _ {section propositions proofs : List ℕ} {witnesses parents width : ℕ
     pub last_in : LastIn span p witnesses parents
     last_in = rw (part, same) k.last
 
-    pub all_put : {s t u v : List ℕ} {l m n : ℕ} → Written s 0 (fields_moved head_items section 0) t l → Written t l (listed_moved p propositions proofs) u m
-        → Written u m (last_moved span p witnesses parents) v n → Puts section s v n
-    all_put h l e =
-        record { columns = _; are = k.columns; put = rw (← append_assoc, ← part, ← same) (written_append (written_append h l) e) }
+    pub all_put : {s t u v : Output} → s.next ≡ 0 → Writes s (fields_moved head_items section 0) t → Writes t (listed_moved p propositions proofs) u
+        → Writes u (last_moved span p witnesses parents) v → Puts section s.bytes.now v.bytes.now v.next
+    all_put {s} {v = v} z h l e =
+        let w = (writes_append (writes_append h l) e).written (omega (arith, z)) in
+        record { columns = _; are = k.columns; put = rw (← append_assoc, ← part, ← same) (rw z at w) }
 
 pub put_as : {section before after columns : List ℕ} {next : ℕ} → Puts section before after next → columns_of section ≡ ok columns
     → Written before 0 columns after next

@@ -3,28 +3,28 @@ use Prim.Native.Nat.{ℕ, ◌+◌, ◌≤◌, ◌<◌}
 use mathlib.Core.Path.{◌≡◌, refl, ap, ◌∙◌}
 use mathlib.Core.List.{List, [], ◌∷◌, ◌++◌, append_assoc, append-nil}
 use native.Mathlib.Nat.{le_trans}
-use native.Mathlib.Omega.{arith}
 use native.Mathlib.Numerals.{add-one}
 use lib.ListN.{length, get_or, take, drop, drop_of_length-le}
 use lib.Seq.{take-suc, drop-cons}
-use Rattle.byte_output.specs.Written.{Written}
-use Rattle.byte_output.proofs.WrittenLaws.{written_none, written_append}
+use Rattle.byte_output.specs.Maps.{Writes}
+use Rattle.byte_output.specs.declared.Output.{Output}
+use Rattle.byte_output.proofs.WrittenLaws.{writes_none, writes_append}
 use Rattle.evr0_columns.specs.Layout.{Item, raw}
 use Rattle.column_fields.specs.Moved.{field_moved}
 use Rattle.columns_put.specs.Places.{after_field, after_fields, fields_moved}
 use Rattle.columns_put.proofs.PlacesLaws.{after_append, before_end}
 
 -- the first j fields are written
-pub record Heading (items : List Item) (c before after : List ℕ) (next at j : ℕ) : Type 0 where
+pub record Heading (items : List Item) (c : List ℕ) (before after : Output) (at j : ℕ) : Type 0 where
   pub done : List ℕ
-  pub written : Written before 0 done after next
+  pub written : Writes before done after
   pub same : fields_moved items c 0 ≡ done ++ fields_moved (drop j items) c at
   pub place : after_fields (take j items) c 0 ≡ at
 
-pub heading_first : (items : List Item) (c s : List ℕ) → length s ≤ 18446744073709551615 → Heading items c s s 0 0 0
-heading_first items c s h = record { done = []; written = written_none s 0 h (omega arith); same = refl; place = refl }
+pub heading_first : (items : List Item) (c : List ℕ) (o : Output) → length o.bytes.now ≤ 18446744073709551615 → Heading items c o o 0 0
+heading_first items c o h = record { done = []; written = writes_none o h; same = refl; place = refl }
 
-module _ {items : List Item} {c before after : List ℕ} {next at j : ℕ} (p : Heading items c before after next at j) where
+module _ {items : List Item} {c : List ℕ} {before after : Output} {at j : ℕ} (p : Heading items c before after at j) where
   module _ (here : j < length items) {item : Item} (e : item ≡ get_or items j (raw 0)) where
     there : after_fields (take (j + 1) items) c 0 ≡ after_field item c at
     there =
@@ -34,14 +34,14 @@ module _ {items : List Item} {c before after : List ℕ} {next at j : ℕ} (p : 
     pub heading_inside : after_fields items c 0 ≤ length c → after_field item c at ≤ length c
     heading_inside h = rw (← there) (le_trans (before_end (j + 1) items c 0) h)
 
-    pub heading_more : {t : List ℕ} {m : ℕ} → Written after next (field_moved item c at) t m → Heading items c before t m (after_field item c at) (j + 1)
+    pub heading_more : {t : Output} → Writes after (field_moved item c at) t → Heading items c before t (after_field item c at) (j + 1)
     heading_more w =
         record {
           done = p.done ++ field_moved item c at;
-          written = written_append p.written w;
+          written = writes_append p.written w;
           same = p.same ∙ rw (add-one j, drop-cons items j (raw 0) here, ← e, append_assoc);
           place = there;
         }
 
-  pub heading_all : length items ≤ j → Written before 0 (fields_moved items c 0) after next
+  pub heading_all : length items ≤ j → Writes before (fields_moved items c 0) after
   heading_all h = rw (p.same, drop_of_length-le items h, append-nil p.done) p.written

@@ -5,7 +5,7 @@ use mathlib.Core.List.{List}
 use native.Mathlib.Omega.{arith}
 use lib.ListN.{take}
 use Rattle.local_format.specs.Field.{le}
-use Rattle.evr0_columns.specs.Columns.{proposition_items, proof_items, witness_items}
+use Rattle.evr0_columns.specs.Columns.{proposition_items, proof_items}
 use Rattle.columns_put.specs.Places.{after_fields}
 
 module _ (c : List ℕ) (s : ℕ) where
@@ -23,12 +23,6 @@ module _ (c : List ℕ) (s : ℕ) where
       go (suc (suc (suc zero))) p h e = rw e (omega arith)
       go (suc (suc (suc (suc j)))) p h e = absurd (omega arith)
 
-  pub proof_from : (j : ℕ) → j < 3 → s + 4 * j ≡ after_fields (take j proof_items) c s
-  proof_from zero h = omega arith
-  proof_from (suc zero) h = omega arith
-  proof_from (suc (suc zero)) h = omega arith
-  proof_from (suc (suc (suc j))) h = absurd (omega arith)
-
   -- from the text on
   pub proof_behind : (j : ℕ) → 3 ≤ j → j < 9 → behind 8 (4 * (j - 3)) ≡ after_fields (take j proof_items) c s
   proof_behind j l h = go (j - 3) j (omega arith) (omega arith) (omega arith)
@@ -41,28 +35,3 @@ module _ (c : List ℕ) (s : ℕ) where
       go (suc (suc (suc (suc zero)))) j f h e = rw (f, ← e) (omega arith)
       go (suc (suc (suc (suc (suc zero))))) j f h e = rw (f, ← e) (omega arith)
       go (suc (suc (suc (suc (suc (suc k)))))) j f h e = absurd (omega arith)
-
-  pub proof_last : behind 8 21 ≡ after_fields (take 9 proof_items) c s
-  proof_last = let e : s + 8 ≡ s + 4 + 4 = omega arith in rw e (omega arith)
-
-  module _ (width : ℕ) where
-    pub witness_from : (j : ℕ) → j < 3 → s + 4 * j ≡ after_fields (take j (witness_items width)) c s
-    witness_from zero h = omega arith
-    witness_from (suc zero) h = omega arith
-    witness_from (suc (suc zero)) h = omega arith
-    witness_from (suc (suc (suc j))) h = absurd (omega arith)
-
-    pub witness_reserved : s + 9 ≡ after_fields (take 3 (witness_items width)) c s
-    witness_reserved = omega arith
-
-    pub witness_digest : s + 12 ≡ after_fields (take 4 (witness_items width)) c s
-    witness_digest = omega arith
-
-    pub witness_start : s + 44 ≡ after_fields (take 5 (witness_items width)) c s
-    witness_start = omega arith
-
-    pub witness_end : s + (44 + width) ≡ after_fields (take 6 (witness_items width)) c s
-    witness_end = omega arith
-
-    pub witness_last : s + (44 + width + width) ≡ after_fields (take 7 (witness_items width)) c s
-    witness_last = omega arith

@@ -5,8 +5,9 @@ use mathlib.Core.List.{List, [], ◌∷◌, ◌++◌, append_assoc, append-nil}
 use native.Mathlib.Numerals.{add-one}
 use lib.ListN.{length, get_or, take, drop, drop_of_length-le}
 use lib.Seq.{take-suc, drop-cons}
-use Rattle.byte_output.specs.Written.{Written}
-use Rattle.byte_output.proofs.WrittenLaws.{written_none, written_append}
+use Rattle.byte_output.specs.Maps.{Writes}
+use Rattle.byte_output.specs.declared.Output.{Output}
+use Rattle.byte_output.proofs.WrittenLaws.{writes_none, writes_append}
 use Rattle.evr0_columns.specs.Form.{each}
 use Rattle.evr0_columns.specs.Layout.{Item, raw}
 use Rattle.column_fields.specs.Moved.{field_moved}
@@ -37,30 +38,28 @@ each_same f g same (x ∷ xs) = ap₂ ◌++◌ (same x) (each_same f g same xs)
 -- ---- Columns
 
 -- the first j columns are written
-pub record Putting (items : List Item) (c starts before : List ℕ) (at : ℕ) (after : List ℕ) (next j : ℕ) : Type 0 where
+pub record Putting (items : List Item) (c starts : List ℕ) (before after : Output) (j : ℕ) : Type 0 where
   pub done : List ℕ
-  pub written : Written before at done after next
+  pub written : Writes before done after
   pub same : table_moved items c starts ≡ done ++ others_moved (take j items) (drop j items) c starts
 
-pub putting_first : (items : List Item) (c starts s : List ℕ) (at : ℕ) → length s ≤ 18446744073709551615 → at ≤ 18446744073709551615
-    → Putting items c starts s at s at 0
-putting_first items c starts s at h k = record { done = []; written = written_none s at h k; same = refl }
+pub putting_first : (items : List Item) (c starts : List ℕ) (o : Output) → length o.bytes.now ≤ 18446744073709551615 → Putting items c starts o o 0
+putting_first items c starts o h = record { done = []; written = writes_none o h; same = refl }
 
-module _ {items : List Item} {c starts before : List ℕ} {at : ℕ} {after : List ℕ} {next j : ℕ}
-    (p : Putting items c starts before at after next j) where
-  pub putting_more : (path : Path) {item : Item} {t : List ℕ} {m : ℕ} → j < length items → item ≡ get_or items j (raw 0)
+module _ {items : List Item} {c starts : List ℕ} {before after : Output} {j : ℕ} (p : Putting items c starts before after j) where
+  pub putting_more : (path : Path) {item : Item} {t : Output} → j < length items → item ≡ get_or items j (raw 0)
       → ((b : List ℕ) (s : ℕ) → place_of b path s ≡ after_fields (take j items) b s)
-      → Written after next (column_moved item path c starts) t m → Putting items c starts before at t m (j + 1)
+      → Writes after (column_moved item path c starts) t → Putting items c starts before t (j + 1)
   unfolding others_moved
   putting_more path {item} here e place w =
       let col : column_moved item path c starts ≡ behind_moved (take j items) (get_or items j (raw 0)) c starts =
       rw (← e) (each_same _ _ (λ s. ap (field_moved item c) (place c s)) starts) in
       record {
         done = p.done ++ column_moved item path c starts;
-        written = written_append p.written w;
+        written = writes_append p.written w;
         same = p.same ∙ rw (add-one j, drop-cons items j (raw 0) here, take-suc items j (raw 0) here, col, append_assoc);
       }
 
-  pub putting_all : length items ≤ j → Written before at (table_moved items c starts) after next
+  pub putting_all : length items ≤ j → Writes before (table_moved items c starts) after
   unfolding others_moved
   putting_all h = rw (p.same, drop_of_length-le items h, append-nil p.done) p.written

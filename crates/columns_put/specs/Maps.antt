@@ -34,11 +34,11 @@ OneText (table.Witnesses span) = Unit {0}
 OneText table.Parents = Unit {0}
 
 -- where the records start
-abbrev pub starts_in : Records → List ℕ → List ℕ
-starts_in records.Listed starts = starts
-starts_in (records.Even first size count) starts = evenly count size first
+abbrev pub starts_in : Records → List ℕ
+starts_in (records.Listed starts) = starts.now
+starts_in (records.Even first size count) = evenly count size first
 
 -- the place after the last of records of one size is a 64-bit number
 abbrev pub Fits : Records → Type 0
-Fits records.Listed = Unit {0}
+Fits (records.Listed starts) = Unit {0}
 Fits (records.Even first size count) = first + size * count ≤ 18446744073709551615

@@ -6,28 +6,29 @@ ghost use Rattle.column_fields.specs.Maps.{items_of};
 ghost use Rattle.columns_put.specs.Places.{after_fields};
 ghost use Rattle.columns_put.specs.Maps.{OneText, place_of};
 
-use column_fields::row::size_of;
 use column_fields::table::Table;
 use groups::read::Width;
-use local_format::field::u16_at;
+use local_format::field::LittleEndian;
 
 // So far from the record's start, or so far behind a text of it.
-#[derive(Clone, Copy)]
+#[derive(Clone, Copy, Debug, PartialEq, Eq)]
 pub enum Path {
     From(usize),
     Behind { text: usize, offset: usize },
 }
 
-// The place of a field of the record that starts at `start`.
-pub fn place_of(bytes: &[u8], start: usize, path: Path) -> usize
-    requires { place_of bytes.now path start ≤ length bytes.now }
-    ensures { result ≡ place_of bytes.now path start }
-{
-    match path {
-        Path::From(offset) => start + offset,
-        Path::Behind { text, offset } => {
-            let at = start + text;
-            at + 2 + (u16_at(bytes, at) as usize) + offset
+impl Path {
+    // The place of a field of the record that starts at `start`.
+    pub fn place(self, bytes: &[u8], start: usize) -> usize
+        requires { place_of bytes.now self start ≤ length bytes.now }
+        ensures { result ≡ place_of bytes.now self start }
+    {
+        match self {
+            Path::From(offset) => start + offset,
+            Path::Behind { text, offset } => {
+                let at = start + text;
+                at + 2 + (u16::le_at(bytes, at) as usize) + offset
+            }
         }
     }
 }
@@ -36,12 +37,12 @@ fn proposition_path(column: usize) -> Path
     requires { column < 4 }
     ensures { (c : List ℕ) (s : ℕ) → place_of c result s ≡ after_fields (take column proposition_items) c s }
 {
-    if column == 0 {
-        return Path::From(0);
-    }
-    Path::Behind {
-        text: 0,
-        offset: 4 * (column - 1),
+    match column {
+        0 => Path::From(0),
+        _ => Path::Behind {
+            text: 0,
+            offset: 4 * (column - 1),
+        },
     }
 }
 
@@ -49,18 +50,18 @@ fn proof_path(column: usize) -> Path
     requires { column < 10 }
     ensures { (c : List ℕ) (s : ℕ) → place_of c result s ≡ after_fields (take column proof_items) c s }
 {
-    if column < 3 {
-        return Path::From(4 * column);
-    }
-    if column < 9 {
-        return Path::Behind {
+    match column {
+        0 => Path::From(0),
+        1 => Path::From(4),
+        2 => Path::From(8),
+        9 => Path::Behind {
+            text: 8,
+            offset: 21,
+        },
+        _ => Path::Behind {
             text: 8,
             offset: 4 * (column - 3),
-        };
-    }
-    Path::Behind {
-        text: 8,
-        offset: 21,
+        },
     }
 }
 
@@ -68,23 +69,16 @@ fn witness_path(column: usize, span: Width) -> Path
     requires { column < 8 }
     ensures { (c : List ℕ) (s : ℕ) → place_of c result s ≡ after_fields (take column (witness_items (width_of span))) c s }
 {
-    if column < 3 {
-        return Path::From(4 * column);
+    match column {
+        0 => Path::From(0),
+        1 => Path::From(4),
+        2 => Path::From(8),
+        3 => Path::From(9),
+        4 => Path::From(12),
+        5 => Path::From(44),
+        6 => Path::From(44 + span.size()),
+        _ => Path::From(44 + 2 * span.size()),
     }
-    if column == 3 {
-        return Path::From(9);
-    }
-    if column == 4 {
-        return Path::From(12);
-    }
-    if column == 5 {
-        return Path::From(44);
-    }
-    let size = size_of(span);
-    if column == 6 {
-        return Path::From(44 + size);
-    }
-    Path::From(44 + size + size)
 }
 
 // Where the field of a column stands: behind those of the columns before it, of which one is a text at most.

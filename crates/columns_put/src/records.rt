@@ -4,8 +4,8 @@ ghost use Rattle.columns_put.specs.Maps.{starts_in, Fits};
 
 // Those that start at the places of a list, or `count` of one size, one after the other.
 #[derive(Clone, Copy)]
-pub enum Records {
-    Listed,
+pub enum Records<'a> {
+    Listed(&'a [u64]),
     Even {
         first: usize,
         size: usize,
@@ -13,29 +13,31 @@ pub enum Records {
     },
 }
 
-pub fn count_of(records: Records, starts: &[u64]) -> usize
-    ensures { result ≡ length (starts_in records starts.now) }
-{
-    match records {
-        Records::Listed => starts.len(),
-        Records::Even {
-            first: _,
-            size: _,
-            count,
-        } => count,
+impl<'a> Records<'a> {
+    pub fn count(self) -> usize
+        ensures { result ≡ length (starts_in self.entry) }
+    {
+        match self {
+            Records::Listed(starts) => starts.len(),
+            Records::Even {
+                first: _,
+                size: _,
+                count,
+            } => count,
+        }
     }
-}
 
-pub fn start_of(records: Records, starts: &[u64], i: usize) -> usize
-    requires { (i < length (starts_in records starts.now)) × Fits records }
-    ensures { result ≡ get_or (starts_in records starts.now) i 0 }
-{
-    match records {
-        Records::Listed => starts[i] as usize,
-        Records::Even {
-            first,
-            size,
-            count: _,
-        } => first + size * i,
+    pub fn start(self, i: usize) -> usize
+        requires { (i < length (starts_in self)) × Fits self }
+        ensures { result ≡ get_or (starts_in self.entry) i 0 }
+    {
+        match self {
+            Records::Listed(starts) => starts[i] as usize,
+            Records::Even {
+                first,
+                size,
+                count: _,
+            } => first + size * i,
+        }
     }
 }

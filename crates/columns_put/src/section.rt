@@ -1,8 +1,7 @@
 // A section, written as its columns.
 ghost use Rattle.std.specs.Prelude.{◌≡◌};
-ghost use Rattle.byte_output.specs.Written.{Written};
+ghost use Rattle.byte_output.specs.Maps.{Writes};
 ghost use Rattle.groups.specs.Maps.{width_of};
-ghost use Rattle.evr0_section.specs.Head.{span_width};
 ghost use Rattle.evr0_columns.specs.Columns.{proposition_items, proof_items};
 ghost use Rattle.columns_put.specs.Places.{Inside};
 ghost use Rattle.columns_put.specs.Due.{Due, Puts, LastIn, listed_moved, last_moved};
@@ -10,60 +9,34 @@ ghost use Rattle.columns_put.specs.Due.{Due, Puts, LastIn, listed_moved, last_mo
 use crate::head::put_head;
 use crate::records::Records;
 use crate::table::put_table;
-use column_fields::row::size_of;
-use column_fields::table::Table;
+use byte_output::Output;
+use column_fields::table::{Table, span_of};
 use groups::read::Width;
 use local_format::part::tail;
 
-fn span_of(schema: u16) -> Width
-    ensures { width_of result ≡ span_width schema }
-{
-    if schema == 2 {
-        return Width::Eight;
-    }
-    Width::Four
-}
-
 // The columns of the propositions and the proofs, which start at these places.
-fn put_listed(
-    payload: &[u8],
-    propositions: &[u64],
-    proofs: &[u64],
-    out: &mut [u8],
-    at: usize,
-) -> usize
+fn put_listed(payload: &[u8], propositions: &[u64], proofs: &[u64], out: &mut Output)
     requires { Inside payload.now proposition_items propositions.now × Inside payload.now proof_items proofs.now }
-    ensures { Written out.old at
-        (listed_moved payload.now propositions.now proofs.now) out.new result }
+    ensures { Writes out.old (listed_moved payload.now propositions.now proofs.now) out.new }
 {
-    let next = put_table(
+    put_table(
         payload,
         Table::Propositions,
-        Records::Listed,
-        propositions,
+        Records::Listed(propositions),
         out,
-        at,
     );
-    put_table(payload, Table::Proofs, Records::Listed, proofs, out, next)
+    put_table(payload, Table::Proofs, Records::Listed(proofs), out);
 }
 
 // Those of the witnesses and the parents, which end the payload.
-fn put_even(
-    payload: &[u8],
-    span: Width,
-    witnesses: usize,
-    parents: usize,
-    out: &mut [u8],
-    at: usize,
-) -> usize
+fn put_even(payload: &[u8], span: Width, witnesses: usize, parents: usize, out: &mut Output)
     requires { LastIn (width_of span) payload.now witnesses parents }
-    ensures { Written out.old at (last_moved (width_of span) payload.now witnesses parents) out.new result }
+    ensures { Writes out.old (last_moved (width_of span) payload.now witnesses parents) out.new }
 {
-    let none = [0u64; 0];
-    let size = 76 + 2 * size_of(span);
+    let size = 76 + 2 * span.size();
     let parents_at = payload.len() - 4 * parents;
     let witnesses_at = parents_at - size * witnesses;
-    let next = put_table(
+    put_table(
         payload,
         Table::Witnesses(span),
         Records::Even {
@@ -71,9 +44,7 @@ fn put_even(
             size,
             count: witnesses,
         },
-        &none,
         out,
-        at,
     );
     put_table(
         payload,
@@ -83,14 +54,12 @@ fn put_even(
             size: 4,
             count: parents,
         },
-        &none,
         out,
-        next,
-    )
+    );
 }
 
-// The columns of a section whose tables were read, with the starts of its propositions and proofs in the payload. Bytes past the output's
-// end are dropped and counted.
+// The columns of a section whose tables were read, with the starts of its propositions and proofs in the payload: how long they are. Bytes past
+// the output's end are dropped and counted.
 pub fn put_section(
     section: &[u8],
     propositions: &[u64],
@@ -104,7 +73,12 @@ pub fn put_section(
     ensures { Puts section.now out.old out.new result }
 {
     let payload = tail(section, 8);
-    let head = put_head(section, out);
-    let next = put_listed(payload, propositions, proofs, out, head);
-    put_even(payload, span_of(schema), witnesses, parents, out, next)
+    let mut output = Output {
+        bytes: out,
+        next: 0,
+    };
+    put_head(section, &mut output);
+    put_listed(payload, propositions, proofs, &mut output);
+    put_even(payload, span_of(schema), witnesses, parents, &mut output);
+    output.next
 }

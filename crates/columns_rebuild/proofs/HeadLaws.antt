@@ -6,7 +6,7 @@ use mathlib.Core.List.{List, [], ◌∷◌, zip, append-nil}
 use native.Mathlib.Omega.{arith}
 use lib.Dec.{leb}
 use lib.ListN.{length, get_or, take, drop, length-drop}
-use borrow.Author.Tests.{leb-true, eq-eqb, ne_eqb}
+use borrow.Author.Tests.{leb-true}
 use Rattle.local_format.specs.Refusal.{Refusal}
 use Rattle.local_format.specs.Out.{Out, ok, refused, refuse, ◌>>=◌}
 use Rattle.local_format.specs.Field.{le, whole as there, cut, or_cut, field_at}
@@ -135,17 +135,8 @@ four_same e f g h = rw (e, f, g, h)
 
 -- ---- The bytes of a span, by the schema
 module _ (c : List ℕ) (at : ℕ) where
-  module _ (v n : ℕ) (e : field_at 2 c at ≡ there (record { value = v; next = n })) where
-    value_is : v ≡ le 2 c at
-    value_is = (field_ok 0 2 c at (ap (or_cut 0 at) e)).2
+  pub span_is : {v n : ℕ} → there (record { value = v; next = n }) ≡ field_at 2 c at → v ≡ le 2 c at
+  span_is e = (field_ok 0 2 c at (ap (or_cut 0 at) (sym e))).2
 
-    pub span_wide : v ≡ 2 → 8 ≡ span_width (le 2 c at)
-    unfolding span_width
-    span_wide h = rw (← value_is, eq-eqb v 2 h)
-
-    pub span_narrow : (v ≡ 2 → ⊥) → 4 ≡ span_width (le 2 c at)
-    unfolding span_width
-    span_narrow h = rw (← value_is, ne_eqb v 2 h)
-
-  pub span_cut : field_at 2 c at ≡ cut → at + 2 ≤ length c → ⊥
-  span_cut e h = never (sym (ap (or_cut 0 at) e) ∙ field_there 0 2 c at h)
+  pub span_cut : cut ≡ field_at 2 c at → at + 2 ≤ length c → ⊥
+  span_cut e h = never (sym (ap (or_cut 0 at) (sym e)) ∙ field_there 0 2 c at h)

@@ -11,14 +11,15 @@ use lib.Seq.{get_or-set_same, get_or-set_other}
 use Rattle.local_format.specs.Out.{ok}
 use Rattle.local_format.proofs.OutLaws.{ok_same, bind_ok}
 use Rattle.byte_output.specs.Written.{Written}
-use Rattle.byte_output.proofs.WrittenLaws.{written_none, written_append}
+use Rattle.byte_output.specs.Maps.{Stands, Writes}
+use Rattle.byte_output.specs.declared.Output.{Output}
+use Rattle.byte_output.proofs.WrittenLaws.{written_none, written_append, writes_none, writes_append}
 use Rattle.derivation.proofs.Tests.{order}
 use Rattle.groups.specs.Groups.{Read}
 use Rattle.evr0_columns.specs.Form.{each, get_many}
 use Rattle.evr0_columns.specs.Layout.{Item, raw, Of, Record, in_bytes, in_groups, field, fields}
 use Rattle.column_fields.specs.Moved.{written}
 use Rattle.column_fields.specs.Took.{left_of, FieldTook}
-use Rattle.column_fields.specs.declared.back.Taken.{Taken}
 use Rattle.columns_rebuild.specs.Stand.{part, Column, Stand, RowTook}
 
 -- ---- The fields of a record from the j-th on
@@ -70,103 +71,102 @@ module _ {c : List ℕ} {items : List Item} {k : ℕ} {row : Record items} {rows
         same : (m : Read (List (Of item))) {v : List (Of item)} {r : List ℕ} → m.value ≡ v → m.rest ≡ r → ok m ≡ ok (record { value = v; rest = r })
         same m p q = ap₂ (λ (v : List (Of item)) (r : List ℕ). ok (record { value = v; rest = r })) p q
 
-    module _ {before after : List ℕ} {next : ℕ} {t : Taken} (took : FieldTook item c at before next after t) where
-      pub field_puts : Written before next ((field in_bytes item).put (part items k row)) after t.next
+    module _ {before after : Output} {next : ℕ} (took : FieldTook item c at before after next) where
+      pub field_puts : Writes before ((field in_bytes item).put (part items k row)) after
       field_puts =
           let (g, f, v, m) = column_field in
           rw (ap (written (field in_bytes item)) f ∙ ap (field in_bytes item).put v) at took.puts
 
-      pub field_passed : Column c items k rows t.at
+      pub field_passed : Column c items k rows next
       field_passed =
           let (g, f, v, m) = column_field in
-          let left : drop t.at c ≡ g.rest = took.left ∙ ap (left_of (drop at c)) f in
+          let left : drop next c ≡ g.rest = took.left ∙ ap (left_of (drop at c)) f in
           record { rest = column.rest; read = rw left m }
 
 -- ---- The first j fields of a row
-pub record Rowing (c : List ℕ) (items : List Item) (row : Record items) (rows : List (Record items)) (before : List ℕ) (at j : ℕ)
-    (cursors after : List ℕ) (next : ℕ) : Type 0 where
+pub record Rowing (c : List ℕ) (items : List Item) (row : Record items) (rows : List (Record items)) (before : Output) (j : ℕ)
+    (cursors : List ℕ) (after : Output) : Type 0 where
   pub bytes : List ℕ
-  pub same : (fields in_bytes items).put row ≡ bytes ++ put_from items j row
-  pub puts : Written before at bytes after next
+  pub whole : (fields in_bytes items).put row ≡ bytes ++ put_from items j row
+  pub puts : Writes before bytes after
   pub reach : length items ≤ length cursors
   pub passed : (k : ℕ) → k < length items → k < j → Column c items k rows (get_or cursors k 0)
   pub here : (k : ℕ) → k < length items → j ≤ k → Column c items k (row ∷ rows) (get_or cursors k 0)
 
-pub rowing_first : {c : List ℕ} {items : List Item} {row : Record items} {rows : List (Record items)} {cursors : List ℕ} (before : List ℕ) (at : ℕ)
-    → length before ≤ 18446744073709551615 → at ≤ 18446744073709551615 → Stand c items (row ∷ rows) cursors
-    → Rowing c items row rows before at 0 cursors before at
-rowing_first before at h k s =
+pub rowing_first : {c : List ℕ} {items : List Item} {row : Record items} {rows : List (Record items)} {cursors : List ℕ} (before : Output)
+    → length before.bytes.now ≤ 18446744073709551615 → Stand c items (row ∷ rows) cursors → Rowing c items row rows before 0 cursors before
+rowing_first before h s =
     record {
       bytes = [];
-      same = refl;
-      puts = written_none before at h k;
+      whole = refl;
+      puts = writes_none before h;
       reach = s.reach;
       passed = λ k l m. absurd (omega arith);
       here = λ k l m. s.column k l;
     }
 
-module _ {c : List ℕ} {items : List Item} {row : Record items} {rows : List (Record items)} {before : List ℕ} {at j : ℕ} {cursors after : List ℕ} {next : ℕ}
-    (w : Rowing c items row rows before at j cursors after next) where
-  rowing_more : {t : Taken} {put : List ℕ} → j < length items → FieldTook (get_or items j (raw 0)) c (get_or cursors j 0) after next put t
-      → Rowing c items row rows before at (j + 1) (set cursors j t.at) put t.next
-  rowing_more {t} h took =
+module _ {c : List ℕ} {items : List Item} {row : Record items} {rows : List (Record items)} {before : Output} {j : ℕ} {cursors : List ℕ} {after : Output}
+    (w : Rowing c items row rows before j cursors after) where
+  rowing_more : {next : ℕ} {put : Output} → j < length items → FieldTook (get_or items j (raw 0)) c (get_or cursors j 0) after put next
+      → Rowing c items row rows before (j + 1) (set cursors j next) put
+  rowing_more {next} h took =
       let column = w.here j h (omega arith) in
       let bytes : List ℕ = (field in_bytes (get_or items j (raw 0))).put (part items j row) in
       record {
         bytes = w.bytes ++ bytes;
-        same = w.same ∙ rw (add-one j, put_more items j row h) (sym (append_assoc w.bytes bytes (put_from items (suc j) row)));
-        puts = written_append w.puts (field_puts column took);
-        reach = omega (arith, w.reach, length-set cursors j t.at);
+        whole = w.whole ∙ rw (add-one j, put_more items j row h) (sym (append_assoc w.bytes bytes (put_from items (suc j) row)));
+        puts = writes_append w.puts (field_puts column took);
+        reach = omega (arith, w.reach, length-set cursors j next);
         passed = λ k l m. moved k l m (order j k);
-        here = λ k l m. rw (get_or-set_other cursors j k t.at 0 (λ e. omega arith)) (w.here k l (omega arith));
+        here = λ k l m. rw (get_or-set_other cursors j k next 0 (λ e. omega arith)) (w.here k l (omega arith));
       }
     where
-      moved : (k : ℕ) → k < length items → k < j + 1 → (j ≤ k) ⊎ (k < j) → Column c items k rows (get_or (set cursors j t.at) k 0)
+      moved : (k : ℕ) → k < length items → k < j + 1 → (j ≤ k) ⊎ (k < j) → Column c items k rows (get_or (set cursors j next) k 0)
       moved k l m (inl n) =
           let e : k ≡ j = omega arith in
-          rw (e, get_or-set_same cursors j t.at 0 (omega (arith, w.reach))) (field_passed (w.here j h (omega arith)) took)
-      moved k l m (inr n) = rw (get_or-set_other cursors j k t.at 0 (λ e. omega arith)) (w.passed k l n)
+          rw (e, get_or-set_same cursors j next 0 (omega (arith, w.reach))) (field_passed (w.here j h (omega arith)) took)
+      moved k l m (inr n) = rw (get_or-set_other cursors j k next 0 (λ e. omega arith)) (w.passed k l n)
 
   -- as a turn of the loop has it
-  pub rowing_turn : {item : Item} {from : ℕ} {cursors' put : List ℕ} {t : Taken} → j < length items → item ≡ get_or items j (raw 0)
-      → from ≡ get_or cursors j 0 → FieldTook item c from after next put t → cursors' ≡ set cursors j t.at
-      → Rowing c items row rows before at (j + 1) cursors' put t.next
-  rowing_turn {item} {put = put} {t} h e f took g =
-      let there = subst (λ (n : ℕ). FieldTook item c n after next put t) f took in
-      rw g (rowing_more h (subst (λ (i : Item). FieldTook i c (get_or cursors j 0) after next put t) e there))
+  pub rowing_turn : {item : Item} {from next : ℕ} {cursors' : List ℕ} {put : Output} → j < length items → item ≡ get_or items j (raw 0)
+      → from ≡ get_or cursors j 0 → FieldTook item c from after put next → cursors' ≡ set cursors j next
+      → Rowing c items row rows before (j + 1) cursors' put
+  rowing_turn {item} {next = next} {put = put} h e f took g =
+      let there = subst (λ (n : ℕ). FieldTook item c n after put next) f took in
+      rw g (rowing_more h (subst (λ (i : Item). FieldTook i c (get_or cursors j 0) after put next) e there))
 
-  pub rowing_all : length items ≤ j → RowTook c items row rows cursors before at after next
-  rowing_all h =
-      let e : (fields in_bytes items).put row ≡ w.bytes = w.same ∙ ap (λ (s : List ℕ). w.bytes ++ s) (put_none items j row h) ∙ append-nil w.bytes in
-      record { puts = rw e w.puts; stand = record { reach = w.reach; column = λ k l. w.passed k l (omega arith) } }
+  pub rowing_all : length items ≤ j → Stands before → RowTook c items row rows cursors before.bytes.now before.next after.bytes.now after.next
+  rowing_all h k =
+      let e : (fields in_bytes items).put row ≡ w.bytes = w.whole ∙ ap (λ (s : List ℕ). w.bytes ++ s) (put_none items j row h) ∙ append-nil w.bytes in
+      record { puts = rw e (w.puts.written k); stand = record { reach = w.reach; column = λ k l. w.passed k l (omega arith) } }
 
 -- ---- The first i rows of a table
-pub record Taking (c : List ℕ) (items : List Item) (rows : List (Record items)) (before : List ℕ) (at i : ℕ) (cursors after : List ℕ) (next : ℕ)
+pub record Taking (c : List ℕ) (items : List Item) (rows : List (Record items)) (before : Output) (i : ℕ) (cursors : List ℕ) (after : Output)
     : Type 0 where
   pub left : List (Record items)
   pub few : length left + i ≡ length rows
   pub bytes : List ℕ
-  pub same : each (fields in_bytes items).put rows ≡ bytes ++ each (fields in_bytes items).put left
-  pub puts : Written before at bytes after next
+  pub whole : each (fields in_bytes items).put rows ≡ bytes ++ each (fields in_bytes items).put left
+  pub puts : Written before.bytes.now before.next bytes after.bytes.now after.next
   pub stand : Stand c items left cursors
 
-pub taking_first : {c : List ℕ} {items : List Item} {rows : List (Record items)} {cursors : List ℕ} (before : List ℕ) (at : ℕ)
-    → length before ≤ 18446744073709551615 → at ≤ 18446744073709551615 → Stand c items rows cursors
-    → Taking c items rows before at 0 cursors before at
-taking_first {rows = rows} before at h k s =
-    record { left = rows; few = omega arith; bytes = []; same = refl; puts = written_none before at h k; stand = s }
+pub taking_first : {c : List ℕ} {items : List Item} {rows : List (Record items)} {cursors : List ℕ} (before : Output)
+    → length before.bytes.now ≤ 18446744073709551615 → Stands before → Stand c items rows cursors → Taking c items rows before 0 cursors before
+taking_first {rows = rows} before h k s =
+    record { left = rows; few = omega arith; bytes = []; whole = refl; puts = written_none before.bytes.now before.next h k; stand = s }
 
-module _ {c : List ℕ} {items : List Item} {rows : List (Record items)} {before : List ℕ} {at i : ℕ} {cursors after : List ℕ} {next : ℕ}
-    (w : Taking c items rows before at i cursors after next) where
-  pub taking_more : {cursors' after' : List ℕ} {next' : ℕ} → i < length rows
-      → ((row : Record items) (more : List (Record items)) → Stand c items (row ∷ more) cursors → RowTook c items row more cursors' after next after' next')
-      → Taking c items rows before at (i + 1) cursors' after' next'
+module _ {c : List ℕ} {items : List Item} {rows : List (Record items)} {before : Output} {i : ℕ} {cursors : List ℕ} {after : Output}
+    (w : Taking c items rows before i cursors after) where
+  pub taking_more : {cursors' : List ℕ} {after' : Output} → i < length rows
+      → ((row : Record items) (more : List (Record items)) → Stand c items (row ∷ more) cursors
+      → RowTook c items row more cursors' after.bytes.now after.next after'.bytes.now after'.next)
+      → Taking c items rows before (i + 1) cursors' after'
   unfolding each
-  taking_more {cursors'} {after'} {next'} h took = go w.left w.few w.same w.stand
+  taking_more {cursors'} {after'} h took = go w.left w.few w.whole w.stand
     where
       go : (left : List (Record items)) → length left + i ≡ length rows
           → each (fields in_bytes items).put rows ≡ w.bytes ++ each (fields in_bytes items).put left → Stand c items left cursors
-          → Taking c items rows before at (i + 1) cursors' after' next'
+          → Taking c items rows before (i + 1) cursors' after'
       go [] f e s = absurd (omega arith)
       go (row ∷ more) f e s =
           let t = took row more s in
@@ -174,17 +174,17 @@ module _ {c : List ℕ} {items : List Item} {rows : List (Record items)} {before
             left = more;
             few = omega arith;
             bytes = w.bytes ++ (fields in_bytes items).put row;
-            same = e ∙ sym (append_assoc w.bytes _ _);
+            whole = e ∙ sym (append_assoc w.bytes _ _);
             puts = written_append w.puts t.puts;
             stand = t.stand;
           }
 
-  pub taking_all : length rows ≤ i → Written before at (each (fields in_bytes items).put rows) after next
+  pub taking_all : length rows ≤ i → Written before.bytes.now before.next (each (fields in_bytes items).put rows) after.bytes.now after.next
   unfolding each
-  taking_all h = go w.left w.few w.same
+  taking_all h = go w.left w.few w.whole
     where
       go : (left : List (Record items)) → length left + i ≡ length rows
           → each (fields in_bytes items).put rows ≡ w.bytes ++ each (fields in_bytes items).put left
-          → Written before at (each (fields in_bytes items).put rows) after next
+          → Written before.bytes.now before.next (each (fields in_bytes items).put rows) after.bytes.now after.next
       go [] f e = rw (e ∙ append-nil w.bytes) w.puts
       go (row ∷ more) f e = absurd (omega arith)

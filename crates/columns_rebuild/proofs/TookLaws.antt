@@ -8,12 +8,15 @@ use borrow.Author.Tests.{eq-eqb, ne_eqb}
 use Rattle.local_format.specs.Refusal.{Refusal}
 use Rattle.local_format.specs.Out.{Out, ok, refused, refuse, held}
 use Rattle.local_format.proofs.OutLaws.{never, ok_same, refused_same, on_ok, on_refused}
+use Rattle.std.specs.Prelude.{Result, Ok, Err}
+use Rattle.local_format.specs.declared.refusal.Refusal as code_refusal
 use Rattle.byte_output.specs.Written.{Written}
+use Rattle.byte_output.specs.declared.Output.{Output}
 use Rattle.byte_output.proofs.WrittenLaws.{written_none, written_length, written_append}
 use Rattle.groups.specs.Groups.{Read}
 use Rattle.evr0_columns.specs.Form.{Form, and_then, each, whole, rewritten}
 use Rattle.evr0_columns.specs.Layout.{Item, Record, Table, in_bytes, in_groups, fields, by_row, by_column, tables}
-use Rattle.evr0_columns.specs.Columns.{head_items, witness_items, schema_of, layout_of, layout, section_form, column_form, rebuilt}
+use Rattle.evr0_columns.specs.Columns.{head_items, witness_items, parent_items, schema_of, layout_of, layout, section_form, column_form, rebuilt}
 use Rattle.column_fields.specs.Past.{past, table_past}
 use Rattle.column_fields.specs.Maps.{items_of}
 use Rattle.column_fields.specs.declared.table.Table as code
@@ -21,10 +24,8 @@ use Rattle.column_fields.specs.declared.table.Table.TheVariants as table
 use Rattle.columns_rebuild.specs.Noted.{Starts}
 use Rattle.columns_rebuild.specs.Stand.{Stand}
 use Rattle.columns_rebuild.specs.Took.{Took, Stopped, RebuiltTo}
-use Rattle.columns_rebuild.specs.Maps.{TakesAs, proposition_table, proof_table, parent_table, announced_tables, HeadTook}
+use Rattle.columns_rebuild.specs.Maps.{TakesAs, proposition_table, proof_table, witness_table, parent_table, announced_tables, HeadTook}
 use Rattle.columns_rebuild.specs.declared.head.Announced.{Announced}
-use Rattle.columns_rebuild.specs.declared.table.Back.{Back}
-use Rattle.columns_rebuild.specs.declared.table.Back.TheVariants as back
 use Rattle.columns_rebuild.proofs.ColumnLaws.{table_length, first_stand}
 
 -- ---- A table
@@ -84,17 +85,11 @@ module _ (t : Table) (ts : List Table) {c : List ℕ} {at : ℕ} where
     unfolding tables
     tables_refused s = then_stopped (λ rows. tables (by_column in_groups) ts) (λ rows. tables (by_row in_bytes) ts) one s
 
-    tables_took : {after : List ℕ} {at'' next'' : ℕ}
+    pub tables_took : {after : List ℕ} {at'' next'' : ℕ}
         → Took (tables (by_column in_groups) ts) (tables (by_row in_bytes) ts) c at' middle next' after at'' next''
         → Took (tables (by_column in_groups) (t ∷ ts)) (tables (by_row in_bytes) (t ∷ ts)) c at before next after at'' next''
     unfolding tables
     tables_took u = then_took (λ rows. tables (by_column in_groups) ts) (λ rows. tables (by_row in_bytes) ts) one u
-
-    -- whatever the others answer
-    pub takes_more : (after : List ℕ) (b : Back) → TakesAs (tables (by_column in_groups) ts) (tables (by_row in_bytes) ts) c at' middle next' after b
-        → TakesAs (tables (by_column in_groups) (t ∷ ts)) (tables (by_row in_bytes) (t ∷ ts)) c at before next after b
-    takes_more after (back.Taken n m) u = tables_took u
-    takes_more after (back.Refused r) u = tables_refused u
 
 -- none
 no_tables : {c : List ℕ} {at : ℕ} {s : List ℕ} {next : ℕ} → length s ≤ 18446744073709551615 → next ≤ 18446744073709551615
@@ -103,13 +98,60 @@ unfolding tables
 no_tables {s = s} {next} h k = record { value = tt; read = refl; puts = written_none s next h k }
 
 -- the last
-pub takes_last : (t : Table) (c before after : List ℕ) (at next : ℕ) (b : Back)
-    → TakesAs (by_column in_groups t.count t.items) (by_row in_bytes t.count t.items) c at before next after b
-    → TakesAs (tables (by_column in_groups) (t ∷ [])) (tables (by_row in_bytes) (t ∷ [])) c at before next after b
+pub last_took : (t : Table) {c before after : List ℕ} {at next at' next' : ℕ}
+    → Took (by_column in_groups t.count t.items) (by_row in_bytes t.count t.items) c at before next after at' next'
+    → Took (tables (by_column in_groups) (t ∷ [])) (tables (by_row in_bytes) (t ∷ [])) c at before next after at' next'
 unfolding held
-takes_last t c before after at next (back.Taken n m) u =
-    tables_took t [] u (no_tables (omega (arith, u.puts.fits, written_length u.puts)) (omega (arith, u.puts.place)))
-takes_last t c before after at next (back.Refused r) u = table_refused t [] u
+last_took t u = tables_took t [] u (no_tables (omega (arith, u.puts.fits, written_length u.puts)) (omega (arith, u.puts.place)))
+
+-- ---- The four tables that a head announces
+abbrev last_one : Announced → List Table
+last_one a = parent_table a ∷ []
+
+abbrev last_two : Announced → List Table
+last_two a = witness_table a ∷ last_one a
+
+abbrev last_three : Announced → List Table
+last_three a = proof_table a ∷ last_two a
+
+abbrev pub TookOne : Table → List ℕ → ℕ → List ℕ → ℕ → List ℕ → ℕ → ℕ → Type 0
+TookOne t c at before next after at' next' =
+    Took (by_column in_groups t.count t.items) (by_row in_bytes t.count t.items) c at before next after at' next'
+
+abbrev pub StoppedOne : Table → List ℕ → ℕ → Refusal → Type 0
+StoppedOne t c at r = Stopped (by_column in_groups t.count t.items) c at r
+
+abbrev pub StoppedAll : List Table → List ℕ → ℕ → Refusal → Type 0
+StoppedAll ts c at r = Stopped (tables (by_column in_groups) ts) c at r
+
+module _ (a : Announced) {c : List ℕ} {at : ℕ} {r : Refusal} where
+  pub first_refused : StoppedOne (proposition_table a) c at r → StoppedAll (announced_tables a) c at r
+  first_refused x = table_refused (proposition_table a) (last_three a) x
+
+  module _ {s t : List ℕ} {l m at2 : ℕ} (propositions : TookOne (proposition_table a) c at s l t at2 m) where
+    pub second_refused : StoppedOne (proof_table a) c at2 r → StoppedAll (announced_tables a) c at r
+    second_refused x = tables_refused (proposition_table a) (last_three a) propositions (table_refused (proof_table a) (last_two a) x)
+
+    module _ {u : List ℕ} {n at3 : ℕ} (proofs : TookOne (proof_table a) c at2 t m u at3 n) where
+      pub third_refused : StoppedOne (witness_table a) c at3 r → StoppedAll (announced_tables a) c at r
+      third_refused x =
+          tables_refused (proposition_table a) (last_three a) propositions
+          (tables_refused (proof_table a) (last_two a) proofs (table_refused (witness_table a) (last_one a) x))
+
+-- whatever the last of them answers
+pub four_took : (a : Announced) (c : List ℕ) (at : ℕ) (s t u v p : Output) (at2 at3 at4 : ℕ) (b : Result ℕ code_refusal.Refusal)
+    → TookOne (proposition_table a) c at s.bytes.now s.next t.bytes.now at2 t.next → TookOne (proof_table a) c at2 t.bytes.now t.next u.bytes.now at3 u.next
+    → TookOne (witness_table a) c at3 u.bytes.now u.next v.bytes.now at4 v.next
+    → TakesAs (by_column in_groups a.parents parent_items) (by_row in_bytes a.parents parent_items) c at4 v p b
+    → TakesAs (tables (by_column in_groups) (announced_tables a)) (tables (by_row in_bytes) (announced_tables a)) c at s p b
+four_took a c at s t u v p at2 at3 at4 (Ok n) propositions proofs witnesses parents =
+    tables_took (proposition_table a) (last_three a) propositions
+    (tables_took (proof_table a) (last_two a) proofs
+    (tables_took (witness_table a) (last_one a) witnesses (last_took (parent_table a) parents)))
+four_took a c at s t u v p at2 at3 at4 (Err r) propositions proofs witnesses parents =
+    tables_refused (proposition_table a) (last_three a) propositions
+    (tables_refused (proof_table a) (last_two a) proofs
+    (tables_refused (witness_table a) (last_one a) witnesses (table_refused (parent_table a) [] parents)))
 
 -- ---- The whole file
 pub head_refused : {c : List ℕ} {r : Refusal} → Stopped (fields in_groups head_items) c 0 r → rebuilt c ≡ refused r

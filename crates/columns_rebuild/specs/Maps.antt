@@ -1,26 +1,23 @@
 -- From the code's structs and enums to the definitions' types.
-use Rattle.std.specs.Prelude.{ℕ, ◌≡◌, List, [], ◌∷◌, length}
+use Rattle.std.specs.Prelude.{ℕ, ◌≡◌, List, [], ◌∷◌, length, Result, Ok, Err}
 use Rattle.local_format.specs.Out.{refused}
 use Rattle.local_format.specs.Maps.{refusal_out}
+use Rattle.local_format.specs.declared.refusal.Refusal.{Refusal}
 use Rattle.lent_table.specs.Lent.{lent}
+use Rattle.byte_output.specs.declared.Output.{Output}
 use Rattle.groups.specs.Maps.{width_of}
 use Rattle.evr0_section.specs.Head.{span_width}
 use Rattle.evr0_columns.specs.Form.{Form}
 use Rattle.evr0_columns.specs.Layout.{Table, wholes, in_bytes, in_groups, fields}
 use Rattle.evr0_columns.specs.Columns.{head_items, proposition_items, proof_items, witness_items, parent_items, Head, schema_of, rebuilt}
 use Rattle.columns_rebuild.specs.Took.{Took, Stopped, RebuiltTo}
-use Rattle.columns_rebuild.specs.declared.table.Back.{Back}
-use Rattle.columns_rebuild.specs.declared.table.Back.TheVariants as back
 use Rattle.columns_rebuild.specs.declared.head.Announced.{Announced}
-use Rattle.columns_rebuild.specs.declared.head.HeadBack.{HeadBack}
-use Rattle.columns_rebuild.specs.declared.head.HeadBack.TheVariants as head
-use Rattle.columns_rebuild.specs.declared.section.Rebuilt.{Rebuilt}
-use Rattle.columns_rebuild.specs.declared.section.Rebuilt.TheVariants as section
+use Rattle.columns_rebuild.specs.declared.head.TakenHead.{TakenHead}
 
 -- a part of a file read in one form and written in another, or refused as it is met
-abbrev pub TakesAs : {A : Type 0} → Form A → Form A → List ℕ → ℕ → List ℕ → ℕ → List ℕ → Back → Type 0
-TakesAs from to c at before next after (back.Taken at' next') = Took from to c at before next after at' next'
-TakesAs from to c at before next after (back.Refused r) = Stopped from c at (refusal_out r)
+abbrev pub TakesAs : {A : Type 0} → Form A → Form A → List ℕ → ℕ → Output → Output → Result ℕ Refusal → Type 0
+TakesAs from to c at before after (Ok at') = Took from to c at before.bytes.now before.next after.bytes.now at' after.next
+TakesAs from to c at before after (Err r) = Stopped from c at (refusal_out r)
 
 -- the tables that are announced
 abbrev pub proposition_table : Announced → Table
@@ -47,16 +44,16 @@ pub record HeadTook (c before after : List ℕ) (a : Announced) (at next : ℕ) 
   pub took : Took (fields in_groups head_items) (fields in_bytes head_items) c 0 before 0 after at next
   pub announces : Announces took.value a
 
-abbrev pub HeadTakes : List ℕ → List ℕ → List ℕ → HeadBack → Type 0
-HeadTakes c before after (head.Taken a at next) = HeadTook c before after a at next
-HeadTakes c before after (head.Refused r) = Stopped (fields in_groups head_items) c 0 (refusal_out r)
+abbrev pub HeadTakes : List ℕ → Output → Output → Result TakenHead Refusal → Type 0
+HeadTakes c before after (Ok h) = HeadTook c before.bytes.now after.bytes.now h.announced h.next after.next
+HeadTakes c before after (Err r) = Stopped (fields in_groups head_items) c 0 (refusal_out r)
 
 -- the whole file; of what a refusal leaves nothing is said before it is cleared
-abbrev pub Builds : List ℕ → List ℕ → List ℕ → Rebuilt → Type 0
-Builds c before after (section.Length len) = RebuiltTo c before after len
-Builds c before after (section.Refused r) = rebuilt c ≡ refused (refusal_out r)
+abbrev pub Builds : List ℕ → Output → Output → Result (Unit {0}) Refusal → Type 0
+Builds c before after (Ok done) = RebuiltTo c before.bytes.now after.bytes.now after.next
+Builds c before after (Err r) = rebuilt c ≡ refused (refusal_out r)
 
 -- a refusal leaves zeros
-abbrev pub Rebuilds : List ℕ → List ℕ → List ℕ → Rebuilt → Type 0
-Rebuilds c before after (section.Length len) = RebuiltTo c before after len
-Rebuilds c before after (section.Refused r) = (rebuilt c ≡ refused (refusal_out r)) × (after ≡ lent (length before) [])
+abbrev pub Rebuilds : List ℕ → List ℕ → List ℕ → Result ℕ Refusal → Type 0
+Rebuilds c before after (Ok len) = RebuiltTo c before after len
+Rebuilds c before after (Err r) = (rebuilt c ≡ refused (refusal_out r)) × (after ≡ lent (length before) [])

@@ -2,6 +2,7 @@
 ghost use Rattle.std.specs.Prelude.{◌≡◌, ◌∷◌, [], ℕ, ◌+◌, ◌≤◌, List, length, drop};
 ghost use Rattle.local_format.specs.Out.{ok};
 ghost use Rattle.local_format.specs.Field.{le};
+ghost use Rattle.byte_output.specs.Maps.{Same};
 ghost use Rattle.groups.specs.Groups.{number_of};
 ghost use Rattle.groups.specs.Maps.{width_of};
 ghost use Rattle.evr0_section.specs.Head.{span_width};
@@ -11,14 +12,14 @@ ghost use Rattle.columns_rebuild.specs.Maps.{Announces, HeadTakes};
 
 use crate::first::table_at;
 use crate::row::{cursor_of, take_rows};
-use column_fields::table::Table;
-use evr0_fields::place::Place;
-use groups::read::{Number, Width};
-use local_format::field::U16;
+use byte_output::Output;
+use column_fields::table::{Table, span_of};
+use groups::read::{Width, number_at};
+use local_format::field::field_at;
 use local_format::refusal::Refusal;
 
 // How many records each table has, and the bytes of a span's start and of its end.
-#[derive(Drop)]
+#[derive(Clone, Copy, Debug, PartialEq, Eq)]
 pub struct Announced {
     pub propositions: usize,
     pub proofs: usize,
@@ -27,31 +28,20 @@ pub struct Announced {
     pub span: Width,
 }
 
-// The places after it, in the columns and in the output.
-#[derive(Drop)]
-pub enum HeadBack {
-    Taken {
-        announced: Announced,
-        at: usize,
-        next: usize,
-    },
-    Refused(Refusal),
+// What a head announces, and the place after it in the columns.
+#[derive(Clone, Copy, Debug, PartialEq, Eq)]
+pub struct TakenHead {
+    pub announced: Announced,
+    pub next: usize,
 }
 
-// Spans have 8 bytes under schema 2, else 4.
+// The width of a span under the schema at a place.
 fn span_at(bytes: &[u8], at: usize) -> Width
     ensures { at + 2 ≤ length bytes.now → width_of result ≡ span_width (le 2 bytes.now at) }
 {
-    let schema = local_format::field::read_u16_le(bytes, at);
-    match schema {
-        U16::Value { value, next: _ } => {
-            if value == 2 {
-                Width::Eight
-            } else {
-                Width::Four
-            }
-        }
-        U16::Cut => Width::Four,
+    match field_at::<u16>(bytes, at) {
+        Some(schema) => span_of(schema.value),
+        None => Width::Four,
     }
 }
 
@@ -60,15 +50,14 @@ fn count_at(bytes: &[u8], at: usize) -> usize
     ensures { (n : ℕ) (rest : List ℕ)
         → number_of 4 (length bytes.now) (drop at bytes.now) ≡ ok (record { value = n; rest = rest }) → result ≡ n }
 {
-    let number = groups::read::number_at(bytes, at, Width::Four);
-    match number {
-        Number::Value { value, next: _ } => value as usize,
-        Number::Refused(_) => 0,
+    match number_at(bytes, at, Width::Four) {
+        Ok(count) => count.value as usize,
+        Err(_) => 0,
     }
 }
 
 // What the head announces whose fields start at these places: the third is the schema, the last four are the counts.
-fn read_announced(bytes: &[u8], starts: &[u64]) -> Announced
+fn read_announced(bytes: &[u8], starts: &[usize]) -> Announced
     ensures { (h : Head) → Stand bytes.now head_items (h ∷ []) starts.now → Announces h result }
 {
     Announced {
@@ -80,21 +69,14 @@ fn read_announced(bytes: &[u8], starts: &[u64]) -> Announced
     }
 }
 
-pub fn take_head(bytes: &[u8], out: &mut [u8]) -> HeadBack
-    ensures { HeadTakes bytes.now out.old out.new result }
+pub fn take_head(bytes: &[u8], out: &mut Output) -> Result<TakenHead, Refusal>
+    requires { out.old.next ≡ 0 }
+    ensures same { Same out.old out.new }
+    ensures takes { HeadTakes bytes.now out.old out.new result }
 {
-    let mut starts = [0u64; 13];
-    let place = table_at(bytes, 0, 1, Table::Head, &mut starts);
-    match place {
-        Place::Refused(refusal) => HeadBack::Refused(refusal),
-        Place::Next(at) => {
-            let announced = read_announced(bytes, &starts);
-            let next = take_rows(bytes, Table::Head, 1, &mut starts, out, 0);
-            HeadBack::Taken {
-                announced,
-                at,
-                next,
-            }
-        }
-    }
+    let mut starts = [0usize; 13];
+    let next = table_at(bytes, 0, 1, Table::Head, &mut starts)?;
+    let announced = read_announced(bytes, &starts);
+    take_rows(bytes, Table::Head, 1, &mut starts, out);
+    Ok(TakenHead { announced, next })
 }

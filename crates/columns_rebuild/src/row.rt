@@ -1,61 +1,51 @@
 // The second pass over the columns of a table: row by row, one value from each column's cursor.
 ghost use Rattle.std.specs.Prelude.{◌≡◌, List, ◌∷◌, length, get_or};
 ghost use Rattle.byte_output.specs.Written.{Written};
+ghost use Rattle.byte_output.specs.Maps.{Stands, Same};
 ghost use Rattle.evr0_columns.specs.Form.{each};
 ghost use Rattle.evr0_columns.specs.Layout.{Record, in_bytes, fields};
 ghost use Rattle.column_fields.specs.Maps.{items_of};
 ghost use Rattle.columns_rebuild.specs.Stand.{Stand, RowTook};
 
-use column_fields::back::take_field;
-use column_fields::table::{Table, columns_of, item_of, note};
+use byte_output::Output;
+use column_fields::form::{InBytes, InGroups};
+use column_fields::moved::move_field;
+use column_fields::table::{Table, note};
 
 // The cursor of a column; 0 past the list's end.
-pub fn cursor_of(cursors: &[u64], column: usize) -> usize
+pub fn cursor_of(cursors: &[usize], column: usize) -> usize
     ensures { result ≡ get_or cursors.now column 0 }
 {
     if column < cursors.len() {
-        return cursors[column] as usize;
+        return cursors[column];
     }
     0
 }
 
 // A row: a field from each column, whose cursor then stands at its next field.
-fn take_row(bytes: &[u8], table: Table, cursors: &mut [u64], out: &mut [u8], at: usize) -> usize
-    ensures { (row : Record (items_of table)) (rows : List (Record (items_of table)))
+fn take_row(bytes: &[u8], table: Table, cursors: &mut [usize], out: &mut Output)
+    requires { Stands out.old }
+    ensures same { Same out.old out.new }
+    ensures took { (row : Record (items_of table)) (rows : List (Record (items_of table)))
         → Stand bytes.now (items_of table) (row ∷ rows) cursors.old
-        → RowTook bytes.now (items_of table) row rows cursors.new out.old at out.new result }
+        → RowTook bytes.now (items_of table) row rows cursors.new out.old.bytes.now out.old.next out.new.bytes.now out.new.next }
 {
-    let columns = columns_of(table);
-    let mut next = at;
-    let mut j: usize = 0;
-    while j < columns {
-        let cursor = cursor_of(cursors, j);
-        let taken = take_field(bytes, cursor, item_of(table, j), out, next);
-        note(cursors, j, taken.at);
-        next = taken.next;
-        j += 1;
+    for column in 0..table.columns() {
+        let cursor = cursor_of(cursors, column);
+        let next = move_field::<InGroups, InBytes>(bytes, cursor, table.item(column), out);
+        note(cursors, column, next);
     }
-    next
 }
 
 // The rows of a table whose columns stand at their first fields.
-pub fn take_rows(
-    bytes: &[u8],
-    table: Table,
-    count: usize,
-    cursors: &mut [u64],
-    out: &mut [u8],
-    at: usize,
-) -> usize
-    ensures { (rows : List (Record (items_of table))) → length rows ≡ count
+pub fn take_rows(bytes: &[u8], table: Table, count: usize, cursors: &mut [usize], out: &mut Output)
+    requires { Stands out.old }
+    ensures same { Same out.old out.new }
+    ensures took { (rows : List (Record (items_of table))) → length rows ≡ count
         → Stand bytes.now (items_of table) rows cursors.old
-        → Written out.old at (each (fields in_bytes (items_of table)).put rows) out.new result }
+        → Written out.old.bytes.now out.old.next (each (fields in_bytes (items_of table)).put rows) out.new.bytes.now out.new.next }
 {
-    let mut next = at;
-    let mut i: usize = 0;
-    while i < count {
-        next = take_row(bytes, table, cursors, out, next);
-        i += 1;
+    for _row in 0..count {
+        take_row(bytes, table, cursors, out);
     }
-    next
 }

@@ -18,10 +18,9 @@ use Rattle.evr0_columns.specs.Columns.{Copy, output_of, taken_back, rebuilt}
 use Rattle.evr0_columns.proofs.RoundTrips.{taken_unruled, taken_refused, taken_short}
 use Rattle.evr0.specs.Answer as decoder
 use Rattle.evr0.specs.Answer.{Accepted, Answer, room_of, decode_given, LeavesBy}
-use Rattle.evr0.proofs.DecodeLaws.{outcome_refused, outcome_accepted}
 use Rattle.columns_rebuild.specs.Took.{RebuiltTo}
 use Rattle.columns_answer.specs.Copies.{Lent, with_output, Copies, TakesBack}
-use Rattle.evr0_rules.specs.Maps.{count_in}
+use Rattle.columns_answer.proofs.AnswerLaws.{answered_ok, answered_refused}
 use Rattle.columns_take.specs.Steps.{passed, ruled, copied, copy_of}
 
 -- ---- The decoder on a rebuilt section, which stands in a part of the output
@@ -33,7 +32,7 @@ module _ {given : Given} {section : List ℕ} {before after : decoder.Lent} {ans
   pub decoder_refuses : {r : Refusal} (output : List ℕ) {left : List ℕ} → answered.outcome ≡ refused r → left ≡ lent (length output) []
       → Copies (copy_of given (room_of before) section) (with_output before output) (with_output after left) (refused r)
   decoder_refuses {r} output o e =
-      let f : x ≡ refused r = outcome_refused 0 x answered leaves.answer r o in
+      let f : x ≡ refused r = answered_refused 0 x leaves.answer o in
       let c : copy_of given (room_of before) section ≡ refused r = on_refused _ f in
       let t = rw f at leaves.tables in
       rw c (record {
@@ -46,9 +45,9 @@ module _ {given : Given} {section : List ℕ} {before after : decoder.Lent} {ans
       → left ≡ lent (length output) section
       → Copies (copy_of given (room_of before) section) (with_output before output) (with_output after left) (ok len)
   decoder_accepts {a} output o n e =
-      let (d, f) = outcome_accepted 0 x answered leaves.answer a o in
-      let c : copy_of given (room_of before) section ≡ ok (record { section = d; bytes = section }) = on_ok _ f in
-      let t = rw f at leaves.tables in
+      let told = answered_ok 0 x leaves.answer o in
+      let c : copy_of given (room_of before) section ≡ ok (record { section = told.section; bytes = section }) = on_ok _ told.is in
+      let t = rw told.is at leaves.tables in
       rw c (record {
         answer = ap ok n;
         output = e;
@@ -62,10 +61,6 @@ unruled given {r} e = go (rules_given given) e
     go : (y : Out (List Rule)) → passed y ≡ refused r → y ≡ refused r
     go (ok rules) h = absurd (never (sym h))
     go (refused q) h = cc
-
-pub count_passed : (x : Out (List Rule)) → passed (count_in x) ≡ passed x
-count_passed (ok rules) = refl
-count_passed (refused r) = refl
 
 taken_copy : (given : Given) (room : Room) (out : ℕ) (c : List ℕ) (rules : List Rule) → rules_given given ≡ ok rules → (section : List ℕ)
     → rebuilt c ≡ ok section → length section ≤ out → taken_back given room out c ≡ copy_of given room section

@@ -6,41 +6,39 @@ ghost use Rattle.evr0_columns.specs.Columns.{section_bytes, columns_of};
 ghost use Rattle.columns_put.specs.Due.{Puts};
 ghost use Rattle.evr0_head.specs.Maps.{counts_out};
 ghost use Rattle.evr0.specs.Answer.{lent_of};
-ghost use Rattle.evr0.specs.AnswerMaps.{given_out};
+ghost use Rattle.evr0_rules.specs.Maps.{given_out};
 ghost use Rattle.columns_answer.specs.Copies.{with_output, Copies, Writes};
 ghost use Rattle.columns_answer.specs.Maps.{columns_out};
 ghost use Rattle.columns_write.specs.Ready.{Ready, Full, fitted};
 
-use columns_answer::{ColumnsAnswer, refuse_all};
+use columns_answer::refuse_all;
 use columns_put::section::put_section;
-use evr0::section::{Outcome, decode_evr0_by};
-use evr0_head::counts::Counts;
+use evr0::section::{Accepted, decode_evr0_by};
 use evr0_rules::settle::Rules;
-use lent_table::{clear_bytes, clear_bytes_from};
+use lent_table::{clear, clear_from};
+use local_format::refusal::{Refusal, refuse};
 
 // The columns of an accepted section, which ends at `end`, to the front of the output: how long they are.
 fn put_accepted(
     bytes: &[u8],
     cursor: usize,
     end: usize,
+    accepted: Accepted,
     propositions: &[u64],
     proofs: &[u64],
-    counts: Counts,
-    schema: u16,
     output: &mut [u8],
 ) -> usize
-    requires { Ready bytes.now cursor end propositions.now proofs.now (counts_out counts) schema }
+    requires { Ready bytes.now cursor end propositions.now proofs.now (counts_out accepted.counts) accepted.schema }
     ensures { Puts (section_bytes bytes.now cursor end) output.old output.new result }
 {
-    let first = counts.propositions;
-    let second = counts.proofs;
+    let counts = accepted.counts;
     put_section(
         &bytes[cursor..end],
-        &propositions[..first],
-        &proofs[..second],
+        &propositions[..counts.propositions],
+        &proofs[..counts.proofs],
         counts.witnesses,
         counts.parents,
-        schema,
+        accepted.schema,
         output,
     )
 }
@@ -50,42 +48,27 @@ fn finish(
     bytes: &[u8],
     cursor: usize,
     end: usize,
-    counts: Counts,
-    schema: u16,
+    accepted: Accepted,
     propositions: &mut [u64],
     proofs: &mut [u64],
     depths: &mut [u64],
     output: &mut [u8],
-) -> ColumnsAnswer
-    requires { Full bytes.now cursor end (counts_out counts) schema (lent_of propositions.old proofs.old depths.old) }
-    ensures { (full : Full bytes.now cursor end (counts_out counts) schema
+) -> Result<usize, Refusal>
+    requires { Full bytes.now cursor end (counts_out accepted.counts) accepted.schema
+        (lent_of propositions.old proofs.old depths.old) }
+    ensures { (full : Full bytes.now cursor end (counts_out accepted.counts) accepted.schema
         (lent_of propositions.old proofs.old depths.old))
         (columns : List ℕ) → columns_of (section_bytes bytes.now cursor end) ≡ ok columns
         → Copies (fitted (length output.old) full.section columns)
         (with_output (lent_of propositions.old proofs.old depths.old) output.old)
         (with_output (lent_of propositions.new proofs.new depths.new) output.new) (columns_out result) }
 {
-    let length = put_accepted(
-        bytes,
-        cursor,
-        end,
-        propositions,
-        proofs,
-        counts,
-        schema,
-        output,
-    );
+    let length = put_accepted(bytes, cursor, end, accepted, propositions, proofs, output);
     if output.len() < length {
-        return refuse_all(
-            local_format::refusal::refuse(61, 0),
-            propositions,
-            proofs,
-            depths,
-            output,
-        );
+        return refuse_all(refuse(61, 0), propositions, proofs, depths, output);
     }
-    clear_bytes_from(output, length);
-    ColumnsAnswer::Written(length)
+    clear_from(output, length);
+    Ok(length)
 }
 
 // Decodes the section at `cursor` by the rules of a call, and writes its columns into the output: the length written. The lent tables are
@@ -93,40 +76,33 @@ fn finish(
 // and in all tables.
 pub fn write_columns_given(
     rules: Rules,
-    table: &[u8],
     bytes: &[u8],
     cursor: usize,
     propositions: &mut [u64],
     proofs: &mut [u64],
     depths: &mut [u64],
     output: &mut [u8],
-) -> ColumnsAnswer
-    ensures { Writes (given_out rules table.now) bytes.now cursor
+) -> Result<usize, Refusal>
+    ensures { Writes (given_out rules.entry) bytes.now cursor
         (with_output (lent_of propositions.old proofs.old depths.old) output.old)
         (with_output (lent_of propositions.new proofs.new depths.new) output.new) (columns_out result) }
 {
-    let decoded = decode_evr0_by(rules, table, bytes, cursor, propositions, proofs, depths);
-    let end = decoded.cursor;
-    let outcome = decoded.outcome;
-    match outcome {
-        Outcome::Refused(refusal) => {
-            clear_bytes(output);
-            ColumnsAnswer::Refused(refusal)
+    let decoded = decode_evr0_by(rules, bytes, cursor, propositions, proofs, depths);
+    match decoded.outcome {
+        Err(refusal) => {
+            clear(output);
+            Err(refusal)
         }
-        Outcome::Accepted(accepted) => {
-            let counts = accepted.counts;
-            finish(
-                bytes,
-                cursor,
-                end,
-                counts,
-                accepted.schema,
-                propositions,
-                proofs,
-                depths,
-                output,
-            )
-        }
+        Ok(accepted) => finish(
+            bytes,
+            cursor,
+            decoded.cursor,
+            accepted,
+            propositions,
+            proofs,
+            depths,
+            output,
+        ),
     }
 }
 
@@ -138,14 +114,13 @@ pub fn write_columns(
     proofs: &mut [u64],
     depths: &mut [u64],
     output: &mut [u8],
-) -> ColumnsAnswer
+) -> Result<usize, Refusal>
     ensures { Writes four bytes.now cursor
         (with_output (lent_of propositions.old proofs.old depths.old) output.old)
         (with_output (lent_of propositions.new proofs.new depths.new) output.new) (columns_out result) }
 {
     write_columns_given(
         Rules::Four,
-        &bytes[..0],
         bytes,
         cursor,
         propositions,

@@ -19,54 +19,74 @@ use Rattle.evr0_section.specs.Rows.{starts_of}
 use Rattle.evr0_section.specs.Section.{Section}
 use Rattle.rule_table.specs.ByTable.{Given, rules_given}
 use Rattle.evr0_rules.specs.Maps.{count_in}
-use Rattle.evr0.specs.Answer as unmarked
-use Rattle.evr0.specs.Answer.{answer_of, proposition_starts}
-use Rattle.evr0_read.proofs.FindLaws.{answer_refused, answer_accepted}
+use Rattle.evr0.specs.Answer.{proposition_starts}
 use Rattle.evr0_compare.specs.Compare.{Input, Tally, tally_of, Comparison, list_of, pair_of, source_set_at, codes, compare_by, answered, told, held_in, is_held}
+use Rattle.evr0_compare.specs.Compare.{decoded as decoded_by}
 use Rattle.evr0_compare.specs.Compare.{Answer, rules_refused, first_refused, second_refused, pair_refused, held}
 use Rattle.evr0_compare.proofs.CompareSections.{comparison_is, rules_refused_lem, first_refused_lem, answered_ok, answered_refused, held_same}
 use Rattle.evr0_compare.proofs.Sides as sides
 use Rattle.authorised_table.specs.Answer as one
-use Rattle.authorised_table.specs.Answer.{room_of, flags_of, proposition_flags, TellsBy}
-use Rattle.section_pair.specs.Steps.{Told, tallied, pair_in, Holds}
+use Rattle.authorised_table.specs.Answer.{room_of, flags_of, proposition_flags}
+use Rattle.section_pair.specs.Steps.{Told, input_in, tallied, pair_in, Holds}
 use Rattle.section_pair.proofs.PairLaws.{list_held}
 use Rattle.compare_sections.specs.Answer.{Lent, input_of, compare_in, Filled}
-use Rattle.compare_sections.specs.Parts.{second_in, GoesOn, Answers}
+use Rattle.compare_sections.specs.Parts.{Found, found_in, Decodes, Answers}
 
 -- ---- A section that was decoded
-module _ {which : Given} {bytes : List ℕ} {cursor : ℕ} {before after : one.Lent} {given : unmarked.Answer}
-    (tells : TellsBy which bytes cursor before after given) where
+found_refused : {q : Refusal} (x : Out Section) → refused q ≡ found_in x → x ≡ refused q
+found_refused (ok d) e = absurd (never e)
+found_refused (refused r) e = ap refused (sym (refused_same e))
+
+found_ok : {f : Found} (x : Out Section) → ok f ≡ found_in x → (d : Section) × (x ≡ ok d) × (f ≡ record { end = d.cursor; count = d.tables.head.counts.propositions })
+found_ok (ok d) e = (d, refl, ok_same e)
+found_ok (refused r) e = absurd (never (sym e))
+
+module _ {which : Given} {bytes : List ℕ} {cursor : ℕ} {before after : one.Lent} {given : Out Found}
+    (decodes : Decodes which bytes cursor before after given) where
   abbrev x : Out Section
   x = one.decode_given which before bytes cursor
 
-  pub not_decoded : {r : Refusal} → given.outcome ≡ refused r → x ≡ refused r
-  not_decoded e = answer_refused cursor x (sym (ap (λ (a : unmarked.Answer). a.outcome) tells.answer) ∙ e)
+  pub not_decoded : {r : Refusal} → given ≡ refused r → x ≡ refused r
+  not_decoded e = found_refused x (sym e ∙ decodes.answer)
 
-  module _ {a : unmarked.Accepted} (e : given.outcome ≡ ok a) where
-    found : (d : Section) × (x ≡ ok d) × ((answer_of cursor x).cursor ≡ d.cursor) × (a.schema ≡ d.tables.head.schema)
-        × (a.counts ≡ d.tables.head.counts)
-    found = answer_accepted cursor x (sym (ap (λ (a : unmarked.Answer). a.outcome) tells.answer) ∙ e)
+  module _ {f : Found} (e : given ≡ ok f) where
+    found : (d : Section) × (x ≡ ok d) × (f ≡ record { end = d.cursor; count = d.tables.head.counts.propositions })
+    found = found_ok x (sym e ∙ decodes.answer)
 
-    pub decoded : Told bytes cursor given.cursor a.counts.propositions after.others.others.propositions after.authorised
+    pub decoded : Told bytes cursor f.end f.count after.others.others.propositions after.authorised
     decoded =
-        let (d, is, end, schema, counts) = found in
-        let n : length (starts_of d.tables.propositions.entries) ≡ a.counts.propositions =
-        sides.starts_count which (input_of before bytes cursor) d is ∙ ap (λ (c : Counts). c.propositions) (sym counts) in
-        let starts = tells.tables.others.others.propositions
+        let (d, is, at) = found in
+        let counted : d.tables.head.counts.propositions ≡ f.count = sym (ap (λ (f : Found). f.count) at) in
+        let n : length (starts_of d.tables.propositions.entries) ≡ f.count = sides.starts_count which (input_of before bytes cursor) d is ∙ counted in
+        let starts = decodes.tables.others.others.propositions
         ∙ ap (λ (y : Out Section). lent (length before.others.others.propositions) (proposition_starts y)) is in
-        let flags = tells.tables.authorised ∙ ap (λ (y : Out Section). lent (length before.authorised) (proposition_flags y)) is in
+        let flags = decodes.tables.authorised ∙ ap (λ (y : Out Section). lent (length before.authorised) (proposition_flags y)) is in
         record {
           given = which;
           room = room_of before;
           section = d;
           decoded = is;
-          ends = sym (ap (λ (a : unmarked.Answer). a.cursor) tells.answer ∙ end);
-          counted = ap (λ (c : Counts). c.propositions) (sym counts);
-          started = ap (take a.counts.propositions) starts ∙ take_at (starts_of d.tables.propositions.entries) _ a.counts.propositions n;
+          ends = sym (ap (λ (f : Found). f.end) at);
+          counted = counted;
+          started = ap (take f.count) starts ∙ take_at (starts_of d.tables.propositions.entries) _ f.count n;
           flagged = ap (take (length (flags_of d))) flags ∙ take_at (flags_of d) _ (length (flags_of d)) refl;
         }
 
 -- ---- The second
+
+-- what is left of the definition once the first is decoded
+module _ {p : List ℕ} {i e n : ℕ} {ps fs : List ℕ} where
+  abbrev pub second_in : Given → Told p i e n ps fs → Input → ℕ → Answer Comparison
+  second_in given a y entries =
+      answered second_refused (λ b. answered pair_refused held (pair_of (input_in a) a.section y b entries)) (decoded_by given y)
+
+  pub record GoesOn (given : Given) (a : Told p i e n ps fs) (second : List ℕ) (cursor : ℕ) (before after : one.Lent) (brought left : List ℕ)
+      (r : Answer Tally) : Type 0 where
+    pub answer : r ≡ told (second_in given a (input_of before second cursor) (length brought))
+    pub tables : (c : Comparison) → second_in given a (input_of before second cursor) (length brought) ≡ held c → one.Filled (ok c.second) before after
+    pub verdicts : (c : Comparison) → second_in given a (input_of before second cursor) (length brought) ≡ held c → left
+        ≡ lent (length brought) (codes c.list)
+
 pair_second : (x : Input) (a : Section) (y : Input) (b : Section) (entries : ℕ) (c : Comparison) → pair_of x a y b entries ≡ ok c → b ≡ c.second
 unfolding pair_of
 pair_second x a y b entries c e =
@@ -80,6 +100,11 @@ second_never e = let z : ◌≡◌ {A = ℕ} 0 1 = cc in omega arith
 pair_never : {r : Refusal} {c : Comparison} → pair_refused r ≡ held c → ⊥
 pair_never e = let z : ◌≡◌ {A = ℕ} 0 1 = cc in omega arith
 
+-- whose the refusal of a pair is
+abbrev pub pair_told : Out Tally → Answer Tally
+pair_told (ok t) = held t
+pair_told (refused r) = pair_refused r
+
 tallied_refused : {r : Refusal} (x : Out Comparison) → refused r ≡ tallied x → x ≡ refused r
 tallied_refused (ok c) e = absurd (never e)
 tallied_refused (refused q) e = ap refused (sym (refused_same e))
@@ -88,46 +113,53 @@ tallied_ok : {t : Tally} (x : Out Comparison) → ok t ≡ tallied x → (c : Co
 tallied_ok (ok c) e = (c, refl, ok_same e)
 tallied_ok (refused q) e = absurd (never (sym e))
 
-module _ {which : Given} {second : List ℕ} {cursor : ℕ} {before after : one.Lent} {given : unmarked.Answer}
-    (tells : TellsBy which second cursor before after given) {p : List ℕ} {i end n : ℕ} {ps fs : List ℕ} (a : Told p i end n ps fs)
+module _ {which : Given} {second : List ℕ} {cursor : ℕ} {before after : one.Lent} {given : Out Found}
+    (decodes : Decodes which second cursor before after given) {p : List ℕ} {i end n : ℕ} {ps fs : List ℕ} (a : Told p i end n ps fs)
     (brought left : List ℕ) where
   abbrev whole : Answer Comparison
   whole = second_in which a (input_of before second cursor) (length brought)
 
-  pub second_refused_lem : {r : Refusal} → given.outcome ≡ refused r → GoesOn which a second cursor before after brought left (second_refused r)
+  pub second_refused_lem : {r : Refusal} → given ≡ refused r → GoesOn which a second cursor before after brought left (second_refused r)
   second_refused_lem {r} e =
-      let is : whole ≡ second_refused r = answered_refused _ _ (not_decoded tells e) in
+      let is : whole ≡ second_refused r = answered_refused _ _ (not_decoded decodes e) in
       record { answer = ap told (sym is); tables = λ c g. absurd (second_never (sym is ∙ g)); verdicts = λ c g. absurd (second_never (sym is ∙ g)) }
 
-  module _ {accepted : unmarked.Accepted} (e : given.outcome ≡ ok accepted) {o : Out Tally} (holds : Holds a (decoded tells e) brought left o) where
+  module _ {f : Found} (e : given ≡ ok f) {o : Out Tally} (holds : Holds a (decoded decodes e) brought left o) where
     abbrev pair : Out Comparison
-    pair = pair_in a (decoded tells e) (length brought)
+    pair = pair_in a (decoded decodes e) (length brought)
 
     goes : whole ≡ answered pair_refused held pair
     unfolding decoded
-    goes = answered_ok _ _ (found tells e).1
+    goes = answered_ok _ _ (found decodes e).1
 
-    pub pair_refused_lem : {r : Refusal} → o ≡ refused r → GoesOn which a second cursor before after brought left (pair_refused r)
-    pair_refused_lem {r} h =
+    refused_pair : {r : Refusal} → o ≡ refused r → GoesOn which a second cursor before after brought left (pair_refused r)
+    refused_pair {r} h =
         let is : whole ≡ pair_refused r = goes ∙ answered_refused _ _ (tallied_refused pair (sym h ∙ holds.answer)) in
         record { answer = ap told (sym is); tables = λ c g. absurd (pair_never (sym is ∙ g)); verdicts = λ c g. absurd (pair_never (sym is ∙ g)) }
 
     -- the second section is the pair's
     second_is : (c : Comparison) → pair ≡ ok c → one.decode_given which before second cursor ≡ ok c.second
     unfolding decoded
-    second_is c h = (found tells e).1 ∙ ap ok (pair_second _ _ _ _ _ c h)
+    second_is c h = (found decodes e).1 ∙ ap ok (pair_second _ _ _ _ _ c h)
 
-    pub pair_held : {t : Tally} → o ≡ ok t → GoesOn which a second cursor before after brought left (held t)
-    pair_held {t} h =
+    held_pair : {t : Tally} → o ≡ ok t → GoesOn which a second cursor before after brought left (held t)
+    held_pair {t} h =
         let (c, is, counts) = tallied_ok pair (sym h ∙ holds.answer) in
         let all : whole ≡ held c = goes ∙ answered_ok _ _ is in
-        let filled : one.Filled (ok c.second) before after = rw (second_is c is) at tells.tables in
+        let filled : one.Filled (ok c.second) before after = rw (second_is c is) at decodes.tables in
         record {
           answer = ap held counts ∙ ap told (sym all);
           tables = λ d g. rw (held_same (sym all ∙ g)) at filled;
-          verdicts = λ d g. list_held a (decoded tells e) holds c is
+          verdicts = λ d g. list_held a (decoded decodes e) holds c is
               ∙ ap (λ (c : Comparison). lent (length brought) (codes c.list)) (held_same (sym all ∙ g));
         }
+
+    pub pair_goes_on : GoesOn which a second cursor before after brought left (pair_told o)
+    pair_goes_on = go o refl
+      where
+        go : (p : Out Tally) → o ≡ p → GoesOn which a second cursor before after brought left (pair_told p)
+        go (ok t) h = held_pair h
+        go (refused r) h = refused_pair h
 
 -- ---- The first
 first_never : {r : Refusal} {c : Comparison} → first_refused r ≡ held c → ⊥
@@ -156,30 +188,30 @@ module _ (which : Given) (first : List ℕ) (first_cursor : ℕ) (second : List 
       let is : all ≡ rules_refused r = rules_refused_lem which x₁ y₁ (length before.verdicts) r (not_loaded (rules_given which) (sym h ∙ e)) in
       record { answer = ap told (sym is); tables = λ c g. absurd (rules_never (sym is ∙ g)) }
 
-  module _ {o : Out ℕ} {count : ℕ} (loads : o ≡ count_in (rules_given which)) (loaded : o ≡ ok count) {left : one.Lent} {given : unmarked.Answer}
-      (tells : TellsBy which first first_cursor before.first left given) where
+  module _ {o : Out ℕ} {count : ℕ} (loads : o ≡ count_in (rules_given which)) (loaded : o ≡ ok count) {left : one.Lent} {given : Out Found}
+      (decodes : Decodes which first first_cursor before.first left given) where
     known : (rules : List Rule) × (rules_given which ≡ ok rules)
     known = let (rules, is, n) = bind_ok (rules_given which) _ (sym loads ∙ loaded) in (rules, is)
 
-    pub by_first : {r : Refusal} (after : Lent) → given.outcome ≡ refused r
+    pub by_first : {r : Refusal} (after : Lent) → given ≡ refused r
         → Answers which first first_cursor second second_cursor before after (first_refused r)
     by_first {r} after e =
-        let is : all ≡ first_refused r = first_refused_lem which x₁ y₁ (length before.verdicts) known.0 known.1 r (not_decoded tells e) in
+        let is : all ≡ first_refused r = first_refused_lem which x₁ y₁ (length before.verdicts) known.0 known.1 r (not_decoded decodes e) in
         record { answer = ap told (sym is); tables = λ c g. absurd (first_never (sym is ∙ g)) }
 
-    module _ {accepted : unmarked.Accepted} (e : given.outcome ≡ ok accepted) where
-      follows : all ≡ second_in which (decoded tells e) y₁ (length before.verdicts)
+    module _ {f : Found} (e : given ≡ ok f) where
+      follows : all ≡ second_in which (decoded decodes e) y₁ (length before.verdicts)
       unfolding compare_by decoded
-      follows = answered_ok _ _ known.1 ∙ answered_ok _ _ (found tells e).1
+      follows = answered_ok _ _ known.1 ∙ answered_ok _ _ (found decodes e).1
 
       pub by_second : {right : one.Lent} {verdicts : List ℕ} {r : Answer Tally}
-          → GoesOn which (decoded tells e) second second_cursor before.second right before.verdicts verdicts r
+          → GoesOn which (decoded decodes e) second second_cursor before.second right before.verdicts verdicts r
           → Answers which first first_cursor second second_cursor before (record { first = left; second = right; verdicts = verdicts }) r
       by_second goes =
           record {
             answer = goes.answer ∙ ap told (sym follows);
             tables = λ c g. record {
-              first = rw (comparison_is which x₁ y₁ (length before.verdicts) c g).first at tells.tables;
+              first = rw (comparison_is which x₁ y₁ (length before.verdicts) c g).first at decodes.tables;
               second = goes.tables c (sym follows ∙ g);
               verdicts = goes.verdicts c (sym follows ∙ g);
             };

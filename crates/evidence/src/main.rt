@@ -2,8 +2,7 @@
 // the output is not taken whole, standard error gets `cannot write`. The exit status is 0 all the same.
 #![tactic(auto)]
 
-mod input;
-
+use evidence_output::input::read_full;
 use std::io::Write;
 
 // One byte more than is taken, so that longer input is seen to be too long.
@@ -19,12 +18,10 @@ fn tell(rt: &HostRuntime, text: &[u8]) {
 
 fn main(rt: HostRuntime) {
     let mut input = [0u8; INPUT];
-    let read = crate::input::read_input(rt.stdin(), &mut input);
-    if read.failed {
+    let Ok(len) = read_full(&mut rt.stdin(), &mut input) else {
         tell(&rt, b"cannot read\n");
         return;
-    }
-    let len = read.len;
+    };
     let mut output = [0u8; OUTPUT];
     let written = evidence_output::evidence(&input[..len], &mut output);
     tell(&rt, &output[..written]);

@@ -16,14 +16,8 @@ use Rattle.evr0_section.proofs.RowsLaws.{Trace, none, more}
 use Rattle.evr0_section.specs.Rows.{starts_of}
 use Rattle.evidence_output.specs.Output.{proof_line, proof_lines}
 use Rattle.evidence_output.specs.Listed.{record_line, lines_at}
-use Rattle.evidence_output.specs.Written.{Written}
-use Rattle.evidence_output.proofs.WrittenLaws.{written_none}
 
 module _ (p : List ℕ) where
-  pub no_lines : (s : List ℕ) (at : ℕ) → Written s at (lines_at p [] []) s at
-  unfolding lines_at
-  no_lines s at = written_none s at
-
   -- as many starts as depths, then more of both
   lines_append : (ss ds ss' ds' : List ℕ) → length ss ≡ length ds → lines_at p (ss ++ ss') (ds ++ ds') ≡ lines_at p ss ds ++ lines_at p ss' ds'
   unfolding lines_at

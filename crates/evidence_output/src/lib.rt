@@ -1,50 +1,46 @@
 // The program's work: from the bytes of its input to those of its output.
 #![tactic(auto)]
 
+pub mod input;
 mod line;
 mod listed;
-mod write;
 
 ghost use Rattle.std.specs.Prelude.{◌++◌, ◌-◌, ◌≤◌, length, take, drop};
+ghost use Rattle.byte_output.specs.Maps.{Writes};
 ghost use Rattle.evr0_head.specs.Maps.{counts_out};
 ghost use Rattle.evidence_output.specs.Listed.{lines_at};
 ghost use Rattle.evidence_output.specs.Output.{head_line, output_of};
 ghost use Rattle.evidence_output.specs.Written.{Written};
 
-use evr0::section::Outcome;
+use byte_output::Output;
 use evr0_head::counts::Counts;
 
 // The lines of an accepted section that ends at `end`, from the front of its lent tables.
 fn put_accepted(
+    out: &mut Output,
     input: &[u8],
     counts: Counts,
     end: usize,
     proofs: &[u64],
     depths: &[u64],
-    output: &mut [u8],
-) -> usize
+)
     requires le_end { (8 ≤ end) × (end ≤ length input.now) }
     requires proofs_in_bounds { (counts.proofs ≤ length proofs.now) × (counts.proofs ≤ length depths.now) }
-    ensures { Written output.old 0
+    ensures { Writes out.old
         (head_line (counts_out counts) end ++ lines_at (take (end - 8) (drop 8 input.now)) (take counts.proofs proofs.now)
-        (take counts.proofs depths.now)) output.new result }
+        (take counts.proofs depths.now)) out.new }
 {
     let count = counts.proofs;
-    let next = crate::line::put_head(output, counts, end);
-    crate::listed::put_proofs(
-        &input[8..end],
-        &proofs[..count],
-        &depths[..count],
-        output,
-        next,
-    )
+    crate::line::put_head(out, counts, end);
+    crate::listed::put_proofs(out, &input[8..end], &proofs[..count], &depths[..count]);
 }
 
-pub fn evidence(input: &[u8], output: &mut [u8]) -> usize
-    ensures { Written output.old 0 (output_of input.now) output.new result }
+fn put_evidence(out: &mut Output, input: &[u8])
+    ensures { Writes out.old (output_of input.now) out.new }
 {
     if 65536 < input.len() {
-        return crate::write::put_bytes(output, 0, b"too long\n");
+        out.put_bytes(b"too long\n");
+        return;
     }
     let mut propositions = [0u64; 4369];
     let mut proofs = [0u64; 1872];
@@ -56,19 +52,25 @@ pub fn evidence(input: &[u8], output: &mut [u8]) -> usize
         &mut proofs,
         &mut depths,
     );
-    let outcome = decoded.outcome;
-    match outcome {
-        Outcome::Refused(refusal) => {
-            crate::line::put_line(
-                output,
-                0,
-                b"refused",
-                &[refusal.number as usize, refusal.offset],
-            )
+    match decoded.outcome {
+        Err(refusal) => {
+            crate::line::put_line(out, b"refused", &[refusal.number as usize, refusal.offset]);
         }
-        Outcome::Accepted(accepted) => {
+        Ok(accepted) => {
             let counts = accepted.counts;
-            put_accepted(input, counts, decoded.cursor, &proofs, &depths, output)
+            put_accepted(out, input, counts, decoded.cursor, &proofs, &depths);
         }
     }
+}
+
+pub fn evidence(input: &[u8], output: &mut [u8]) -> usize
+    ensures { Written output.old 0 (output_of input.now) output.new result }
+{
+    let len = output.len();
+    let mut out = Output {
+        bytes: output,
+        next: 0,
+    };
+    put_evidence(&mut out, input);
+    out.next.min(len)
 }

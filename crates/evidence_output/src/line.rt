@@ -1,63 +1,52 @@
 // The lines that `evidence` prints.
 ghost use Rattle.std.specs.Prelude.{[], ◌∷◌, ◌++◌};
+ghost use Rattle.byte_output.specs.Maps.{Writes};
 ghost use Rattle.evr0_head.specs.Maps.{counts_out};
 ghost use Rattle.evidence_output.specs.Decimal.{decimal};
 ghost use Rattle.evidence_output.specs.Output.{spaced, line, head_line};
-ghost use Rattle.evidence_output.specs.Written.{Written};
 
-use crate::write::{put, put_bytes};
+use byte_output::Output;
 use evr0_head::counts::Counts;
 
-fn put_decimal(out: &mut [u8], at: usize, n: usize) -> usize
-    ensures { Written out.old at (decimal n) out.new result }
+fn put_decimal(out: &mut Output, n: usize)
+    ensures { Writes out.old (decimal n) out.new }
 {
     let mut text = [0u8; 20];
     let len = io::decimal(n as u64, &mut text);
-    put_bytes(out, at, &text[..len])
+    out.put_bytes(&text[..len]);
 }
 
 // A number after a space.
-fn put_number(out: &mut [u8], at: usize, n: usize) -> usize
-    ensures { Written out.old at (spaced (n ∷ [])) out.new result }
+fn put_number(out: &mut Output, n: usize)
+    ensures { Writes out.old (spaced (n ∷ [])) out.new }
 {
-    let next = put(out, at, b' ');
-    put_decimal(out, next, n)
+    out.put(b' ');
+    put_decimal(out, n);
 }
 
-// Numbers, each after a space.
-fn put_numbers(out: &mut [u8], at: usize, numbers: &[usize]) -> usize
-    ensures { Written out.old at (spaced numbers.now) out.new result }
+// A line but for what it starts with: numbers, each after a space.
+fn end_line(out: &mut Output, numbers: &[usize])
+    ensures { Writes out.old (spaced numbers.now ++ (0x0A ∷ [])) out.new }
 {
-    let mut next = at;
-    let mut i: usize = 0;
-    while i < numbers.len() {
-        next = put_number(out, next, numbers[i]);
-        i += 1;
+    for number in numbers {
+        put_number(out, *number);
     }
-    next
+    out.put(b'\n');
 }
 
-// A line but for what it starts with.
-fn end_line(out: &mut [u8], at: usize, numbers: &[usize]) -> usize
-    ensures { Written out.old at (spaced numbers.now ++ (0x0A ∷ [])) out.new result }
+pub fn put_line(out: &mut Output, start: &[u8], numbers: &[usize])
+    ensures { Writes out.old (line start.now numbers.now) out.new }
 {
-    let end = put_numbers(out, at, numbers);
-    put(out, end, b'\n')
+    out.put_bytes(start);
+    end_line(out, numbers);
 }
 
-pub fn put_line(out: &mut [u8], at: usize, start: &[u8], numbers: &[usize]) -> usize
-    ensures { Written out.old at (line start.now numbers.now) out.new result }
-{
-    let numbers_at = put_bytes(out, at, start);
-    end_line(out, numbers_at, numbers)
-}
-
-pub fn put_head(out: &mut [u8], counts: Counts, cursor: usize) -> usize
-    ensures { Written out.old 0 (head_line (counts_out counts) cursor) out.new result }
+#[tactic(auto, unfolding(crate::specs::Output::head_line))]
+pub fn put_head(out: &mut Output, counts: Counts, cursor: usize)
+    ensures { Writes out.old (head_line (counts_out counts) cursor) out.new }
 {
     put_line(
         out,
-        0,
         b"EVR0",
         &[
             counts.propositions,
@@ -66,20 +55,13 @@ pub fn put_head(out: &mut [u8], counts: Counts, cursor: usize) -> usize
             counts.parents,
             cursor,
         ],
-    )
+    );
 }
 
-pub fn put_proof(
-    out: &mut [u8],
-    at: usize,
-    number: usize,
-    proposition: usize,
-    authority: usize,
-    depth: usize,
-    witnesses: usize,
-) -> usize
-    ensures { Written out.old at (line (decimal number) (proposition ∷ authority ∷ depth ∷ witnesses ∷ [])) out.new result }
+// A line that starts with a number.
+pub fn put_numbers(out: &mut Output, first: usize, numbers: &[usize])
+    ensures { Writes out.old (line (decimal first) numbers.now) out.new }
 {
-    let rest_at = put_decimal(out, at, number);
-    end_line(out, rest_at, &[proposition, authority, depth, witnesses])
+    put_decimal(out, first);
+    end_line(out, numbers);
 }

@@ -1,13 +1,17 @@
--- Laws of a section's frame, one for each way that its reading ends, and of its opening.
-use Prim.Native.Nat.{ℕ, ◌+◌, ◌≤◌, ◌<◌}
-use mathlib.Core.Path.{◌≡◌, sym, ap, ◌∙◌}
-use mathlib.Core.Bool.{true, false}
+-- Laws of a section's frame, whose payload's length is tested against what is left, and of its opening.
+use Prim.Native.Nat.{ℕ, ◌+◌, ◌-◌, ◌≤◌}
+use mathlib.Core.Path.{◌≡◌, refl, sym, ap, ◌∙◌}
+use mathlib.Core.Bool.{Bool, true, false}
 use mathlib.Core.List.{List}
+use native.Mathlib.Omega.{arith}
+use native.Mathlib.Decide.{dec_le}
+use lib.Dec.{leb}
 use lib.ListN.{length}
 use borrow.Author.Tests.{le-leb, lt-leb}
-use Rattle.local_format.specs.Out.{Out, ok, refused, refuse}
-use Rattle.local_format.specs.Field.{whole, cut, field_at}
-use Rattle.local_format.specs.Tag.{tag_at, evr0}
+use Rattle.std.specs.Prelude.{cond}
+use Rattle.local_format.specs.Refusal.{Refusal, refusal}
+use Rattle.local_format.specs.Out.{Out, ok, refused, refuse, check, ◌>>◌}
+use Rattle.local_format.specs.Field.{whole, cut, le, field_at, or_cut, field}
 use Rattle.local_format.specs.Text.{bytes_at}
 use Rattle.local_format.proofs.OutLaws.{never, refused_same}
 use Rattle.evr0_section.specs.Head.{is_schema, head_of}
@@ -17,32 +21,30 @@ use Rattle.evr0.specs.Answer.{room_of}
 use Rattle.evr0.specs.Steps.{section_by, Opens}
 use Rattle.evr0.proofs.SectionLaws.{no_head}
 
-module _ (s : List ℕ) (cursor : ℕ) where
-  pub no_tag : tag_at evr0 s cursor ≡ false → refuse 1 cursor ≡ frame_at s cursor
-  unfolding frame_at
-  no_tag e = rw e
+-- ---- The payload
 
-  module _ (tag : tag_at evr0 s cursor ≡ true) where
-    pub no_length : field_at 4 s (cursor + 4) ≡ cut → refuse 2 (cursor + 4) ≡ frame_at s cursor
-    unfolding frame_at
-    no_length e = rw (tag, e)
+-- the test of its length against what is left
+left_test : (start len n : ℕ) → start ≤ n → leb (start + len) n ≡ leb len (n - start)
+left_test start len n h = go (dec_le (start + len) n)
+  where
+    go : Dec (start + len ≤ n) → leb (start + len) n ≡ leb len (n - start)
+    go (yes l) = le-leb (start + len) n l ∙ sym (le-leb len (n - start) (omega arith))
+    go (no l) = lt-leb (start + len) n (omega arith) ∙ sym (lt-leb len (n - start) (omega arith))
 
-    module _ (len start : ℕ) (size : field_at 4 s (cursor + 4) ≡ whole (record { value = len; next = start })) where
-      pub empty : len < 1 → refuse 3 (cursor + 4) ≡ frame_at s cursor
-      unfolding frame_at
-      empty h = rw (tag, size, lt-leb 1 len h)
+pub payload_tested : (s : List ℕ) (start len : ℕ) → start ≤ length s
+    → field 4 len s start ≡ (check (leb len (length s - start)) 4 start >> ok (record { value = le len s start; next = start + len }))
+unfolding field_at
+payload_tested s start len h = rw (left_test start len (length s) h) (go (leb len (length s - start)))
+  where
+    go : (t : Bool) → or_cut 4 start (cond t (whole (record { value = le len s start; next = start + len })) cut)
+        ≡ (check t 4 start >> ok (record { value = le len s start; next = start + len }))
+    go true = refl
+    go false = refl
 
-      pub too_long_lem : 1 ≤ len → 4194304 < len → refuse 3 (cursor + 4) ≡ frame_at s cursor
-      unfolding frame_at
-      too_long_lem k h = rw (tag, size, le-leb 1 len k, lt-leb len 4194304 h)
-
-      pub payload_cut : 1 ≤ len → len ≤ 4194304 → length s < start + len → refuse 4 start ≡ frame_at s cursor
-      unfolding frame_at field_at
-      payload_cut k l h = rw (tag, size, le-leb 1 len k, le-leb len 4194304 l, lt-leb (start + len) (length s) h)
-
-      pub payload_there : 1 ≤ len → len ≤ 4194304 → start + len ≤ length s → ok (record { start = start; len = len }) ≡ frame_at s cursor
-      unfolding frame_at field_at
-      payload_there k l h = rw (tag, size, le-leb 1 len k, le-leb len 4194304 l, le-leb (start + len) (length s) h)
+-- what a check refused
+pub check_refused : (t : Bool) (n at : ℕ) {r : Refusal} → refused r ≡ check t n at → (t ≡ false) × (r ≡ refusal n at)
+check_refused true n at e = absurd (never e)
+check_refused false n at e = (refl, refused_same e)
 
 -- ---- The opening
 module _ (s : List ℕ) (cursor : ℕ) where

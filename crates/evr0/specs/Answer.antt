@@ -2,28 +2,13 @@
 use Rattle.std.specs.Prelude.{ℕ, ◌≡◌, List, [], length}
 use Rattle.local_format.specs.Out.{Out, ok, refused}
 use Rattle.lent_table.specs.Lent.{lent}
-use Rattle.evr0_section.specs.Head.{Counts, Room}
+use Rattle.evr0_section.specs.Head.{Counts}
 use Rattle.evr0_section.specs.Section.{Section, decode_section}
 use Rattle.evr0_section.specs.Demand.{Demand3}
 use Rattle.rule_table.specs.ByTable.{Given, decode_by, HoldsBy}
 use Rattle.evr0_fields.specs.Maps.{zeros}
 pub use Rattle.evr0_section.specs.Rows.{starts_of}
-
--- ---- The lent tables
-
--- as they are brought, or as they are left
-pub record Lent : Type 0 where
-  pub propositions : List ℕ
-  pub proofs : List ℕ
-  pub depths : List ℕ
-
-abbrev pub lent_of : List ℕ → List ℕ → List ℕ → Lent
-lent_of propositions proofs depths = record { propositions = propositions; proofs = proofs; depths = depths }
-
--- their lengths
-abbrev pub room_of : Lent → Room
-room_of t =
-    record { propositions = length t.propositions; proofs = length t.proofs; depths = length t.depths }
+pub use Rattle.evr0_tables.specs.LentTables.{Lent, lent_of, room_of}
 
 -- ---- The answer
 

@@ -1,17 +1,13 @@
 -- From the decoder's answer to the definitions' types.
-use Rattle.std.specs.Prelude.{ℕ, List}
-use Rattle.local_format.specs.Out.{Out, ok, refused}
-use Rattle.local_format.specs.Maps.{refusal_out}
-use Rattle.rule_table.specs.ByTable.{Given, four, table}
-use Rattle.evr0_rules.specs.declared.settle.Rules.{Rules}
-use Rattle.evr0_rules.specs.declared.settle.Rules.TheVariants as choice
-use Rattle.evr0_head.specs.Maps.{counts_out}
+use Rattle.local_format.specs.Maps as maps
+use Rattle.evr0_head.specs.Maps.{counts_out, head_out}
 use Rattle.evr0_head.specs.declared.head.Head as head
 use Rattle.evr0.specs.Answer as of
+use Rattle.evr0.specs.Steps as steps
 use Rattle.evr0.specs.declared.section.Accepted as given
-use Rattle.evr0.specs.declared.section.Outcome as outcome
-use Rattle.evr0.specs.declared.section.Outcome.TheVariants as found
+use Rattle.evr0.specs.declared.section.Decoded as decoded
 use Rattle.evr0.specs.declared.section.DecodedEvr0.{DecodedEvr0}
+pub use Rattle.evr0_rules.specs.Maps.{given_out}
 
 abbrev pub accepted_out : given.Accepted → of.Accepted
 accepted_out a =
@@ -38,15 +34,14 @@ head_outcome h =
       counts = counts_out h.counts;
     }
 
-abbrev pub outcome_out : outcome.Outcome → Out of.Accepted
-outcome_out (found.Accepted a) = ok (accepted_out a)
-outcome_out (found.Refused r) = refused (refusal_out r)
+abbrev pub decoded_out : decoded.Decoded → steps.Decoded
+decoded_out d = record { head = head_out d.head; cursor = d.cursor }
 
 abbrev pub answer_out : DecodedEvr0 → of.Answer
 answer_out d =
-    record { source_set = d.source_set; compiler_contract = d.compiler_contract; cursor = d.cursor; outcome = outcome_out d.outcome }
-
--- the rules of a call: the four, or those of the table that comes with it
-abbrev pub given_out : Rules → List ℕ → Given
-given_out choice.Four t = four
-given_out choice.Table t = table t
+    record {
+      source_set = d.source_set;
+      compiler_contract = d.compiler_contract;
+      cursor = d.cursor;
+      outcome = maps.answer_out accepted_out d.outcome;
+    }

@@ -9,6 +9,7 @@ use lib.ListN.{length, take, length-map, length-append, replicate}
 use lib.Seq.{take_at}
 use Rattle.local_format.specs.Refusal.{Refusal}
 use Rattle.local_format.specs.Out.{Out, ok, refused, refuse}
+use Rattle.local_format.specs.Number.{Chosen}
 use Rattle.local_format.proofs.NumberLaws.{not_there_lem, is_there}
 use Rattle.lent_table.specs.Lent.{lent, Front}
 use Rattle.derivation.specs.Rule.{Rule}
@@ -16,56 +17,44 @@ use Rattle.derivation.specs.Section as derivation
 use Rattle.derivation.specs.Section.{proof_total}
 use Rattle.derivation.specs.Friendly.{operates, authorised}
 use Rattle.evr0_section.specs.Head.{Counts}
-use Rattle.evr0_section.specs.Rows.{starts_of}
-use Rattle.evr0_section.specs.Section.{Section, section_of, proof_item}
+use Rattle.evr0_section.specs.Rows.{Entry, starts_of}
+use Rattle.evr0_section.specs.Proposition.{Proposition}
+use Rattle.evr0_section.specs.Section.{Section, section_of, proof_item, section_at, decode_section}
 use Rattle.evr0_section.specs.Marks.{marks_of}
 use Rattle.evr0_section.proofs.Marks.{marks_read}
-use Rattle.evr0_pass.specs.View.{proof_view, view}
-use Rattle.evr0_pass.proofs.ViewOf.{section_view, tables_there}
+use Rattle.evr0_pass.specs.View.{Layout, proof_view, view}
 use Rattle.evr0.specs.Answer as unmarked
 use Rattle.evr0.specs.Answer.{Answer, answer_of, lent_of}
-use Rattle.evr0_read.specs.Listing.{payload_to}
 use Rattle.evr0_read.proofs.AcceptedLaws.{Accepted}
 use Rattle.evr0_read.proofs.TableLaws.{facts}
 use Rattle.evr0_read.proofs.FindLaws.{answer_refused, answer_accepted, by_given}
-use Rattle.evr0_section.specs.Section.{section_at}
-use Rattle.rule_table.specs.ByTable.{Given, rules_given}
+use Rattle.rule_table.specs.ByTable.{Given, four, rules_given, decode_by}
 use Rattle.rule_table.proofs.ByTable.{given_shaped}
 use Rattle.evr0_marks.specs.Answer.{Lent, with_marks, room_of, proof_marks, decode_given, LeavesBy}
-use Rattle.evr0_marks.specs.Steps.{Due}
-use Rattle.evr0_marks.proofs.FillLaws.{read, starts_are, total}
-use Rattle.evr0_authorised.specs.Authorised.{authorised_told, AuthorisesBy}
-use Rattle.evr0_authorised.specs.Maps.{Inside}
+use Rattle.evr0_marks.specs.Steps.{Due, DueOf}
+use Rattle.evr0_authorised.specs.Authorised.{authorised_told, Authorises, AuthorisesBy}
 use Rattle.evr0_authorised.proofs.OperatesLaws.{operates_front}
 
 -- ---- The proofs of a section that was decoded
-module _ {bytes : List ℕ} {cursor end : ℕ} {counts : Counts} {proofs marks : List ℕ} (due : Due bytes cursor end counts proofs marks)
-    {p starts : List ℕ} (part : p ≡ payload_to bytes cursor end) (front : starts ≡ take counts.proofs proofs) where
+module _ {schema : ℕ} {bytes : List ℕ} {cursor end : ℕ} {counts : Counts} {proofs held : List ℕ}
+    (of : DueOf schema bytes cursor end counts proofs held) where
   abbrev s : derivation.Section
-  s = section_of due.section.tables
+  s = section_of of.due.section.tables
 
-  pub inside : Inside p starts
-  inside =
-      let tables = tables_there due.rules due.room p due.section.tables (read due p starts part front) in
-      rw (starts_are due p starts part front) (λ i h. (tables.proofs i h).inside)
+  pub marks_total : length (marks_of of.due.section) ≡ proof_total s
+  marks_total = (marks_read of.due.rules of.due.shaped of.due.room bytes cursor of.due.section of.due.decoded).total
 
-  pub long : length starts ≤ length marks
-  long = omega (arith, total due p starts part front, due.fits)
+  module _ (p starts : List ℕ) (layout : Layout) (viewed : view of.due.rules p starts layout ≡ s) where
+    pub proofs_are : map (proof_view of.due.rules p) starts ≡ s.proofs
+    unfolding view
+    proofs_are = ap (λ (t : derivation.Section). t.proofs) viewed
 
-  pub proofs_are : map (proof_view due.rules p) starts ≡ s.proofs
-  unfolding view
-  proofs_are =
-      ap (map (proof_view due.rules p)) (starts_are due p starts part front)
-      ∙ sym (ap (λ (t : derivation.Section). t.proofs) (section_view due.rules due.room p due.section.tables (read due p starts part front)))
-
-  pub marks_total : length (marks_of due.section) ≡ proof_total s
-  marks_total = (marks_read due.rules due.shaped due.room bytes cursor due.section due.decoded).total
-
-  pub told : {r : Bool} (n : ℕ) → r ≡ operates (map (proof_view due.rules p) starts) marks n → Front (marks_of due.section) marks → r ≡ authorised s n
-  unfolding authorised proof_total
-  told n e f =
-      e ∙ ap (λ (ps : List derivation.Proof). operates ps marks n) proofs_are
-      ∙ operates_front n s.proofs (marks_of due.section) marks (omega (arith, marks_total)) f
+    pub told : {r : Bool} (marks : List ℕ) (n : ℕ) → r ≡ operates (map (proof_view of.due.rules p) starts) marks n
+        → Front (marks_of of.due.section) marks → r ≡ authorised s n
+    unfolding authorised proof_total
+    told marks n e f =
+        e ∙ ap (λ (ps : List derivation.Proof). operates ps marks n) proofs_are
+        ∙ operates_front n s.proofs (marks_of of.due.section) marks (omega (arith, marks_total)) f
 
 -- ---- The decoder's answer
 module _ {which : Given} {bytes : List ℕ} {cursor : ℕ} {before after : Lent} {given : Answer} (leaves : LeavesBy which bytes cursor before after given)
@@ -102,7 +91,7 @@ module _ {which : Given} {bytes : List ℕ} {cursor : ℕ} {before after : Lent}
         (leaves.holds.marks by.0 by.1 d by.2).total ∙ length-map d.tables.proofs.entries proof_item ∙ counted.proofs ∙ ap
         (λ (c : Counts). c.proofs) (sym found.4)
 
-    pub due : Due bytes cursor given.cursor a.counts after.others.proofs after.marks
+    due : Due bytes cursor given.cursor a.counts after.others.proofs after.marks
     due =
         let n : length (starts_of d.tables.proofs.entries) ≡ a.counts.proofs =
         length-map d.tables.proofs.entries (λ e. e.start) ∙ counted.proofs ∙ ap (λ (c : Counts). c.proofs) (sym found.4) in
@@ -120,20 +109,24 @@ module _ {which : Given} {bytes : List ℕ} {cursor : ℕ} {before after : Lent}
           fits = omega (arith, one_each, ap length marks_are, length-append (marks_of d) (replicate (length before.marks - length (marks_of d)) 0));
         }
 
-    pub decoded_is : x ≡ ok due.section
+    pub due_of : DueOf a.schema bytes cursor given.cursor a.counts after.others.proofs after.marks
     unfolding due
+    due_of = record { due = due; is = sym found.3 }
+
+    pub decoded_is : x ≡ ok due_of.due.section
+    unfolding due due_of
     decoded_is = found.1
 
-    pub front : Front (marks_of due.section) after.marks
-    unfolding due
+    pub front : Front (marks_of due_of.due.section) after.marks
+    unfolding due due_of
     front = ap (take (length (marks_of d))) marks_are ∙ take_at (marks_of d) _ (length (marks_of d)) refl
 
     propositions : length d.tables.propositions.entries ≡ a.counts.propositions
     propositions = counted.propositions ∙ ap (λ (c : Counts). c.propositions) (sym found.4)
 
-    pub answered : {r : Bool} → n < a.counts.propositions → r ≡ authorised (section_of due.section.tables) n
+    pub answered : {r : Bool} → n < a.counts.propositions → r ≡ authorised (section_of due_of.due.section.tables) n
         → AuthorisesBy which n (authorised_told n) bytes cursor before after (ok r)
-    unfolding due
+    unfolding due due_of
     answered h same =
         let t = is_there n d.tables.propositions.entries (omega (arith, propositions)) in
         record { answer = rw (found.1, t.1) (ap ok same); tables = rw (found.1, t.1) (rw found.1 at leaves.tables) }
@@ -147,3 +140,9 @@ module _ {which : Given} {bytes : List ℕ} {cursor : ℕ} {before after : Lent}
           answer = rw (found.1, t);
           tables = rw (found.1, t) (record { others = record { propositions = ep; proofs = eq; depths = ed }; marks = em });
         }
+
+-- ---- By the four, which `decode_section` goes by
+pub by_four : {B : Type 0} {n : ℕ} {tell : Out (Chosen Section (Entry Proposition)) → B} (bytes : List ℕ) (cursor : ℕ) {before after : Lent} {r : B}
+    → AuthorisesBy four n tell bytes cursor before after r → Authorises n tell bytes cursor before after r
+unfolding decode_section decode_by
+by_four bytes cursor a = a

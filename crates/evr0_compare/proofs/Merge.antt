@@ -186,14 +186,14 @@ module _ (xs ys : List Standing) {before after : List ℕ} {entries same : ℕ} 
 
 -- ---- The next verdict by the bytes
 module _ {p ps fs q qs gs : List ℕ} {xs ys : List Standing} (first : Views p ps fs xs) (second : Views q qs gs ys) (i j : ℕ) where
-  pub first_done : length ps ≤ i → 4 ≡ code (next_verdict (drop i xs) (drop j ys))
+  pub first_done : length ps ≤ i → second_only ≡ next_verdict (drop i xs) (drop j ys)
   first_done h = rw (drop_of_length-le xs {i = i} (omega (arith, first.count)))
 
   module _ (l : i < length ps) where
     first_left : drop i xs ≡ record { key = key_at p (get_or ps i 0); authorised = eqb (get_or fs i 0) 1 } ∷ drop (suc i) xs
     first_left = drop-cons xs i no_standing (omega (arith, first.count)) ∙ rw (first.each i l)
 
-    pub second_done : length qs ≤ j → 3 ≡ code (next_verdict (drop i xs) (drop j ys))
+    pub second_done : length qs ≤ j → first_only ≡ next_verdict (drop i xs) (drop j ys)
     second_done h = rw (first_left, drop_of_length-le ys {i = j} (omega (arith, second.count)))
 
     module _ (k : j < length qs) {o : Order} (order : o ≡ compare_keys (key_at p (get_or ps i 0)) (key_at q (get_or qs j 0))) where
@@ -203,12 +203,12 @@ module _ {p ps fs q qs gs : List ℕ} {xs ys : List Standing} (first : Views p p
       by_order_lem : next_verdict (drop i xs) (drop j ys) ≡ by_order o first_only (of_both (eqb (get_or fs i 0) 1) (eqb (get_or gs j 0) 1)) second_only
       by_order_lem = rw (first_left, second_left, ← order)
 
-      pub first_next : o ≡ less → 3 ≡ code (next_verdict (drop i xs) (drop j ys))
+      pub first_next : o ≡ less → first_only ≡ next_verdict (drop i xs) (drop j ys)
       first_next e = rw (by_order_lem, e)
 
-      pub second_next : o ≡ greater → 4 ≡ code (next_verdict (drop i xs) (drop j ys))
+      pub second_next : o ≡ greater → second_only ≡ next_verdict (drop i xs) (drop j ys)
       second_next e = rw (by_order_lem, e)
 
-      pub both_next : {r : ℕ} → o ≡ equal → r ≡ code (of_both (eqb (get_or fs i 0) 1) (eqb (get_or gs j 0) 1))
-          → r ≡ code (next_verdict (drop i xs) (drop j ys))
+      pub both_next : {r : Verdict} → o ≡ equal → r ≡ of_both (eqb (get_or fs i 0) 1) (eqb (get_or gs j 0) 1)
+          → r ≡ next_verdict (drop i xs) (drop j ys)
       both_next e h = h ∙ sym (rw (by_order_lem, e))

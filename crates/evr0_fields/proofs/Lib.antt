@@ -1,3 +1,2 @@
 pub mod PartLaws
 pub mod PlaceLaws
-pub mod Steps

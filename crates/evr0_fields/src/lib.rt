@@ -1,7 +1,6 @@
-// What the records of an evidence section share: numbers, texts, reserved bytes, digests, what the schema decides, and the answer of a check.
+// What the records of an evidence section share: numbers, texts, reserved bytes, digests, and what the schema decides.
 #![tactic(auto)]
 
-pub mod check;
 pub mod number;
 pub mod place;
 pub mod schema;

@@ -1,20 +1,20 @@
-// Numbers of records. A proof number never serves as a proposition index or a witness number.
+// Numbers of records, each a struct of its own: a proof number never serves as a proposition index or a witness number.
 ghost use Rattle.std.specs.Prelude.{◌≡◌};
 
-#[derive(Clone, Copy)]
+#[derive(Clone, Copy, Debug, PartialEq, Eq)]
 pub struct ProofNumber(pub u32);
 
-#[derive(Clone, Copy)]
+#[derive(Clone, Copy, Debug, PartialEq, Eq)]
 pub struct PropositionIndex(pub u32);
 
-#[derive(Clone, Copy)]
+#[derive(Clone, Copy, Debug, PartialEq, Eq)]
 pub struct WitnessNumber(pub u32);
 
 impl ProofNumber {
     pub fn place(self) -> usize
         ensures { result ≡ self.0 }
     {
-        wide(self.0)
+        self.0 as usize
     }
 }
 
@@ -22,7 +22,7 @@ impl PropositionIndex {
     pub fn place(self) -> usize
         ensures { result ≡ self.0 }
     {
-        wide(self.0)
+        self.0 as usize
     }
 }
 
@@ -30,13 +30,6 @@ impl WitnessNumber {
     pub fn place(self) -> usize
         ensures { result ≡ self.0 }
     {
-        wide(self.0)
+        self.0 as usize
     }
-}
-
-// A 4-byte number with 64 bits.
-pub fn wide(value: u32) -> usize
-    ensures { result ≡ value }
-{
-    value as usize
 }

@@ -1,83 +1,40 @@
 // Fields that bring no number: reserved bytes and digests.
-ghost use Rattle.std.specs.Prelude.{◌≡◌, ◌≤◌, ◌+◌, ◌*◌, length, take};
-ghost use Rattle.local_format.specs.Maps.{refusal_out, refusal_of};
+ghost use Rattle.std.specs.Prelude.{◌≡◌};
+ghost use Rattle.local_format.specs.Maps.{answer_out};
 ghost use Rattle.evr0_section.specs.Head.{digest_at};
 ghost use Rattle.evr0_section.specs.Proof.{zeros_at};
-ghost use Rattle.evr0_fields.specs.Maps.{place_out, digest_out, digest_bytes};
+ghost use Rattle.evr0_fields.specs.Maps.{digest_out};
 
-use local_format::refusal::Refusal;
+use local_format::part::tail;
+use local_format::refusal::{Refusal, check, refuse};
 
-// The place after a field.
-#[derive(Drop)]
-pub enum Place {
-    Next(usize),
-    Refused(Refusal),
-}
-
-// A digest beside the place after it: zeros where it is refused.
-#[derive(Drop)]
+// A digest, and the place after it.
+#[derive(Clone, Copy, Debug, PartialEq, Eq)]
 pub struct Digest {
     pub bytes: [u8; 32],
-    pub place: Place,
+    pub next: usize,
 }
 
-pub fn place_refusal(place: Place) -> Refusal
-    ensures { refusal_out result ≡ refusal_of (place_out place) }
+// Three reserved bytes: the place after them.
+pub fn zeros_at(bytes: &[u8], at: usize) -> Result<usize, Refusal>
+    ensures { answer_out (λ next. next) result ≡ zeros_at bytes.now at }
 {
-    match place {
-        Place::Refused(refusal) => refusal,
-        Place::Next(_) => local_format::refusal::refuse(0, 0),
-    }
+    let Some(zeros) = tail(bytes, at).first_chunk::<3>() else {
+        return Err(refuse(5, at));
+    };
+    let next = at + 3;
+    check((zeros[0] == 0) & (zeros[1] == 0) & (zeros[2] == 0), 9, next)?;
+    Ok(next)
 }
 
-// The number of three bytes, low byte first.
-fn le24(a: u8, b: u8, c: u8) -> u32
-    ensures { result ≡ a + 256 * (b + 256 * c) }
+pub fn digest_at(bytes: &[u8], at: usize) -> Result<Digest, Refusal>
+    ensures { answer_out digest_out result ≡ digest_at bytes.now at }
 {
-    (a as u32) + 256 * ((b as u32) + 256 * (c as u32))
-}
-
-// Three reserved bytes.
-pub fn read_zeros(bytes: &[u8], at: usize) -> Place
-    ensures { place_out result ≡ zeros_at bytes.now at }
-{
-    let rest = local_format::part::tail(bytes, at);
-    if rest.len() < 3 {
-        return Place::Refused(local_format::refusal::refuse(5, at));
-    }
-    if le24(rest[0], rest[1], rest[2]) != 0 {
-        return Place::Refused(local_format::refusal::refuse(9, at + 3));
-    }
-    Place::Next(at + 3)
-}
-
-// The first 32 bytes.
-fn copy_digest(bytes: &[u8]) -> [u8; 32]
-    requires { 32 ≤ length bytes.now }
-    ensures { result ≡ take 32 bytes.now }
-{
-    let mut out = [0u8; 32];
-    let mut i: usize = 0;
-    while i < 32 {
-        out[i] = bytes[i];
-        i += 1;
-    }
-    out
-}
-
-pub fn read_digest(bytes: &[u8], at: usize) -> Digest
-    ensures result_value { digest_out result ≡ digest_at bytes.now at }
-    ensures bytes_value { result.bytes ≡ digest_bytes (digest_at bytes.now at) }
-{
-    let rest = local_format::part::tail(bytes, at);
-    if rest.len() < 32 {
-        return Digest {
-            bytes: [0u8; 32],
-            place: Place::Refused(local_format::refusal::refuse(5, at)),
-        };
-    }
-    Digest {
-        bytes: copy_digest(rest),
-        place: Place::Next(at + 32),
-    }
+    let Some(digest) = tail(bytes, at).first_chunk::<32>() else {
+        return Err(refuse(5, at));
+    };
+    Ok(Digest {
+        bytes: *digest,
+        next: at + 32,
+    })
 }

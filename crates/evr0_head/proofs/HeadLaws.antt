@@ -1,39 +1,26 @@
 -- Laws of a payload's head and of the checks after its counts.
 use Prim.Native.Nat.{ℕ, ◌+◌, ◌-◌, ◌*◌, ◌/◌, ◌≤◌, ◌<◌}
-use mathlib.Core.Path.{◌≡◌, refl, ap, sym, subst, ◌∙◌}
+use mathlib.Core.Path.{◌≡◌, refl, ap, subst, ◌∙◌}
 use mathlib.Core.List.{List}
 use native.Mathlib.Omega.{arith}
 use lib.Dec.{eqb}
-use lib.ListN.{length}
-use borrow.Author.Tests.{leb-true, le-leb}
+use lib.ListN.{length, drop, length-drop}
+use Rattle.std.specs.Array.{IsFirstChunk}
+use borrow.Author.Tests.{leb-true}
 use Rattle.local_format.specs.Refusal.{Refusal}
-use Rattle.local_format.specs.Out.{Out, ok, refused, refuse, ◌>>=◌, ◌>>◌}
+use Rattle.local_format.specs.Out.{Out, ok, refused, refuse, ◌>>=◌}
 use Rattle.local_format.specs.Field.{le}
 use Rattle.local_format.specs.Text.{Span, section_field, text_at}
 use Rattle.local_format.proofs.OutLaws.{ok_same, bind_ok, checked_ok}
 use Rattle.local_format.proofs.FieldLaws.{field_ok}
 use Rattle.local_format.proofs.TextLaws.{text_ok}
 use Rattle.evr0_section.specs.Head.{Counts, Counted, Head, Room, digest_at, counts_at, is_schema, head_of, listed, count_limits, within_limits}
-use Rattle.evr0_section.specs.Head.{check_counts, checked_head}
+use Rattle.evr0_section.specs.Head.{checked_head}
 use Rattle.evr0_head.specs.Checks.{Limited}
-use Rattle.evr0_fields.specs.Maps.{Beside, beside}
-use Rattle.evr0_head.specs.Maps.{head_in, head_out, head_beside}
-use Rattle.evr0_head.specs.declared.head.HeadAnswer.{HeadAnswer}
-use Rattle.evr0_head.specs.declared.head.HeadRead.{HeadRead}
 use Rattle.evr0_fields.proofs.PlaceLaws.{digest_ok}
-use Rattle.evr0_fields.proofs.PartLaws.{by_field}
+use Rattle.evr0_fields.proofs.PartLaws.{by_field, in_part}
 
 module _ (c : Counts) (at : ℕ) where
-  pub within : Limited c → within_limits (listed c) count_limits at ≡ ok tt
-  unfolding within_limits
-  within h =
-      rw (
-        le-leb c.propositions 65536 h.propositions,
-        le-leb c.proofs 65536 h.proofs,
-        le-leb c.witnesses 262144 h.witnesses,
-        le-leb c.parents 262144 h.parents,
-      )
-
   pub limited : within_limits (listed c) count_limits at ≡ ok tt → Limited c
   unfolding within_limits
   limited e =
@@ -68,9 +55,25 @@ module _ (p : List ℕ) (at : ℕ) where
       at_cut : (k : ℕ) → length p < at + 16 → at + (length p - at) / 4 * 4 ≡ k → x ≡ refuse 5 k
       at_cut k h e = short h ∙ ap (refuse 5) e
 
-  pub counts_there : {t u v w : ℕ} → at + 16 ≤ length p → t ≡ le 4 p (at + 0) → u ≡ le 4 p (at + 4) → v ≡ le 4 p (at + 8) → w ≡ le 4 p (at + 12)
-      → ok (record { counts = record { propositions = t; proofs = u; witnesses = v; parents = w }; next = at + 16 }) ≡ counts_at p at
-  counts_there all a b c d = let m : at + 0 ≡ at = omega arith in by_counts (λ h. rw (a, m, b, c, d)) (λ h. absurd (omega arith))
+  module _ {rest : List ℕ} (e : rest ≡ drop at p) where
+    pub counts_cut : length rest < 16 → refuse 5 (at + length rest / 4 * 4) ≡ counts_at p at
+    counts_cut h = let l : length rest ≡ length p - at = rw (e, length-drop) in by_counts (λ k. absurd (omega arith)) (λ k. rw l)
+
+    pub counts_there : {part : List ℕ} → IsFirstChunk rest part 16
+        → ok (record { counts = record { propositions = le 4 part 0; proofs = le 4 part 4; witnesses = le 4 part 8; parents = le 4 part 12 }; next = at + 16 })
+        ≡ counts_at p at
+    counts_there c =
+        let l : length rest ≡ length p - at = rw (e, length-drop) in
+        let m : at + 0 ≡ at = omega arith in
+        let h = c.enough in
+        rw (
+          in_part p at 16 0 e c (omega arith),
+          m,
+          in_part p at 16 4 e c (omega arith),
+          in_part p at 16 8 e c (omega arith),
+          in_part p at 16 12 e c (omega arith),
+        )
+        (by_counts (λ k. refl) (λ k. absurd (omega arith)))
 
 -- ---- Where a head that was read lies
 module _ (p : List ℕ) (at : ℕ) where
@@ -142,24 +145,7 @@ head_ok p e =
     (text_ok p policy.next f7).3
     (counts_ok p issuer.next f8))
 
--- ---- A head whose counts passed
-module _ (room : Room) (p : List ℕ) where
-  pub checked_refused : {q : Refusal} → head_of p ≡ refused q → checked_head room p ≡ refused q
-  unfolding checked_head
-  checked_refused e = rw e
-
-  pub checked_as : {h : Head} → head_of p ≡ ok h → checked_head room p ≡ (check_counts room p h >> ok h)
-  unfolding checked_head
-  checked_as e = rw e
-
--- ---- What the code's answer says of a head
-pub besides : {A : Type 0} (first second : A → List ℕ) (d : Out A) → (beside first second d).answer ≡ d
-besides first second (ok a) = refl
-besides first second (refused r) = refl
-
-module _ (r : HeadRead) (d : Out Head) (e : head_out r ≡ head_beside d) where
-  pub head_answer : head_in r.source_set r.compiler_contract r.answer ≡ d
-  head_answer = ap (λ (b : Beside Head). b.answer) e ∙ besides (λ h. h.source_set) (λ h. h.compiler_contract) d
-
-  pub head_told : {a : HeadAnswer} → r.answer ≡ a → d ≡ head_in r.source_set r.compiler_contract a
-  head_told k = sym head_answer ∙ ap (head_in r.source_set r.compiler_contract) k
+-- a payload whose head is refused
+pub checked_refused : (room : Room) (p : List ℕ) {q : Refusal} → head_of p ≡ refused q → checked_head room p ≡ refused q
+unfolding checked_head
+checked_refused room p e = rw e

@@ -1,15 +1,12 @@
 -- A section that was decoded is held by its payload, by the starts in the lent table and by the places that follow from its counts; so the
--- pass over its proofs may rely on its tables, and what the pass leaves are its marks.
+-- pass over its proofs may rely on its tables, which are the section's.
 use Prim.Native.Nat.{ℕ, ◌-◌, ◌*◌}
 use mathlib.Core.Path.{◌≡◌, sym, ap, ap₂, ◌∙◌}
 use mathlib.Core.List.{List}
 use native.Mathlib.Omega.{arith}
 use lib.ListN.{length, take}
-use Rattle.lent_table.specs.Lent.{lent}
-use Rattle.derivation.specs.Mark.{marks}
 use Rattle.evr0_section.specs.Head.{Counts, span_width, witness_size}
 use Rattle.evr0_section.specs.Section.{Section, section_of, tables_of}
-use Rattle.evr0_section.specs.Marks.{marks_of}
 use Rattle.evr0_section.specs.Rows.{starts_of}
 use Rattle.evr0_pass.specs.View.{Layout, TablesThere, view}
 use Rattle.evr0_pass.proofs.ViewOf.{layout_of, section_view, tables_there, starts_total}
@@ -54,10 +51,5 @@ module _ {bytes : List ℕ} {cursor end : ℕ} {counts : Counts} {proofs held : 
     pub may_mark : TablesThere p starts layout
     may_mark = rw (starts_are, ← layout_is) (tables_there due.rules due.room p d.tables read)
 
-    viewed : view due.rules p starts layout ≡ section_of d.tables
+    pub viewed : view due.rules p starts layout ≡ section_of d.tables
     viewed = rw (starts_are, ← layout_is) (sym (section_view due.rules due.room p d.tables read))
-
-    pub filled : (marked : List ℕ) {after : List ℕ} → length marked ≡ length held → take (length starts) marked ≡ marks (view due.rules p starts layout)
-        → after ≡ lent (length marked) (take (length starts) marked) → after ≡ lent (length held) (marks_of d)
-    filled marked kept e f =
-        f ∙ ap (λ (n : ℕ). lent n (take (length starts) marked)) kept ∙ ap (lent (length held)) (e ∙ ap marks viewed)

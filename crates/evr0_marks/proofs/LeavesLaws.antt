@@ -42,103 +42,98 @@ cut_filled table left xs {room} within kept is cleared =
     ∙ ap₂ lent n (take_at left (drop room table) room kept ∙ is)
     ∙ lent_twice (length table) room xs short within
 
-module _ (which : Given) (bytes : List ℕ) (cursor : ℕ) (before : Lent) {room : ℕ}
-    (least : room ≡ min (length before.others.depths) (length before.marks)) where
-  abbrev depths : List ℕ
-  depths = before.others.depths
+module _ {which : Given} {bytes : List ℕ} {cursor : ℕ} {propositions proofs : List ℕ} (depths held : List ℕ) {room : ℕ}
+    (least : room ≡ min (length depths) (length held)) {left : unmarked.Lent} {given : Answer}
+    (leaves : unmarked.LeavesBy which bytes cursor (lent_of propositions proofs (take room depths)) left given)
+    (same : length left.depths ≡ length (take room depths)) where
+  abbrev before : Lent
+  before = with_marks (lent_of propositions proofs depths) held
 
-  -- what the decoder without marks is lent
-  abbrev cut : unmarked.Lent
-  cut = lent_of before.others.propositions before.others.proofs (take room depths)
-
-  pub cut_length : length (take room depths) ≡ room
+  cut_length : length (take room depths) ≡ room
   cut_length = length-take-le room depths (omega (arith, least))
 
-  same_room : unmarked.room_of cut ≡ room_of before
-  same_room =
-      ap (λ (n : ℕ). record { propositions = length before.others.propositions; proofs = length before.others.proofs; depths = n }) (cut_length ∙ least)
+  same_room : unmarked.room_of (lent_of propositions proofs (take room depths)) ≡ room_of before
+  same_room = ap (λ (n : ℕ). record { propositions = length propositions; proofs = length proofs; depths = n }) (cut_length ∙ least)
 
   abbrev x : Out Section
   x = decode_given which before bytes cursor
 
-  same_section : unmarked.decode_given which cut bytes cursor ≡ x
+  same_section : unmarked.decode_given which (lent_of propositions proofs (take room depths)) bytes cursor ≡ x
   same_section = ap (λ (r : Room). decode_by which r bytes cursor) same_room
 
-  module _ {left : unmarked.Lent} {given : Answer} (leaves : unmarked.LeavesBy which bytes cursor cut left given) (kept : length left.depths ≡ room) where
-    answered : given ≡ answer_of cursor x
-    answered = leaves.answer ∙ ap (answer_of cursor) same_section
+  answered : given ≡ answer_of cursor x
+  answered = leaves.answer ∙ ap (answer_of cursor) same_section
 
-    depths_are : left.depths ≡ lent room (proof_depths x)
-    depths_are = leaves.tables.depths ∙ ap₂ (λ (n : ℕ) (y : Out Section). lent n (proof_depths y)) cut_length same_section
+  kept : length left.depths ≡ room
+  kept = same ∙ cut_length
 
-    short : length (proof_depths x) ≤ room
-    short =
-        omega (arith, kept, ap length depths_are, length-append (proof_depths x) (replicate (room - length (proof_depths x)) 0))
+  depths_are : left.depths ≡ lent room (proof_depths x)
+  depths_are = leaves.tables.depths ∙ ap₂ (λ (n : ℕ) (y : Out Section). lent n (proof_depths y)) cut_length same_section
 
-    module _ {all marks : List ℕ} (cleared : all ≡ lent (length (left.depths ++ drop room depths)) (take room (left.depths ++ drop room depths)))
-        (marked : marks ≡ lent (length before.marks) (proof_marks x)) where
-      all_depths : all ≡ lent (length depths) (proof_depths x)
-      all_depths = cut_filled depths left.depths (proof_depths x) (omega (arith, least)) kept depths_are cleared
+  short : length (proof_depths x) ≤ room
+  short = omega (arith, kept, ap length depths_are, length-append (proof_depths x) (replicate (room - length (proof_depths x)) 0))
 
-      pub whole : LeavesBy which bytes cursor before (with_marks (lent_of left.propositions left.proofs all) marks) given
-      whole =
-          record {
-            answer = answered;
-            tables = record {
-              others = record {
-                propositions = leaves.tables.propositions
-                    ∙ ap (λ (y : Out Section). lent (length before.others.propositions) (proposition_starts y)) same_section;
-                proofs = leaves.tables.proofs ∙ ap (λ (y : Out Section). lent (length before.others.proofs) (proof_starts y)) same_section;
-                depths = all_depths;
-              };
-              marks = marked;
+  module _ {all marks : List ℕ} (cleared : all ≡ lent (length (left.depths ++ drop room depths)) (take room (left.depths ++ drop room depths))) where
+    whole : marks ≡ lent (length held) (proof_marks x) → LeavesBy which bytes cursor before (with_marks (lent_of left.propositions left.proofs all) marks) given
+    whole marked =
+        record {
+          answer = answered;
+          tables = record {
+            others = record {
+              propositions = leaves.tables.propositions ∙ ap (λ (y : Out Section). lent (length propositions) (proposition_starts y)) same_section;
+              proofs = leaves.tables.proofs ∙ ap (λ (y : Out Section). lent (length proofs) (proof_starts y)) same_section;
+              depths = cut_filled depths left.depths (proof_depths x) (omega (arith, least)) kept depths_are cleared;
             };
-            holds = rw same_room at leaves.holds;
-          }
+            marks = marked;
+          };
+          holds = rw same_room at leaves.holds;
+        }
 
-    -- ---- A refusal
-    pub none : {r : Refusal} {marks : List ℕ} → given.outcome ≡ refused r → marks ≡ lent (length before.marks) []
-        → marks ≡ lent (length before.marks) (proof_marks x)
-    none e h = rw (answer_refused cursor x (sym (ap (λ (a : Answer). a.outcome) answered) ∙ e)) h
+    -- a refusal: no marks
+    pub left_refused : {r : Refusal} → given.outcome ≡ refused r → marks ≡ lent (length held) []
+        → LeavesBy which bytes cursor before (with_marks (lent_of left.propositions left.proofs all) marks) given
+    left_refused e h = whole (rw (answer_refused cursor x (sym (ap (λ (a : Answer). a.outcome) answered) ∙ e)) h)
 
-    -- ---- An accepted section
-    module _ {a : unmarked.Accepted} (e : given.outcome ≡ ok a) where
-      found : (d : Section) × (x ≡ ok d) × ((answer_of cursor x).cursor ≡ d.cursor) × (a.schema ≡ d.tables.head.schema)
-          × (a.counts ≡ d.tables.head.counts)
-      found = answer_accepted cursor x (sym (ap (λ (a : Answer). a.outcome) answered) ∙ e)
+  -- ---- An accepted section
+  module _ {a : unmarked.Accepted} (e : given.outcome ≡ ok a) where
+    found : (d : Section) × (x ≡ ok d) × ((answer_of cursor x).cursor ≡ d.cursor) × (a.schema ≡ d.tables.head.schema)
+        × (a.counts ≡ d.tables.head.counts)
+    found = answer_accepted cursor x (sym (ap (λ (a : Answer). a.outcome) answered) ∙ e)
 
-      due : Due bytes cursor given.cursor a.counts left.proofs before.marks
-      unfolding decode_by
-      due =
-          let (d, is, end, schema, counts) = found in
-          let (rules, given-are, decoded) = bind_ok (rules_given which) _ is in
-          let f = facts rules (room_of before) bytes cursor d decoded in
-          let n : length (starts_of d.tables.proofs.entries) ≡ a.counts.proofs =
-          length-map d.tables.proofs.entries (λ e. e.start) ∙ f.proofs ∙ ap (λ (c : Counts). c.proofs) (sym counts) in
-          let depthed : length (proof_depths x) ≡ a.counts.proofs =
-          ap (λ (y : Out Section). length (proof_depths y)) is ∙ f.depth_count ∙ ap (λ (c : Counts). c.proofs) (sym counts) in
-          record {
-            rules = rules;
-            shaped = given_shaped which rules given-are;
-            room = room_of before;
-            section = d;
-            decoded = decoded;
-            ends = sym (ap (λ (a : Answer). a.cursor) answered ∙ end);
-            counted = sym counts;
-            started = ap (take a.counts.proofs)
-                (leaves.tables.proofs ∙ ap (λ (y : Out Section). lent (length before.others.proofs) (proof_starts y)) (same_section ∙ is))
-                ∙ take_at (starts_of d.tables.proofs.entries) _ a.counts.proofs n;
-            fits = omega (arith, short, depthed, least);
-          }
+    due : Due bytes cursor given.cursor a.counts left.proofs held
+    unfolding decode_by
+    due =
+        let (d, is, end, schema, counts) = found in
+        let (rules, given-are, decoded) = bind_ok (rules_given which) _ is in
+        let f = facts rules (room_of before) bytes cursor d decoded in
+        let n : length (starts_of d.tables.proofs.entries) ≡ a.counts.proofs =
+        length-map d.tables.proofs.entries (λ e. e.start) ∙ f.proofs ∙ ap (λ (c : Counts). c.proofs) (sym counts) in
+        let depthed : length (proof_depths x) ≡ a.counts.proofs =
+        ap (λ (y : Out Section). length (proof_depths y)) is ∙ f.depth_count ∙ ap (λ (c : Counts). c.proofs) (sym counts) in
+        record {
+          rules = rules;
+          shaped = given_shaped which rules given-are;
+          room = room_of before;
+          section = d;
+          decoded = decoded;
+          ends = sym (ap (λ (a : Answer). a.cursor) answered ∙ end);
+          counted = sym counts;
+          started = ap (take a.counts.proofs)
+              (leaves.tables.proofs ∙ ap (λ (y : Out Section). lent (length proofs) (proof_starts y)) (same_section ∙ is))
+              ∙ take_at (starts_of d.tables.proofs.entries) _ a.counts.proofs n;
+          fits = omega (arith, short, depthed, least);
+        }
 
-      pub due_of : DueOf a.schema bytes cursor given.cursor a.counts left.proofs before.marks
-      unfolding due
-      due_of = record { due = due; is = sym found.3 }
+    pub due_of : DueOf a.schema bytes cursor given.cursor a.counts left.proofs held
+    unfolding due
+    due_of = record { due = due; is = sym found.3 }
 
-      pub some : {marks : List ℕ} → marks ≡ lent (length before.marks) (marks_of due_of.due.section)
-          → marks ≡ lent (length before.marks) (proof_marks x)
-      unfolding due due_of
-      some h = rw found.1 h
+    -- the marks of its proofs
+    pub left_accepted : {all marks : List ℕ} → all ≡ lent (length (left.depths ++ drop room depths)) (take room (left.depths ++ drop room depths))
+        → marks ≡ lent (length held) (marks_of due_of.due.section)
+        → LeavesBy which bytes cursor before (with_marks (lent_of left.propositions left.proofs all) marks) given
+    unfolding due due_of
+    left_accepted cleared h = whole cleared (rw found.1 h)
 
 -- ---- By the four
 pub by_four : {bytes : List ℕ} {cursor : ℕ} {before after : Lent} {given : Answer} → LeavesBy four bytes cursor before after given

@@ -1,115 +1,87 @@
 // The marks of the proofs of a payload whose tables have been read: one pass over their starts, each mark made from those of the parents,
 // which stand before it.
-ghost use Rattle.std.specs.Prelude.{◌≡◌, List, ℕ, ◌+◌, ◌*◌, ◌≤◌, ◌<◌, length, get_or, take};
+ghost use Rattle.std.specs.Prelude.{◌≡◌, List, ◌+◌, ◌≤◌, ◌<◌, length};
+ghost use Rattle.lent_table.specs.Lent.{lent};
 ghost use Rattle.derivation.specs.Rule.{Rule};
 ghost use Rattle.derivation.specs.Section.{witness_at};
 ghost use Rattle.derivation.specs.InOrder.{gathered};
 ghost use Rattle.derivation.specs.Mark as of;
-ghost use Rattle.evr0_pass.specs.View.{WitnessesThere, TablesThere};
-ghost use Rattle.evr0_pass.specs.Maps.{layout_out, tables_in};
+ghost use Rattle.evr0_pass.specs.Tables.{tables_by};
 
 use crate::record::after_name;
-use evr0_fields::number::wide;
-use evr0_pass::pass::{Layout, witness_start};
-use local_format::field::u32_at;
+use evr0_pass::pass::{Tables, witness_start};
+use evr0_read::table::entry_or;
+use lent_table::clear_from;
+use local_format::field::LittleEndian;
 
 // Two marks together; 0 is none.
+#[tactic(auto, unfolding(derivation::specs::Mark::joined))]
 fn joined(a: u8, b: u8) -> u8
     ensures { result ≡ of.joined a b }
 {
     if a == 0 {
-        return b;
+        b
+    } else if b == 0 || a == b {
+        a
+    } else {
+        3
     }
-    if b == 0 {
-        return a;
-    }
-    if a == b {
-        return a;
-    }
-    3
 }
 
 // The mark of a proof without parents, by its witness's polarity.
 fn end_mark(polarity: u8) -> u8
     ensures { result ≡ of.end_mark polarity }
 {
-    if polarity == 1 {
-        return 1;
-    }
-    2
-}
-
-// An entry of a table of bytes; 0 past its end.
-fn byte_at(table: &[u8], i: usize) -> u8
-    ensures { result ≡ get_or table.now i 0 }
-{
-    if i < table.len() {
-        return table[i];
-    }
-    0
+    if polarity == 1 { 1 } else { 2 }
 }
 
 // The polarity of a witness; 0 where there is none with the number.
-fn polarity_at(payload: &[u8], tables: Layout, witness: usize) -> u8
-    requires { WitnessesThere (length payload.now) (layout_out tables) }
-    ensures { (rules : List Rule) (starts : List ℕ) → result ≡ (witness_at (tables_in rules payload.now starts tables) witness).polarity }
+fn polarity(tables: Tables, witness: usize) -> u8
+    ensures { (rules : List Rule) → result ≡ (witness_at (tables_by rules tables.entry) witness).polarity }
 {
-    if witness < tables.counts.witnesses {
-        return payload[witness_start(payload.len(), tables, witness) + 8];
+    if witness < tables.layout.counts.witnesses {
+        tables.payload[witness_start(tables.payload.len(), tables.layout, witness) + 8]
+    } else {
+        0
     }
-    0
 }
 
 // The marks of the `count` parents from the cell `first` on, together; `known` are those of the proofs before.
-fn by_parents(payload: &[u8], tables: Layout, known: &[u8], first: usize, count: usize) -> u8
-    requires parents_in_bounds { tables.parents_at + 4 * tables.counts.parents ≤ length payload.now }
-    requires count_bound { first + count ≤ tables.counts.parents }
-    ensures { (rules : List Rule) (starts : List ℕ) → result
-        ≡ gathered of.joined (tables_in rules payload.now starts tables) known.now count first 0 }
+fn by_parents(tables: Tables, known: &[u8], first: usize, count: usize) -> u8
+    requires { first + count ≤ tables.layout.counts.parents }
+    ensures { (rules : List Rule) → result ≡ gathered of.joined (tables_by rules tables.entry) known.now count first 0 }
 {
-    let mut cell = first;
-    let end = first + count;
-    let mut mark: u8 = 0;
-    while cell < end {
-        let parent = wide(u32_at(payload, tables.parents_at + 4 * cell));
-        mark = joined(mark, byte_at(known, parent));
-        cell += 1;
+    let mut mark = 0;
+    for cell in first..first + count {
+        let parent = u32::le_at(tables.payload, tables.layout.parents_at + 4 * cell) as usize;
+        mark = joined(mark, entry_or(known, parent, 0));
     }
     mark
 }
 
 // The mark of the proof after those whose marks are known.
-fn mark_after(payload: &[u8], starts: &[u64], tables: Layout, known: &[u8]) -> u8
-    requires tables_there { TablesThere payload.now starts.now (layout_out tables) }
-    requires known_in_bounds { length known.now < length starts.now }
-    ensures { (rules : List Rule) → result
-        ≡ of.mark_of (tables_in rules payload.now starts.now tables) (length known.now) known.now }
+fn mark_after(tables: Tables, known: &[u8]) -> u8
+    requires { length known.now < length tables.starts.now }
+    ensures { (rules : List Rule) → result ≡ of.mark_of (tables_by rules tables.entry) (length known.now) known.now }
 {
-    let rest = after_name(payload, starts[known.len()] as usize);
-    let parents = wide(u32_at(payload, rest + 16));
+    let rest = after_name(tables.payload, tables.starts[known.len()] as usize);
+    let parents = u32::le_at(tables.payload, rest + 16) as usize;
     if parents == 0 {
-        return end_mark(polarity_at(payload, tables, wide(u32_at(payload, rest + 4))));
+        let witness = u32::le_at(tables.payload, rest + 4) as usize;
+        return end_mark(polarity(tables, witness));
     }
-    by_parents(
-        payload,
-        tables,
-        known,
-        wide(u32_at(payload, rest + 12)),
-        parents,
-    )
+    let first = u32::le_at(tables.payload, rest + 12) as usize;
+    by_parents(tables, known, first, parents)
 }
 
-// The mark of each proof, whose starts are given, at the front of the lent table.
-pub fn mark_proofs(payload: &[u8], starts: &[u64], tables: Layout, marks: &mut [u8])
-    requires tables_there { TablesThere payload.now starts.now (layout_out tables) }
-    requires starts_in_bounds { length starts.now ≤ length marks.old }
-    ensures { (rules : List Rule)
-        → take (length starts.now) marks.new ≡ of.marks (tables_in rules payload.now starts.now tables) }
+// The mark of each proof at the front of the lent table, and zeros past them.
+pub fn mark_proofs(tables: Tables, marks: &mut [u8])
+    requires { length tables.starts.now ≤ length marks.old }
+    ensures { (rules : List Rule) → marks.new ≡ lent (length marks.old) (of.marks (tables_by rules tables.entry)) }
 {
-    let mut i: usize = 0;
-    while i < starts.len() {
-        let mark = mark_after(payload, starts, tables, &marks[..i]);
+    for i in 0..tables.starts.len() {
+        let mark = mark_after(tables, &marks[..i]);
         marks[i] = mark;
-        i += 1;
     }
+    clear_from(marks, tables.starts.len());
 }

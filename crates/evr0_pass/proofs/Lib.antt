@@ -1,4 +1,4 @@
 pub mod ViewLaws
+pub mod StepLaws
 pub mod ViewOf
 pub mod DeriveLaws
-pub mod WitnessLaws

@@ -8,6 +8,7 @@ use mathlib.Core.Bool.{◌&&◌}
 use lib.Dec.{eqb}
 use lib.ListN.{length, get_or, length-map}
 use Rattle.local_format.specs.Field.{le}
+use Rattle.local_format.proofs.FieldLaws.{le_1}
 use Rattle.derivation.specs.Rule.{Rule}
 use Rattle.derivation.specs.Pass.{agrees}
 use Rattle.derivation.specs.Section.{Proof, proof_at, witness_at, parent_at, proof_total}
@@ -68,3 +69,10 @@ module _ (rules : List Rule) (p starts : List ℕ) (l : Layout) where
       ≡ (eqb (le 4 p (get_or starts j 0 + 4)) q.proposition && eqb (le 4 p (after_name p (get_or starts j 0))) q.authority)
   unfolding agrees proof_view
   agrees_at q j h = rw (proof_at_lem j h)
+
+  -- what stands of a witness at its place
+  pub witness_reads : (w at : ℕ) → w < l.counts.witnesses → at ≡ l.witnesses_at + l.witness_size * w
+      → ((witness_at (view rules p starts l) w).proposition ≡ le 4 p (at + 4)) × ((witness_at (view rules p starts l) w).polarity ≡ get_or p (at + 8) 0)
+  unfolding witness_view
+  witness_reads w at h e =
+      let is = witness_at_lem w h in (rw (is, e) refl, rw (is, e, le_1 p (l.witnesses_at + l.witness_size * w + 8)) refl)

@@ -1,19 +1,16 @@
 -- From the structs and enums of the last pass to the definitions' types.
-use Rattle.std.specs.Prelude.{ℕ, ◌≡◌, List, [], length, eqb}
-use Rattle.local_format.specs.Out.{Out, ok, refused, check, ◌>>=◌, ◌>>◌}
+use Rattle.std.specs.Prelude.{ℕ, ◌≡◌, List, [], length, Result, Ok, Err}
+use Rattle.local_format.specs.Out.{Out, ok, refused, ◌>>=◌}
 use Rattle.local_format.specs.Maps.{refusal_out}
+use Rattle.local_format.specs.declared.refusal.Refusal.{Refusal}
 use Rattle.lent_table.specs.Lent.{lent}
-use Rattle.derivation.specs.Rule.{Rule, polarity_fits}
+use Rattle.derivation.specs.Rule.{Rule}
 use Rattle.derivation.specs.Section as section
 use Rattle.evr0_head.specs.Maps.{counts_out}
 use Rattle.evr0_rules.specs.Maps.{asking}
-use Rattle.evr0_fields.specs.declared.check.Checked.{Checked}
-use Rattle.evr0_fields.specs.declared.check.Checked.TheVariants as checked
 use Rattle.evr0_pass.specs.View as view
 use Rattle.evr0_pass.specs.declared.pass.Layout.{Layout}
 use Rattle.evr0_pass.specs.declared.pass.SettledProof.{SettledProof}
-use Rattle.evr0_pass.specs.declared.pass.Depth.{Depth}
-use Rattle.evr0_pass.specs.declared.pass.Depth.TheVariants as depth
 
 abbrev pub layout_out : Layout → view.Layout
 layout_out l =
@@ -38,14 +35,10 @@ proof_out rule p =
       operation = p.authorized_operation;
     }
 
-abbrev pub depth_out : Depth → Out ℕ
-depth_out (depth.Found d) = ok d
-depth_out (depth.Refused r) = refused (refusal_out r)
-
 -- the lent table where the pass is done
-abbrev pub filled : Checked → List ℕ → Out (List ℕ)
-filled checked.Passed ds = ok ds
-filled (checked.Refused r) ds = refused (refusal_out r)
+abbrev pub filled : Result (Unit {0}) Refusal → List ℕ → Out (List ℕ)
+filled (Ok u) ds = ok ds
+filled (Err r) ds = refused (refusal_out r)
 
 -- whether the pass is done, or its refusal
 abbrev pub done_in : Out (List ℕ) → Out (Unit {0})
@@ -61,7 +54,3 @@ depths_in (refused r) = []
 pub record Derives (x : Out (List ℕ)) (before after : List ℕ) (given : Out (Unit {0})) : Type 0 where
   pub answer : given ≡ done_in x
   pub depths : after ≡ lent (length before) (depths_in x)
-
--- what a witness of this proposition and polarity is answered, under a rule and for a proof's own proposition
-abbrev pub suited : Rule → ℕ → ℕ → ℕ → Out (Unit {0})
-suited rule own found polarity = check (eqb found own) 28 0 >> check (polarity_fits rule polarity) 29 0

@@ -1,21 +1,21 @@
 // The last pass, over a payload whose tables have been read: each parent 25 and 26, the depth 27, the witnesses 28 and 29.
-ghost use Rattle.std.specs.Prelude.{◌≡◌, ◌&&◌, List, ℕ, ◌+◌, ◌*◌, ◌≤◌, ◌<◌, max, eqb, ltb, leb, length, take};
+ghost use Rattle.std.specs.Prelude.{◌≡◌, ◌&&◌, ℕ, ◌+◌, ◌*◌, ◌≤◌, ◌<◌, List, eqb, length, get_or, take};
 ghost use Rattle.local_format.specs.Field.{le};
+ghost use Rattle.local_format.specs.Maps.{answer_out};
 ghost use Rattle.derivation.specs.Rule as derivation;
 ghost use Rattle.derivation.specs.Pass as of;
-ghost use Rattle.evr0_fields.specs.Maps.{checked_out};
 ghost use Rattle.evr0_rules.specs.Maps.{asking};
-ghost use Rattle.evr0_pass.specs.View.{nameless, proof_by, after_name, WitnessesThere, TablesThere, PolaritiesThere, ProofDue};
-ghost use Rattle.evr0_pass.specs.Maps.{layout_out, tables_in, proof_out, depth_out, filled, Derives, suited};
+ghost use Rattle.evr0_pass.specs.View.{nameless, proof_by, after_name, WitnessesThere, TablesThere, PolaritiesThere};
+ghost use Rattle.evr0_pass.specs.Maps.{layout_out, tables_in, proof_out, filled, Derives};
 
-use evr0_fields::check::Checked;
 use evr0_fields::number::{ProofNumber, PropositionIndex, WitnessNumber};
 use evr0_head::counts::Counts;
-use local_format::field::{u16_at, u32_at};
-use local_format::refusal::Refusal;
+use evr0_rules::rule::polarity_fits;
+use local_format::field::LittleEndian;
+use local_format::refusal::{Refusal, check};
 
 // The counts of the tables, the size of a witness, and where the tables of the witnesses and of the parents start.
-#[derive(Clone, Copy)]
+#[derive(Clone, Copy, Debug, PartialEq, Eq)]
 pub struct Layout {
     pub counts: Counts,
     pub witness_size: usize,
@@ -24,7 +24,7 @@ pub struct Layout {
 }
 
 // A proof with the polarity that its rule asks.
-#[derive(Clone, Copy)]
+#[derive(Clone, Copy, Debug, PartialEq, Eq)]
 pub struct SettledProof {
     pub proof_id: ProofNumber,
     pub proposition_index: PropositionIndex,
@@ -37,10 +37,13 @@ pub struct SettledProof {
     pub authorized_operation: u8,
 }
 
-#[derive(Drop)]
-pub enum Depth {
-    Found(u64),
-    Refused(Refusal),
+// A payload whose tables have been read: the places where its proofs start, and its layout.
+#[derive(Clone, Copy)]
+pub struct Tables<'a> {
+    pub payload: &'a [u8],
+    pub starts: &'a [u64],
+    pub layout: Layout,
+    pub ghost there: { TablesThere payload.now starts.now (layout_out layout) },
 }
 
 // The place after the rule's name of the proof at `start`.
@@ -48,106 +51,7 @@ fn after_name(payload: &[u8], start: usize) -> usize
     requires { after_name payload.now start ≤ length payload.now }
     ensures { result ≡ after_name payload.now start }
 {
-    start + 10 + (u16_at(payload, start + 8) as usize)
-}
-
-// The proof at `start`, whose rule asks this polarity.
-fn proof_at(payload: &[u8], start: usize, polarity: u64) -> SettledProof
-    requires { after_name payload.now start + 24 ≤ length payload.now }
-    ensures { (rule : derivation.Rule) → proof_out rule result ≡ proof_by (asking polarity rule) payload.now start }
-{
-    let rest = after_name(payload, start);
-    SettledProof {
-        proof_id: ProofNumber(u32_at(payload, start)),
-        proposition_index: PropositionIndex(u32_at(payload, start + 4)),
-        polarity,
-        authority_context: u32_at(payload, rest),
-        witness_first: WitnessNumber(u32_at(payload, rest + 4)),
-        witness_count: u32_at(payload, rest + 8),
-        parent_first: u32_at(payload, rest + 12),
-        parent_count: u32_at(payload, rest + 16),
-        authorized_operation: payload[rest + 20],
-    }
-}
-
-// Whether a parent's number is below its proof's, and at least `least`.
-fn rises(parent: usize, number: usize, least: usize) -> bool
-    ensures { result ≡ (ltb parent number && leb least parent) }
-{
-    if parent < number {
-        return least <= parent;
-    }
-    false
-}
-
-// Whether the proof at `start` has the proposition and the authority of `proof`.
-fn agrees(payload: &[u8], start: usize, proof: SettledProof) -> bool
-    requires { after_name payload.now start + 24 ≤ length payload.now }
-    ensures { result ≡ (eqb (le 4 payload.now (start + 4)) proof.proposition_index.0 && eqb
-        (le 4 payload.now (after_name payload.now start)) proof.authority_context) }
-{
-    let own = proof.proposition_index.0;
-    let proposition = u32_at(payload, start + 4);
-    if proposition != own {
-        return false;
-    }
-    u32_at(payload, after_name(payload, start)) == proof.authority_context
-}
-
-fn larger(a: u64, b: u64) -> u64
-    ensures { result ≡ max a b }
-{
-    if a < b { b } else { a }
-}
-
-// The parents of `proof`: the greatest of their depths, 0 without parents.
-fn parents_from(
-    payload: &[u8],
-    starts: &[u64],
-    tables: Layout,
-    depths: &[u64],
-    proof: SettledProof,
-) -> Depth
-    requires { ProofDue payload.now starts.now (layout_out tables) depths.now (proof_out nameless proof) }
-    ensures { (rules : List derivation.Rule) (rule : derivation.Rule)
-        → depth_out result ≡ of.parents_from tables.parents_at (tables_in rules payload.now starts.now tables)
-        (proof_out rule proof) (take proof.proof_id.0 depths.now) proof.parent_count proof.parent_first 0 0 }
-{
-    let number = proof.proof_id.place();
-    let mut cell = evr0_fields::number::wide(proof.parent_first);
-    let end = cell + evr0_fields::number::wide(proof.parent_count);
-    let mut least: usize = 0;
-    let mut deepest: u64 = 0;
-    while cell < end {
-        let at = tables.parents_at + 4 * cell;
-        let parent = ProofNumber(u32_at(payload, at)).place();
-        let rise = rises(parent, number, least);
-        if !rise {
-            return Depth::Refused(local_format::refusal::refuse(25, at));
-        }
-        let agree = agrees(payload, starts[parent] as usize, proof);
-        if !agree {
-            return Depth::Refused(local_format::refusal::refuse(26, at));
-        }
-        deepest = larger(deepest, depths[parent]);
-        least = parent + 1;
-        cell += 1;
-    }
-    Depth::Found(deepest)
-}
-
-// One witness of a proof: its proposition is the proof's, else 28; its polarity is the one that the proof's rule asks, else 29.
-fn suits(asked: u64, own: PropositionIndex, found: PropositionIndex, polarity: u8) -> Checked
-    ensures { (rule : derivation.Rule) → checked_out result ≡ suited (asking asked rule) own.0 found.0 polarity }
-{
-    if found.0 != own.0 {
-        return evr0_fields::check::refused(28, 0);
-    }
-    let fits = evr0_rules::rule::polarity_fits(asked, polarity);
-    if !fits {
-        return evr0_fields::check::refused(29, 0);
-    }
-    Checked::Passed
+    start + 10 + (u16::le_at(payload, start + 8) as usize)
 }
 
 // Where a witness starts in a payload of this length.
@@ -158,103 +62,134 @@ pub fn witness_start(len: usize, tables: Layout, witness: usize) -> usize
     tables.witnesses_at + tables.witness_size * witness
 }
 
-// The witnesses of `proof`.
-fn witnesses_from(payload: &[u8], tables: Layout, proof: SettledProof) -> Checked
-    requires witnesses_there { WitnessesThere (length payload.now) (layout_out tables) }
-    requires witness_count_bound { proof.witness_first.0 + proof.witness_count ≤ tables.counts.witnesses }
-    ensures { (rules : List derivation.Rule) (rule : derivation.Rule) (starts : List ℕ) → checked_out result
-        ≡ of.witnesses_from tables.parents_at (tables_in rules payload.now starts tables) (proof_out rule proof) proof.witness_count
-        proof.witness_first.0 }
-{
-    let mut witness = proof.witness_first.place();
-    let end = witness + evr0_fields::number::wide(proof.witness_count);
-    while witness < end {
-        let at = witness_start(payload.len(), tables, witness);
-        let own = proof.proposition_index;
-        let found = PropositionIndex(u32_at(payload, at + 4));
-        let checked = suits(proof.polarity, own, found, payload[at + 8]);
-        match checked {
-            Checked::Refused(refusal) => {
-                return Checked::Refused(refusal);
-            }
-            Checked::Passed => {
-                witness += 1;
-            }
+impl<'a> Tables<'a> {
+    ghost use Rattle.evr0_pass.specs.Tables.{tables_by, ProofOf};
+
+    // The proof with this place, whose rule asks this polarity.
+    fn proof_at(&self, i: usize, polarity: u64) -> SettledProof
+        requires { i < length self.now.starts.now }
+        ensures { (rule : derivation.Rule)
+            → proof_out rule result ≡ proof_by (asking polarity rule) self.now.payload.now (get_or self.now.starts.now i 0) }
+    {
+        let payload = self.payload;
+        let start = self.starts[i] as usize;
+        let rest = after_name(payload, start);
+        SettledProof {
+            proof_id: ProofNumber(u32::le_at(payload, start)),
+            proposition_index: PropositionIndex(u32::le_at(payload, start + 4)),
+            polarity,
+            authority_context: u32::le_at(payload, rest),
+            witness_first: WitnessNumber(u32::le_at(payload, rest + 4)),
+            witness_count: u32::le_at(payload, rest + 8),
+            parent_first: u32::le_at(payload, rest + 12),
+            parent_count: u32::le_at(payload, rest + 16),
+            authorized_operation: payload[rest + 20],
         }
     }
-    Checked::Passed
+
+    // Whether the proof with this place has the proposition and the authority of `proof`.
+    fn agrees(&self, i: usize, proof: SettledProof) -> bool
+        requires { i < length self.now.starts.now }
+        ensures { let start = get_or self.now.starts.now i 0 in result ≡ (eqb (le 4 self.now.payload.now (start + 4)) proof.proposition_index.0 && eqb
+            (le 4 self.now.payload.now (after_name self.now.payload.now start)) proof.authority_context) }
+    {
+        let payload = self.payload;
+        let start = self.starts[i] as usize;
+        let proposition = u32::le_at(payload, start + 4);
+        let authority = u32::le_at(payload, after_name(payload, start));
+        (proposition == proof.proposition_index.0) & (authority == proof.authority_context)
+    }
+
+    // The parents of `proof`: the greatest of their depths, 0 without parents.
+    fn parents_from(&self, depths: &[u64], proof: SettledProof) -> Result<u64, Refusal>
+        requires { ProofOf self.now depths.now (proof_out nameless proof) }
+        ensures { (rules : List derivation.Rule) (rule : derivation.Rule)
+            → answer_out (λ depth. depth) result ≡ of.parents_from self.now.layout.parents_at (tables_by rules self.now)
+            (proof_out rule proof) (take proof.proof_id.0 depths.now) proof.parent_count proof.parent_first 0 0 }
+    {
+        let number = proof.proof_id.place();
+        let first = proof.parent_first as usize;
+        let end = first + proof.parent_count as usize;
+        let mut least: usize = 0;
+        let mut deepest: u64 = 0;
+        for cell in first..end {
+            let at = self.layout.parents_at + 4 * cell;
+            let parent = ProofNumber(u32::le_at(self.payload, at)).place();
+            check((parent < number) & (least <= parent), 25, at)?;
+            check(self.agrees(parent, proof), 26, at)?;
+            deepest = deepest.max(depths[parent]);
+            least = parent + 1;
+        }
+        Ok(deepest)
+    }
+
+    // The witnesses of `proof`.
+    fn witnesses_from(&self, proof: SettledProof) -> Result<(), Refusal>
+        requires { proof.witness_first.0 + proof.witness_count ≤ self.now.layout.counts.witnesses }
+        ensures { (rules : List derivation.Rule) (rule : derivation.Rule) → answer_out (λ done. done) result
+            ≡ of.witnesses_from self.now.layout.parents_at (tables_by rules self.now) (proof_out rule proof) proof.witness_count
+            proof.witness_first.0 }
+    {
+        let payload = self.payload;
+        let first = proof.witness_first.place();
+        let end = first + proof.witness_count as usize;
+        for witness in first..end {
+            let at = witness_start(payload.len(), self.layout, witness);
+            let proposition = u32::le_at(payload, at + 4);
+            check(proposition == proof.proposition_index.0, 28, 0)?;
+            check(polarity_fits(proof.polarity, payload[at + 8]), 29, 0)?;
+        }
+        Ok(())
+    }
+
+    // One proof, after those whose depths are known.
+    fn depth_of(&self, depths: &[u64], proof: SettledProof) -> Result<u64, Refusal>
+        requires { ProofOf self.now depths.now (proof_out nameless proof) }
+        ensures { (rules : List derivation.Rule) (rule : derivation.Rule)
+            → answer_out (λ depth. depth) result ≡ of.depth_of self.now.layout.parents_at (tables_by rules self.now) (proof_out rule proof)
+            (take proof.proof_id.0 depths.now) }
+    {
+        let deepest = self.parents_from(depths, proof)?;
+        check(deepest < 256, 27, 0)?;
+        self.witnesses_from(proof)?;
+        Ok(deepest + 1)
+    }
+
+    // The depth of each proof at the front of the lent table, which brings the polarities that the proofs' rules ask.
+    fn derive_all(&self, depths: &mut [u64]) -> Result<(), Refusal>
+        requires { length self.now.starts.now ≤ length depths.old }
+        ensures { (rules : List derivation.Rule) → PolaritiesThere rules self.now.payload.now self.now.starts.now depths.old
+            → filled result (take (length self.now.starts.now) depths.new) ≡ of.depths self.now.layout.parents_at (tables_by rules self.now) }
+    {
+        for i in 0..self.starts.len() {
+            let proof = self.proof_at(i, depths[i]);
+            depths[i] = self.depth_of(depths, proof)?;
+        }
+        Ok(())
+    }
 }
 
-// One proof, after those whose depths are known.
-fn depth_of(
+// The depth of each proof, whose starts are given, at the front of the lent table, and zeros past them; a refusal leaves zeros. The table brings the
+// polarities that the proofs' rules ask.
+pub fn derive(
     payload: &[u8],
     starts: &[u64],
-    tables: Layout,
-    depths: &[u64],
-    proof: SettledProof,
-) -> Depth
-    requires { ProofDue payload.now starts.now (layout_out tables) depths.now (proof_out nameless proof) }
-    ensures { (rules : List derivation.Rule) (rule : derivation.Rule)
-        → depth_out result ≡ of.depth_of tables.parents_at (tables_in rules payload.now starts.now tables) (proof_out rule proof)
-        (take proof.proof_id.0 depths.now) }
-{
-    let parents = parents_from(payload, starts, tables, depths, proof);
-    match parents {
-        Depth::Refused(refusal) => Depth::Refused(refusal),
-        Depth::Found(deepest) => {
-            if 256 <= deepest {
-                return Depth::Refused(local_format::refusal::refuse(27, 0));
-            }
-            let witnesses = witnesses_from(payload, tables, proof);
-            match witnesses {
-                Checked::Refused(refusal) => Depth::Refused(refusal),
-                Checked::Passed => Depth::Found(deepest + 1),
-            }
-        }
-    }
-}
-
-// The depth of each proof, whose starts are given, at the front of the lent table, which brings the polarities that the proofs' rules ask.
-fn derive_all(payload: &[u8], starts: &[u64], tables: Layout, depths: &mut [u64]) -> Checked
-    requires { TablesThere payload.now starts.now (layout_out tables) × (length starts.now ≤ length depths.old) }
-    ensures { (rules : List derivation.Rule) → PolaritiesThere rules payload.now starts.now depths.old
-        → filled result (take (length starts.now) depths.new)
-        ≡ of.depths tables.parents_at (tables_in rules payload.now starts.now tables) }
-{
-    let mut i: usize = 0;
-    while i < starts.len() {
-        let proof = proof_at(payload, starts[i] as usize, depths[i]);
-        let found = depth_of(payload, starts, tables, depths, proof);
-        match found {
-            Depth::Refused(refusal) => {
-                return Checked::Refused(refusal);
-            }
-            Depth::Found(depth) => {
-                depths[i] = depth;
-            }
-        }
-        i += 1;
-    }
-    Checked::Passed
-}
-
-// The same, with zeros past the depths; a refusal leaves zeros.
-pub fn derive(payload: &[u8], starts: &[u64], tables: Layout, depths: &mut [u64]) -> Checked
-    requires tables_there { TablesThere payload.now starts.now (layout_out tables) × (length starts.now ≤ length depths.old) }
+    layout: Layout,
+    depths: &mut [u64],
+) -> Result<(), Refusal>
+    requires tables_there { TablesThere payload.now starts.now (layout_out layout) × (length starts.now ≤ length depths.old) }
     requires polarities_there { (rules : List derivation.Rule) × PolaritiesThere rules payload.now starts.now depths.old }
     ensures { (rules : List derivation.Rule) → PolaritiesThere rules payload.now starts.now depths.old
-        → Derives (of.depths tables.parents_at (tables_in rules payload.now starts.now tables))
-        depths.old depths.new (checked_out result) }
+        → Derives (of.depths layout.parents_at (tables_in rules payload.now starts.now layout))
+        depths.old depths.new (answer_out (λ done. done) result) }
 {
-    let derived = derive_all(payload, starts, tables, depths);
-    match derived {
-        Checked::Refused(refusal) => {
-            lent_table::clear(depths);
-            Checked::Refused(refusal)
-        }
-        Checked::Passed => {
-            lent_table::clear_from(depths, starts.len());
-            Checked::Passed
-        }
-    }
+    let tables = Tables {
+        payload,
+        starts,
+        layout,
+    };
+    let derived = tables.derive_all(depths);
+    let filled = if derived.is_ok() { starts.len() } else { 0 };
+    lent_table::clear_from(depths, filled);
+    derived
 }

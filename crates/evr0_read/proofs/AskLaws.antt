@@ -8,13 +8,13 @@ use Rattle.local_format.specs.Number.{numbered, Chosen, choose}
 use Rattle.local_format.proofs.OutLaws.{never, ok_same, refused_same, bind_ok}
 use Rattle.derivation.specs.Rule.{Rule}
 use Rattle.evr0_section.specs.Rows.{Entry}
-use Rattle.evr0_section.specs.Section.{Section, section_at}
-use Rattle.rule_table.specs.ByTable.{Given, rules_given}
+use Rattle.evr0_section.specs.Section.{Section, section_at, decode_section}
+use Rattle.rule_table.specs.ByTable.{Given, four, rules_given, decode_by}
 use Rattle.evr0.specs.Answer.{Lent, room_of, decode_given}
-use Rattle.evr0_read.specs.Asked.{telling, Asks, AnswersBy}
+use Rattle.evr0_read.specs.Asked.{telling, Asks, Answers, AnswersBy}
 use Rattle.evr0_read.specs.Ask.{Place, place_by, place_told}
-use Rattle.evr0_read.specs.Entry.{shown, record_at}
-use Rattle.evr0_read.specs.Listing.{payload_to, payload_of}
+use Rattle.evr0_read.specs.Listing.{payload_to}
+use Rattle.evr0_read.specs.Numbered.{Decoded, Reads, shown_told}
 use Rattle.evr0_read.proofs.FindLaws.{by_given}
 
 -- a refusal
@@ -63,12 +63,21 @@ module _ {E : Type 0} (table : Section → List (Entry E)) (k : ℕ) (which : Gi
       }
 
   -- the record at the place, read by the section's schema
-  pub read_there : {X A B : Type 0} (read : ℕ → List ℕ → Out X) (place : ℕ → X → A) (show : ℕ → E → A) (give : Out (Entry A) → B)
-      → ((rules : List Rule) (d : Section) → section_at rules (room_of before) bytes cursor ≡ ok d → (k : ℕ) (e : Entry E) → numbered k (table d) ≡ ok e
-      → record_at (read d.tables.head.schema) place (payload_of bytes cursor d) e.start ≡ ok (shown show e))
-      → {at : Place} → found ≡ ok at → {q : List ℕ} → q ≡ payload_to bytes cursor at.end → {r : B}
-      → r ≡ give (record_at (read at.schema) place q at.start)
-      → AnswersBy which ask (λ y. give (telling (λ c. shown show c.value) y)) bytes cursor before after r
-  read_there read place show give each e g h =
+  pub read_there : {A : Type 0} (show : ℕ → E → A) {place : Place} → found ≡ ok place → {q : List ℕ} → q ≡ payload_to bytes cursor place.end
+      → {r : Out (Entry A)} → Reads table show q place.schema place.start r
+      → AnswersBy which ask (shown_told show) bytes cursor before after r
+  read_there show e payload reads =
       let t = there e in
-      record { answer = h ∙ ap give (rw (g, t.by, t.asked) (each t.rules t.section t.is k t.entry t.at)); tables = finding.tables }
+      let decoded : Decoded bytes cursor t.section = record { rules = t.rules; room = room_of before; is = t.is } in
+      record {
+        answer = reads bytes cursor t.section decoded (payload ∙ ap (λ (p : Place). payload_to bytes cursor p.end) t.by)
+            (ap (λ (p : Place). p.schema) t.by) k t.entry t.at (ap (λ (p : Place). p.start) t.by)
+            ∙ sym (ap (shown_told show) t.asked);
+        tables = finding.tables;
+      }
+
+-- ---- By the four, which `decode_section` goes by
+pub by_four : {E B : Type 0} {asked : Out Section → Out (Chosen Section E)} {tell : Out (Chosen Section E) → B} (bytes : List ℕ) (cursor : ℕ)
+    {before after : Lent} {r : B} → AnswersBy four asked tell bytes cursor before after r → Answers asked tell bytes cursor before after r
+unfolding decode_section decode_by
+by_four bytes cursor a = a

@@ -1,32 +1,19 @@
 -- A record at a place, as the reader there answers it; and that its text's place in the payload is one of 64 bits.
 use Prim.Native.Nat.{ℕ, ◌+◌, ◌-◌, ◌^◌, ◌≤◌, ◌<◌}
-use mathlib.Core.Path.{◌≡◌, refl, sym, ap, ap₂, subst, ◌∙◌}
+use mathlib.Core.Path.{◌≡◌, subst}
 use mathlib.Core.List.{List}
 use native.Mathlib.Omega.{arith}
 use lib.ListN.{length, drop, length-drop}
-use Rattle.local_format.specs.Refusal.{Refusal}
-use Rattle.local_format.specs.Out.{Out, ok, refused}
+use Rattle.local_format.specs.Out.{Out, ok}
 use Rattle.local_format.specs.Text.{Span, section_field, text_at}
-use Rattle.local_format.proofs.OutLaws.{never, bind_ok, ok_same}
+use Rattle.local_format.proofs.OutLaws.{bind_ok, ok_same}
 use Rattle.local_format.proofs.TextLaws.{text_ok}
-use Rattle.evr0_section.specs.Rows.{Sized, Entry}
+use Rattle.evr0_section.specs.Rows.{Sized}
 use Rattle.evr0_section.specs.Proposition.{Proposition, proposition_of}
 use Rattle.evr0_section.specs.Proof.{ProofRecord, zeros_at, proof_of}
-use Rattle.evr0_section.specs.Witness.{WitnessRecord}
-use Rattle.evr0_fields.specs.Maps.{Beside}
-use Rattle.evr0_records.specs.Maps as records
 use Rattle.evr0_read.specs.Entry.{record_at}
-use Rattle.evr0_read.specs.Maps.{witness_beside}
-
--- what a reader answered of the part from a place on, where its answer was matched
-pub read_at : {R X : Type 0} (out : R → Out X) (read : List ℕ → Out X) {r x : R} {s t : List ℕ} → out r ≡ read s → s ≡ t → r ≡ x → read t ≡ out x
-read_at out read e f g = sym (e ∙ ap read f) ∙ ap out g
 
 module _ {X A : Type 0} (read : List ℕ → Out X) (place : ℕ → X → A) (p : List ℕ) (start : ℕ) where
-  pub record_refused : {r : Refusal} → read (drop start p) ≡ refused r → refused r ≡ record_at read place p start
-  unfolding record_at
-  record_refused e = rw e
-
   pub record_found : {x : X} {y : A} → read (drop start p) ≡ ok x → y ≡ place start x
       → ok (record { start = start; item = y }) ≡ record_at read place p start
   unfolding record_at
@@ -70,18 +57,3 @@ rule_lies s e =
 pub place_fits : (p : List ℕ) (start : ℕ) (t : Span) → length p < 2 ^ 64 → Lies (drop start p) t
     → (start + t.start ≤ 18446744073709551615) × (start + t.next ≤ 18446744073709551615)
 place_fits p start t l h = let d : t.next ≤ length p - start = rw length-drop at h.next in (omega (arith, h.some, h.start), omega (arith, h.some))
-
--- ---- Witnesses: what stands beside the answer
-
-pub beside_answer : (x : Out (Sized WitnessRecord)) → (records.witness_beside x).answer ≡ x
-beside_answer (ok w) = refl
-beside_answer (refused r) = refl
-
-abbrev refused_with : Refusal → List ℕ → List ℕ → Beside (Entry WitnessRecord)
-refused_with r first second = record { first = first; second = second; answer = refused r }
-
-pub refused_beside : {b : Beside (Sized WitnessRecord)} (x : Out (Sized WitnessRecord)) {r : Refusal} → b ≡ records.witness_beside x → x ≡ refused r
-    → refused_with r b.first b.second ≡ witness_beside (refused r)
-refused_beside (ok w) e h = absurd (never (sym h))
-refused_beside (refused q) {r} e h =
-    ap₂ (refused_with r) (ap (λ (c : Beside (Sized WitnessRecord)). c.first) e) (ap (λ (c : Beside (Sized WitnessRecord)). c.second) e)

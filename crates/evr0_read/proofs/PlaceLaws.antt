@@ -1,33 +1,11 @@
--- The payload between two cursors; and where a witness and a parent cell start: before the end of the payload where the number is in its
--- table, and otherwise 0.
-use Prim.Native.Nat.{ℕ, ◌+◌, ◌-◌, ◌*◌, ◌/◌, ◌≤◌, ◌<◌}
+-- Where a witness and a parent cell start: before the end of the payload where the number is in its table, and otherwise 0.
+use Prim.Native.Nat.{ℕ, ◌+◌, ◌-◌, ◌*◌, ◌≤◌, ◌<◌}
 use mathlib.Core.Path.{◌≡◌, sym, ap, ◌∙◌}
-use mathlib.Core.List.{List, []}
-use native.Mathlib.Nat.{mul-add, mul_comm, le-div_iff_mul-le, div-lt_iff_lt-mul}
+use native.Mathlib.Nat.{mul-add}
 use native.Mathlib.Omega.{arith}
-use lib.ListN.{length, drop, length-drop}
-use lib.Seq.{take_all}
 use borrow.Author.Tests.{lt-ltb, le-ltb}
 use Rattle.evr0_section.specs.Head.{witness_size}
 use Rattle.evr0_read.specs.Place.{witness_place, parent_place}
-use Rattle.evr0_read.specs.Listing.{payload_to}
-
-module _ (bytes : List ℕ) (cursor end : ℕ) where
-  pub no_payload : end < cursor + 8 → [] ≡ payload_to bytes cursor end
-  no_payload h = let z : end - (cursor + 8) ≡ 0 = omega arith in rw z
-
-  pub payload_cut : length bytes < end → cursor + 8 ≤ end → drop (cursor + 8) bytes ≡ payload_to bytes cursor end
-  payload_cut h l = sym (take_all (end - (cursor + 8)) (drop (cursor + 8) bytes) (rw length-drop (omega arith)))
-
--- ---- Over the size of a record
-
--- so many records, which end at a place, fit there or not
-module _ (end size count : ℕ) (some : 1 ≤ size) where
-  pub fit : count ≤ end / size → size * count ≤ end
-  fit h = rw mul_comm ((le-div_iff_mul-le {k = size} {x = count} {y = end} some).0 h)
-
-  pub no_fit : end / size < count → 0 ≡ end - size * count
-  no_fit h = let l : end < size * count = rw mul_comm ((div-lt_iff_lt-mul {k = size} {x = end} {y = count} some).0 h) in omega arith
 
 -- so many steps back, in two parts
 pub steps_back : (len a b : ℕ) → len - b - a ≡ len - (a + b)

@@ -5,4 +5,5 @@ pub mod ask;
 pub mod cell;
 pub mod entry;
 pub mod find;
+pub mod numbered;
 pub mod table;

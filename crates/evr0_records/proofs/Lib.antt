@@ -1,5 +1,4 @@
 pub mod NameLaws
 pub mod OrderLaws
-pub mod ProofLaws
 pub mod RestLaws
 pub mod RuledLaws

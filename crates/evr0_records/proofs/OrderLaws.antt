@@ -1,42 +1,76 @@
--- Two byte strings compared from a place on, by a byte or by a field.
-use Prim.Native.Nat.{ℕ, zero, suc, ◌+◌, ◌≤◌, ◌<◌}
+-- The library's orders of numbers and of byte strings are the definitions'.
+use Prim.Native.Nat.{ℕ}
+use mathlib.Core.Path.{◌≡◌, refl}
+use mathlib.Core.Bool.{Bool, true, false, cond}
 use native.Mathlib.Omega.{arith}
-use borrow.Author.Tests.{le-ltb}
-use mathlib.Core.Path.{◌≡◌}
-use mathlib.Core.List.{List}
-use native.Mathlib.Numerals.{add-one}
-use lib.ListN.{length, get_or, drop, drop_of_length-le}
-use lib.Seq.{drop-cons}
-use Rattle.local_format.specs.Field.{le}
-use Rattle.evr0_section.specs.Proposition.{less, equal, greater, and_then, compare, compare_bytes}
+use lib.Dec.{ltb, eqb}
+use borrow.Author.Tests.{ltb-true, ltb-false, eq-eqb, ne_eqb}
+use mathlib.Core.List.{List, [], ◌∷◌}
+use Rattle.std.specs.Cmp.Lexicographic.{slice_cmp}
+use Rattle.std.specs.Ordering.{nat_cmp, ordering_then, is_lt}
+use Rattle.std.specs.declared.cmp.Ordering.{Ordering}
+use Rattle.std.specs.declared.cmp.Ordering.TheVariants.{Less, Equal, Greater}
+use Rattle.evr0_section.specs.Proposition.{Order, less, equal, greater, and_then, compare, compare_bytes, is_less, Key, compare_keys}
+use Rattle.evr0_records.specs.Maps.{order_out}
 
-module _ (a b : List ℕ) (i : ℕ) where
-  pub both_go_on : i < length a → i < length b
-      → compare_bytes (drop i a) (drop i b) ≡ and_then (compare (get_or a i 0) (get_or b i 0)) (compare_bytes (drop (i + 1) a) (drop (i + 1) b))
-  unfolding compare_bytes
-  both_go_on h k = rw (add-one, drop-cons a i 0 h, drop-cons b i 0 k)
+pub number_order : (a b : ℕ) → order_out (nat_cmp a b) ≡ compare a b
+unfolding compare
+number_order a b = go (ltb a b) refl (ltb b a) refl
+  where
+    go : (t : Bool) → ltb a b ≡ t → (u : Bool) → ltb b a ≡ u
+        → order_out (cond t Less (cond (eqb a b) Equal Greater)) ≡ cond t less (cond u greater equal)
+    go true h u k = refl
+    go false h true k = rw (ne_eqb a b (λ e. absurd (omega (arith, ltb-true b a k))))
+    go false h false k = rw (eq-eqb a b (omega (arith, ltb-false a b h, ltb-false b a k)))
 
-  pub second_ends : i < length a → length b ≤ i → compare_bytes (drop i a) (drop i b) ≡ greater
-  unfolding compare_bytes
-  second_ends h k = rw (drop-cons a i 0 h, drop_of_length-le b k)
+pub then_order : (x y : Ordering) → order_out (ordering_then x y) ≡ and_then (order_out x) (order_out y)
+then_order Less y = refl
+then_order Equal y = refl
+then_order Greater y = refl
 
-  pub first_ends : length a ≤ i → i < length b → compare_bytes (drop i a) (drop i b) ≡ less
-  unfolding compare_bytes
-  first_ends h k = rw (drop_of_length-le a h, drop-cons b i 0 k)
+pub bytes_order : (a b : List ℕ) → order_out (slice_cmp nat_cmp a b) ≡ compare_bytes a b
+unfolding compare_bytes
+bytes_order [] [] = refl
+bytes_order [] (y ∷ ys) = refl
+bytes_order (x ∷ xs) [] = refl
+bytes_order (x ∷ xs) (y ∷ ys) = rw (then_order, number_order, bytes_order xs ys)
 
-  pub both_end : length a ≤ i → length b ≤ i → compare_bytes (drop i a) (drop i b) ≡ equal
-  unfolding compare_bytes
-  both_end h k = rw (drop_of_length-le a h, drop_of_length-le b k)
+pub less_order : (x : Ordering) → is_lt x ≡ is_less (order_out x)
+less_order Less = refl
+less_order Equal = refl
+less_order Greater = refl
 
--- a field that both have
-pub field_goes_on : (width : ℕ) (a b : List ℕ) → ((k : ℕ) → get_or a k 0 < 256) → ((k : ℕ) → get_or b k 0 < 256)
-    → (i : ℕ) → i + width ≤ length a → i + width ≤ length b → le width a i ≡ le width b i
-    → compare_bytes (drop i a) (drop i b) ≡ compare_bytes (drop (i + width) a) (drop (i + width) b)
-unfolding le compare
-field_goes_on zero a b p q i h k e = let z : i + 0 ≡ i = omega arith in rw z
-field_goes_on (suc width) a b p q i h k e =
-    let z : i + suc width ≡ i + 1 + width = omega arith in
-    let x : get_or a i 0 ≡ get_or b i 0 = omega (arith, p i, q i) in
-    let y : le width a (i + 1) ≡ le width b (i + 1) = omega (arith, p i, q i) in
-    rw (z, both_go_on a b i (omega arith) (omega arith), le-ltb (get_or a i 0) (get_or b i 0) (omega arith), le-ltb (get_or b i 0) (get_or a i 0) (omega arith))
-    (field_goes_on width a b p q (i + 1) (omega arith) (omega arith) y)
+then_assoc : (x y z : Order) → and_then (and_then x y) z ≡ and_then x (and_then y z)
+then_assoc less y z = refl
+then_assoc equal y z = refl
+then_assoc greater y z = refl
+
+-- propositions by kind's bytes, then owner, scope, type
+module _ (a b : Key) where
+  abbrev by_kind : Ordering
+  by_kind = slice_cmp nat_cmp a.kind b.kind
+
+  abbrev by_owner : Ordering
+  by_owner = ordering_then by_kind (nat_cmp a.owner b.owner)
+
+  abbrev by_scope : Ordering
+  by_scope = ordering_then by_owner (nat_cmp a.scope b.scope)
+
+  abbrev by_type : Ordering
+  by_type = ordering_then by_scope (nat_cmp a.type b.type)
+
+  pub keys_order : is_lt by_type ≡ is_less (compare_keys a b)
+  unfolding compare_keys
+  keys_order =
+      rw (
+        less_order by_type,
+        then_order by_scope (nat_cmp a.type b.type),
+        then_order by_owner (nat_cmp a.scope b.scope),
+        then_order by_kind (nat_cmp a.owner b.owner),
+        bytes_order a.kind b.kind,
+        number_order a.owner b.owner,
+        number_order a.scope b.scope,
+        number_order a.type b.type,
+        then_assoc (and_then (compare_bytes a.kind b.kind) (compare a.owner b.owner)) (compare a.scope b.scope) (compare a.type b.type),
+        then_assoc (compare_bytes a.kind b.kind) (compare a.owner b.owner),
+      )

@@ -1,16 +1,18 @@
 -- What follows a proof's rule: the fields of its 24 bytes where they are all there, else the first field that is cut, field by field.
 use Prim.Native.Nat.{ℕ, ◌+◌, ◌-◌, ◌*◌, ◌/◌, ◌≤◌, ◌<◌}
-use mathlib.Core.Path.{◌≡◌, ap, ◌∙◌}
+use mathlib.Core.Path.{◌≡◌, refl, ap, ◌∙◌}
 use mathlib.Core.List.{List}
 use native.Mathlib.Omega.{arith}
-use lib.Dec.{eqb}
-use lib.ListN.{length, get_or}
-use borrow.Author.Tests.{le-leb, lt-leb, eq-eqb, ne_eqb}
+use lib.Dec.{eqb, leb}
+use mathlib.Core.Bool.{Bool, true, false}
+use lib.ListN.{length, get_or, drop, length-drop}
+use Rattle.std.specs.Array.{IsFirstChunk}
+use borrow.Author.Tests.{le-leb, lt-leb, leb-true, leb-false, eq-eqb, ne_eqb}
 use Rattle.local_format.specs.Out.{Out, ok, refuse, check, ◌>>=◌, ◌>>◌}
 use Rattle.local_format.specs.Field.{le, field_at}
 use Rattle.local_format.specs.Text.{Span}
 use Rattle.local_format.proofs.FieldLaws.{le_1}
-use Rattle.evr0_fields.proofs.PartLaws.{by_field}
+use Rattle.evr0_fields.proofs.PartLaws.{by_field, in_part}
 use Rattle.evr0_section.specs.Rows.{Sized}
 use Rattle.evr0_section.specs.Proof.{ProofRecord, rest_of, zeros_at}
 
@@ -57,36 +59,57 @@ module _ (s : List ℕ) (number proposition : ℕ) (rule : Span) where
       at_cut : (at : ℕ) → length s ≤ rule.next + 20 → rule.next + (length s - rule.next) / 4 * 4 ≡ at → x ≡ refuse 5 at
       at_cut at h e = short h ∙ ap (refuse 5) e
 
-  pub first_cut : {at : ℕ} → length s ≤ rule.next + 20 → at ≡ rule.next + (length s - rule.next) / 4 * 4
-      → refuse 5 at ≡ rest_of s number proposition rule
-  first_cut l e = by_left (λ h. absurd (omega arith)) (λ h. ap (refuse 5) e)
+  module _ {rest : List ℕ} (e : rest ≡ drop rule.next s) where
+    left : length rest ≡ length s - rule.next
+    left = rw (e, length-drop)
 
-  pub zeros_cut : rule.next + 20 < length s → length s < rule.next + 24 → refuse 5 (rule.next + 21) ≡ rest_of s number proposition rule
-  unfolding zeros_at field_at
-  zeros_cut l m = by_left (λ h. simp (lt-leb (rule.next + 21 + 3) (length s) (omega arith))) (λ h. absurd (omega arith))
+    pub first_cut : length rest ≤ 20 → refuse 5 (rule.next + length rest / 4 * 4) ≡ rest_of s number proposition rule
+    first_cut h = by_left (λ k. absurd (omega (arith, left))) (λ k. rw left)
 
-  -- ---- Where the 24 bytes are there
-  module _ (all : rule.next + 24 ≤ length s) (byte : get_or s (rule.next + 20) 0 < 256) where
-    four : le 4 s (rule.next + 20) ≡ get_or s (rule.next + 20) 0 + 256 * le 3 s (rule.next + 21)
-    unfolding le
-    four = let e : rule.next + 20 + 1 ≡ rule.next + 21 = omega arith in rw e
-
-    zeros : zeros_at s (rule.next + 21) ≡ (check (eqb (le 3 s (rule.next + 21)) 0) 9 (rule.next + 24) >> ok (rule.next + 24))
+    pub zeros_cut : 20 < length rest → length rest < 24 → refuse 5 (rule.next + 21) ≡ rest_of s number proposition rule
     unfolding zeros_at field_at
-    zeros =
-        let z : rule.next + 21 + 3 ≡ rule.next + 24 = omega arith in
-        rw (z, le-leb (rule.next + 24) (length s) all)
+    zeros_cut h k = by_left (λ l. simp (lt-leb (rule.next + 21 + 3) (length s) (omega (arith, left)))) (λ l. absurd (omega (arith, left)))
 
-    pub not_zeros : 255 < le 4 s (rule.next + 20) → refuse 9 (rule.next + 24) ≡ rest_of s number proposition rule
-    not_zeros l =
-        let n : le 3 s (rule.next + 21) ≡ 0 → ⊥ = λ e. omega (arith, four) in
-        by_left (λ h. rw (zeros, ne_eqb (le 3 s (rule.next + 21)) 0 n)) (λ h. absurd (omega arith))
+    -- ---- Where the 24 bytes are there: the operation and three zeros are one number of four bytes
+    module _ {part : List ℕ} (c : IsFirstChunk rest part 24) (fits : (i : ℕ) → get_or s i 0 < 256) where
+      all : rule.next + 24 ≤ length s
+      all = let h = c.enough in omega (arith, left)
 
-    pub are_zeros : {u v w x y z : ℕ} → u ≡ le 4 s (rule.next + 0) → v ≡ le 4 s (rule.next + 4) → w ≡ le 4 s (rule.next + 8)
-        → x ≡ le 4 s (rule.next + 12) → y ≡ le 4 s (rule.next + 16) → z ≡ le 4 s (rule.next + 20) → z ≤ 255
-        → answer u v w x y z (rule.next + 24) ≡ rest_of s number proposition rule
-    are_zeros {u} {v} {w} {x} {y} {z} a b c d e f l =
-        let n : le 3 s (rule.next + 21) ≡ 0 = omega (arith, four) in
-        let o : z ≡ get_or s (rule.next + 20) 0 = omega (arith, four) in
-        let m : rule.next + 0 ≡ rule.next = omega arith in
-        by_left (λ h. rw (zeros, eq-eqb (le 3 s (rule.next + 21)) 0 n, a, m, b, c, d, e, o)) (λ h. absurd (omega arith))
+      four : le 4 part 20 ≡ get_or s (rule.next + 20) 0 + 256 * le 3 s (rule.next + 21)
+      unfolding le
+      four = let k : rule.next + 20 + 1 ≡ rule.next + 21 = omega arith in rw (in_part s rule.next 24 20 e c (omega arith), k)
+
+      zeros : zeros_at s (rule.next + 21) ≡ (check (eqb (le 3 s (rule.next + 21)) 0) 9 (rule.next + 24) >> ok (rule.next + 24))
+      unfolding zeros_at field_at
+      zeros =
+          let z : rule.next + 21 + 3 ≡ rule.next + 24 = omega arith in
+          rw (z, le-leb (rule.next + 24) (length s) all)
+
+      pub rest_there : (check (leb (le 4 part 20) 255) 9 (rule.next + 24)
+          >> answer (le 4 part 0) (le 4 part 4) (le 4 part 8) (le 4 part 12) (le 4 part 16) (le 4 part 20) (rule.next + 24))
+          ≡ rest_of s number proposition rule
+      rest_there = go (leb (le 4 part 20) 255) refl
+        where
+          go : (t : Bool) → leb (le 4 part 20) 255 ≡ t → (check t 9 (rule.next + 24)
+              >> answer (le 4 part 0) (le 4 part 4) (le 4 part 8) (le 4 part 12) (le 4 part 16) (le 4 part 20) (rule.next + 24))
+              ≡ rest_of s number proposition rule
+          go true h =
+              let l : le 4 part 20 ≤ 255 = leb-true (le 4 part 20) 255 h in
+              let n : le 3 s (rule.next + 21) ≡ 0 = omega (arith, four) in
+              let o : le 4 part 20 ≡ get_or s (rule.next + 20) 0 = omega (arith, four) in
+              let m : rule.next + 0 ≡ rule.next = omega arith in
+              by_left (λ k. rw (
+                zeros,
+                eq-eqb (le 3 s (rule.next + 21)) 0 n,
+                o,
+                in_part s rule.next 24 0 e c (omega arith),
+                m,
+                in_part s rule.next 24 4 e c (omega arith),
+                in_part s rule.next 24 8 e c (omega arith),
+                in_part s rule.next 24 12 e c (omega arith),
+                in_part s rule.next 24 16 e c (omega arith),
+              )) (λ k. absurd (let w = all in omega arith))
+          go false h =
+              let l : 255 < le 4 part 20 = leb-false (le 4 part 20) 255 h in
+              let n : le 3 s (rule.next + 21) ≡ 0 → ⊥ = λ z. omega (arith, four, fits (rule.next + 20)) in
+              by_left (λ k. rw (zeros, ne_eqb (le 3 s (rule.next + 21)) 0 n)) (λ k. absurd (let w = all in omega arith))

@@ -1,5 +1,5 @@
 -- A proof with what its rule's text names, by what that text is: the rest hangs on the place after that text, and on nothing else of it.
-use Prim.Native.Nat.{ℕ, ◌+◌, ◌≤◌}
+use Prim.Native.Nat.{ℕ, ◌+◌, ◌≤◌, ◌<◌}
 use mathlib.Core.Path.{◌≡◌, refl, sym, ap, ◌∙◌}
 use mathlib.Core.List.{List}
 use native.Mathlib.Omega.{arith}
@@ -8,11 +8,14 @@ use Rattle.local_format.specs.Out.{Out, ok, refused, ◌>>=◌}
 use Rattle.local_format.specs.Field.{le}
 use Rattle.local_format.specs.Text.{Span, bytes_at, section_field, text_at}
 use Rattle.local_format.proofs.TextLaws.{text_ok}
-use Rattle.derivation.specs.Rule.{Named, unknown}
+use Rattle.local_format.specs.Field.{whole, cut, field_at, or_cut}
+use Rattle.local_format.proofs.OutLaws.{never}
+use Rattle.local_format.proofs.FieldLaws.{field_ok}
+use Rattle.local_format.proofs.TextLaws.{text_no_length}
+use Rattle.derivation.specs.Rule.{Rule, Named, unknown, rule_named}
 use Rattle.rule_table.proofs.Load.{text_read}
-use Rattle.evr0_section.specs.Rows.{Sized}
-use Rattle.evr0_section.specs.Proof.{ProofRecord, rest_of, zeros_at}
-use Rattle.evr0_records.specs.Ruled.{span_by, RuleText, text_by, Ruled, ruled_by}
+use Rattle.evr0_section.specs.Proof.{rest_of, zeros_at}
+use Rattle.evr0_records.specs.Ruled.{NoneNamed, RuleText, text_by, Ruled, ruled_by}
 
 -- steps that are alike after a first one
 alike : {A B C : Type 0} (x : Out A) (f g : A → Out B) (h k : B → Out C)
@@ -39,16 +42,6 @@ module _ (chars : ℕ → ℕ) (s : List ℕ) where
         → ruled_by chars ns s (x >>= rest_of s number proposition) ≡ ruled_by chars ms s (y >>= rest_of s number proposition)
     same_text ns ms x y e = by_text ns x ∙ ap (λ (z : Out RuleText). z >>= rest) e ∙ sym (by_text ms y)
 
-  -- ---- A rule's text
-  pub known_text : (ns ms : List ℕ → Named) {x : Out Span} (a b : Span) → ok b ≡ x → span_by chars a ≡ span_by chars b
-      → ns (bytes_at s a.start a.len) ≡ ms (bytes_at s b.start b.len) → text_by chars ns s (ok a) ≡ text_by chars ms s x
-  known_text ns ms a b e t n = rw (← e, t, n)
-
-  pub unknown_text : (ns ms : List ℕ → Named) {x : Out Span} (y : Out Span) → x ≡ y → ((name : List ℕ) → ns name ≡ unknown)
-      → ((t : Span) → y ≡ ok t → ms (bytes_at s t.start t.len) ≡ unknown) → text_by chars ns s x ≡ text_by chars ms s y
-  unknown_text ns ms (ok t) e n m = rw (e, n (bytes_at s t.start t.len), m t refl)
-  unknown_text ns ms (refused q) e n m = rw e
-
 -- where a text's bytes are
 pub text_place : (s : List ℕ) (at : ℕ) {t : Span} → text_at s at ≡ ok t → (t.start ≡ at + 2) × (t.len ≡ le 2 s at) × (at + 2 + le 2 s at ≤ length s)
 text_place s at e =
@@ -56,15 +49,21 @@ text_place s at e =
     let b = text_read s at e in
     (a.0, omega (arith, a.3, b.end), b.inside)
 
--- ---- With all characters told
-abbrev told : Out Ruled → Out (Sized ProofRecord)
-told x = do
-  r ← x
-  ok (record { item = r.proof; size = r.size })
+-- ---- What stands at a place, and the rules' names
+module _ (rules : List Rule) (s : List ℕ) (at : ℕ) where
+  pub none_cut : cut ≡ field_at 2 s at → NoneNamed rules s at
+  none_cut e = λ t k. absurd (never (text_no_length s at e ∙ k))
 
-all_told : (names : List ℕ → Named) (s : List ℕ) (x : Out (Sized ProofRecord)) → told (ruled_by (λ n. n) names s x) ≡ x
-all_told names s (ok r) = refl
-all_told names s (refused q) = refl
+  module _ {len start : ℕ} (e : whole (record { value = len; next = start }) ≡ field_at 2 s at) where
+    pub placed : (start ≡ at + 2) × (start ≤ length s) × (len ≡ le 2 s at)
+    placed = let f = field_ok 0 2 s at (ap (or_cut 0 at) (sym e)) in (f.0, omega (arith, f.0, f.1), f.2)
 
-pub same_proof : (ns ms : List ℕ → Named) (s : List ℕ) (x y : Out (Sized ProofRecord)) → ruled_by (λ n. n) ns s x ≡ ruled_by (λ n. n) ms s y → x ≡ y
-same_proof ns ms s x y e = sym (all_told ns s x) ∙ ap told e ∙ all_told ms s y
+    pub none_past : length s < start + len → NoneNamed rules s at
+    none_past h = λ t k. absurd (omega (arith, (text_place s at k).2, placed.0, placed.2))
+
+    pub none_known : rule_named rules (bytes_at s start len) ≡ unknown → NoneNamed rules s at
+    none_known h = λ t k.
+        let p = text_place s at k in
+        let x : t.start ≡ start = omega (arith, p.0, placed.0) in
+        let y : t.len ≡ len = omega (arith, p.1, placed.2) in
+        rw (x, y) h

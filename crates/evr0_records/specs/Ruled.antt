@@ -1,8 +1,8 @@
 -- A proof with what its rule's text names: by `names` of the text's bytes in s, and with `chars` of its number of characters.
-use Rattle.std.specs.Prelude.{ℕ, List}
+use Rattle.std.specs.Prelude.{ℕ, ◌≡◌, List}
 use Rattle.local_format.specs.Out.{Out, ok, ◌>>=◌}
-use Rattle.local_format.specs.Text.{Span, bytes_at}
-use Rattle.derivation.specs.Rule.{Named}
+use Rattle.local_format.specs.Text.{Span, bytes_at, text_at}
+use Rattle.derivation.specs.Rule.{Rule, Named, unknown, rule_named}
 use Rattle.evr0_section.specs.Rows.{Sized}
 use Rattle.evr0_section.specs.Proof.{ProofRecord}
 
@@ -22,6 +22,10 @@ record_by chars r =
       parent_count = r.parent_count;
       operation = r.operation;
     }
+
+-- none of the rules has the text at a place as its name
+abbrev pub NoneNamed : List Rule → List ℕ → ℕ → Type 0
+NoneNamed rules s at = (t : Span) → text_at s at ≡ ok t → rule_named rules (bytes_at s t.start t.len) ≡ unknown
 
 pub record RuleText : Type 0 where
   pub text : Span

@@ -1,30 +1,28 @@
 // Proof records and their checks.
-ghost use Rattle.std.specs.Prelude.{◌≡◌, ℕ, List};
-ghost use Rattle.local_format.specs.Out.{refused, refuse};
+ghost use Rattle.std.specs.Prelude.{◌≡◌, ℕ, List, MatchOption};
+ghost use Rattle.local_format.specs.Out.{ok};
 ghost use Rattle.local_format.specs.Text.{text_at};
-ghost use Rattle.local_format.specs.Maps.{refusal_out, text_out};
+ghost use Rattle.local_format.specs.Maps.{answer_out, span_out};
 ghost use Rattle.derivation.specs.Rule as of;
-ghost use Rattle.derivation.specs.Rule.{unknown, rule_named};
+ghost use Rattle.derivation.specs.Rule.{rule_named};
 ghost use Rattle.evr0_section.specs.Proof.{rest_of, proof_of, has_numbers, check_proof};
-ghost use Rattle.evr0_fields.specs.Maps.{span_out};
 ghost use Rattle.evr0_head.specs.Maps.{counts_out};
 ghost use Rattle.evr0_records.specs.Checks.{is_next, is_contiguous, ends_within};
-ghost use Rattle.evr0_records.specs.Maps.{unowned_out, proof_record, proof_out, chars_by, settled_out};
-ghost use Rattle.evr0_records.specs.Ruled.{text_by, ruled_by};
-ghost use Rattle.evr0_rules.specs.Maps.{rule_out, named_out, rules_in, RulesThere};
+ghost use Rattle.evr0_records.specs.Maps.{sized_out, unowned_out, proof_record, chars_by, rule_text_out, ruled_out};
+ghost use Rattle.evr0_records.specs.Ruled.{NoneNamed, text_by, ruled_by};
+ghost use Rattle.evr0_rules.specs.Maps.{rule_out, named_out, book_rules};
 
-use evr0_fields::check::both;
-use evr0_fields::number::{ProofNumber, PropositionIndex, WitnessNumber, wide};
-use evr0_fields::span::Span;
+use crate::sized::Sized;
+use evr0_fields::number::{ProofNumber, PropositionIndex, WitnessNumber};
 use evr0_head::counts::Counts;
-use evr0_rules::find::Named;
 use evr0_rules::rule::Rule;
-use evr0_rules::settle::{Rules, settle};
-use local_format::field::{U16, U32};
-use local_format::refusal::Refusal;
-use local_format::text::Text;
+use evr0_rules::settle::Rulebook;
+use local_format::field::{Field, LittleEndian, field_at};
+use local_format::refusal::{Refusal, check, refuse};
+use local_format::text::{Span, text_at};
 
-#[derive(Clone, Copy)]
+// The operation is the byte that was read, since a record may hold any: 21 compares it with the rule's.
+#[derive(Clone, Copy, Debug, PartialEq, Eq)]
 pub struct Proof {
     pub proof_id: ProofNumber,
     pub proposition_index: PropositionIndex,
@@ -37,44 +35,27 @@ pub struct Proof {
     pub authorized_operation: u8,
 }
 
-#[derive(Drop)]
-pub enum ProofRead {
-    Read { proof: Proof, size: usize },
-    Refused(Refusal),
-}
-
-// The text of a proof's rule, and what it names among the rules of a call.
-#[derive(Drop)]
+// The text of a proof's rule, and the rule of a call that it names.
+#[derive(Clone, Copy)]
 struct RuleText {
-    text: Text,
-    named: Named,
+    text: Span,
+    rule: Option<Rule>,
 }
 
-// A proof, and what the text of its rule names.
-#[derive(Drop)]
+// A proof, how many bytes it takes, and the rule of a call that the text of its rule names.
+#[derive(Clone, Copy, Debug, PartialEq, Eq)]
 pub struct Ruled {
-    pub read: ProofRead,
-    pub named: Named,
+    pub proof: Proof,
+    pub size: usize,
+    pub rule: Option<Rule>,
 }
 
 // The next proof's number, and the next unowned witness and parent cell.
-#[derive(Clone, Copy)]
+#[derive(Clone, Copy, Debug, PartialEq, Eq)]
 pub struct Unowned {
     pub proof: usize,
     pub witness: usize,
     pub parent: usize,
-}
-
-#[derive(Drop)]
-pub enum Settled {
-    By(Rule),
-    Refused(Refusal),
-}
-
-fn cut(at: usize) -> ProofRead
-    ensures { proof_out result ≡ refuse 5 at }
-{
-    ProofRead::Refused(local_format::refusal::refuse(5, at))
 }
 
 // What follows a proof's rule. Where its 24 bytes are there, the fields are read in a part that is just these; the operation and the
@@ -84,264 +65,168 @@ fn read_rest(
     proof_id: ProofNumber,
     proposition_index: PropositionIndex,
     rule_id: Span,
-) -> ProofRead
-    ensures { proof_out result ≡ rest_of tail.now proof_id.0 proposition_index.0 (span_out rule_id) }
+) -> Result<Sized<Proof>, Refusal>
+    ensures { answer_out (sized_out proof_record) result ≡ rest_of tail.now proof_id.0 proposition_index.0 (span_out rule_id) }
 {
     let at = rule_id.next;
-    if tail.len() < at {
-        return cut(at);
-    }
-    let left = tail.len() - at;
-    if left < 24 {
-        if 20 < left {
-            return cut(at + 21);
-        }
-        return cut(at + left / 4 * 4);
-    }
+    let rest = local_format::part::tail(tail, at);
+    let Some(part) = rest.first_chunk::<24>() else {
+        let left = rest.len();
+        let cut = if 20 < left { 21 } else { left / 4 * 4 };
+        return Err(refuse(5, at + cut));
+    };
     let end = at + 24;
-    let part = &tail[at..end];
-    let authority = local_format::field::read_u32_le(part, 0);
-    let U32::Value {
-        value: authority_context,
-        next: _,
-    } = authority
-    else {
-        return cut(at);
-    };
-    let first_witness = local_format::field::read_u32_le(part, 4);
-    let U32::Value {
-        value: witness_first,
-        next: _,
-    } = first_witness
-    else {
-        return cut(at + 4);
-    };
-    let witnesses = local_format::field::read_u32_le(part, 8);
-    let U32::Value {
-        value: witness_count,
-        next: _,
-    } = witnesses
-    else {
-        return cut(at + 8);
-    };
-    let first_parent = local_format::field::read_u32_le(part, 12);
-    let U32::Value {
-        value: parent_first,
-        next: _,
-    } = first_parent
-    else {
-        return cut(at + 12);
-    };
-    let parents = local_format::field::read_u32_le(part, 16);
-    let U32::Value {
-        value: parent_count,
-        next: _,
-    } = parents
-    else {
-        return cut(at + 16);
-    };
-    let last = local_format::field::read_u32_le(part, 20);
-    let U32::Value {
-        value: operation,
-        next: _,
-    } = last
-    else {
-        return cut(at + 20);
-    };
-    if 255 < operation {
-        return ProofRead::Refused(local_format::refusal::refuse(9, end));
-    }
-    ProofRead::Read {
-        proof: Proof {
+    let operation = u32::le_at(part, 20);
+    check(operation <= 255, 9, end)?;
+    Ok(Sized {
+        item: Proof {
             proof_id,
             proposition_index,
             rule_id,
-            authority_context,
-            witness_first: WitnessNumber(witness_first),
-            witness_count,
-            parent_first,
-            parent_count,
+            authority_context: u32::le_at(part, 0),
+            witness_first: WitnessNumber(u32::le_at(part, 4)),
+            witness_count: u32::le_at(part, 8),
+            parent_first: u32::le_at(part, 12),
+            parent_count: u32::le_at(part, 16),
             authorized_operation: operation as u8,
         },
         size: end,
-    }
+    })
 }
 
-// A text that is no rule's name.
-fn read_unknown(tail: &[u8], at: usize) -> RuleText
-    ensures { (text_out result.text ≡ text_at tail.now at) × (((name : List ℕ) → named_out name result.named ≡ unknown)) }
-{
-    RuleText {
-        text: local_format::text::read_text(tail, at),
-        named: Named::Unknown,
-    }
-}
-
-// The text of a rule. A rule's name is known to be a text, so that only what is none is scanned. Such a name's bytes are told as its
+// The text of a rule's name, and the rule of a call that has it. A rule's name is known to be a text, so that it isn't scanned: its bytes are told as its
 // characters, which they are in the names of the four.
-fn read_rule(rules: Rules, table: &[u8], places: &[u64], tail: &[u8], at: usize) -> RuleText
-    requires { RulesThere table.now places.now }
-    ensures { text_by (chars_by rules) (λ name. named_out name result.named) tail.now (text_out result.text)
-        ≡ text_by (chars_by rules) (rule_named (rules_in rules table.now places.now)) tail.now (text_at tail.now at) }
+fn known_at(rules: Rulebook, tail: &[u8], at: usize) -> Option<RuleText>
+    ensures { MatchOption result
+        (NoneNamed (book_rules rules.entry) tail.now at)
+        (λ known. ok (rule_text_out (chars_by rules.entry) tail.now known)
+        ≡ text_by (chars_by rules.entry) (rule_named (book_rules rules.entry)) tail.now (text_at tail.now at)) }
 {
-    let size = local_format::field::read_u16_le(tail, at);
-    let U16::Value { value, next: start } = size else {
-        return read_unknown(tail, at);
-    };
+    let Field { value, next: start } = field_at::<u16>(tail, at)?;
     let len = value as usize;
-    if tail.len() - start < len {
-        return read_unknown(tail, at);
-    }
     let next = start + len;
-    let named = settle(rules, table, places, &tail[start..next]);
-    match named {
-        Named::Known(_) => RuleText {
-            text: Text::Whole {
-                start,
-                len,
-                chars: len,
-                next,
-            },
-            named,
+    let rule = rules.rule_named(tail.get(start..next)?)?;
+    Some(RuleText {
+        text: Span {
+            start,
+            len,
+            chars: len,
+            next,
         },
-        Named::Unknown => read_unknown(tail, at),
-    }
+        rule: Some(rule),
+    })
 }
 
-fn refused(refusal: Refusal) -> Ruled
-    ensures { (chars : ℕ → ℕ) (s : List ℕ) → ruled_by chars (λ name. named_out name result.named) s (proof_out result.read)
-        ≡ refused (refusal_out refusal) }
+// The text of a rule. Only what is no rule's name is scanned.
+fn read_rule(rules: Rulebook, tail: &[u8], at: usize) -> Result<RuleText, Refusal>
+    ensures { answer_out (rule_text_out (chars_by rules.entry) tail.now) result
+        ≡ text_by (chars_by rules.entry) (rule_named (book_rules rules.entry)) tail.now (text_at tail.now at) }
 {
-    Ruled {
-        read: ProofRead::Refused(refusal),
-        named: Named::Unknown,
+    if let Some(known) = known_at(rules, tail, at) {
+        return Ok(known);
     }
+    let text = text_at(tail, at)?;
+    Ok(RuleText { text, rule: None })
 }
 
 // The proof at the front of `tail`, by the rules of a call.
-pub fn read_ruled(rules: Rules, table: &[u8], places: &[u64], tail: &[u8]) -> Ruled
-    requires { RulesThere table.now places.now }
-    ensures { ruled_by (chars_by rules) (λ name. named_out name result.named) tail.now (proof_out result.read)
-        ≡ ruled_by (chars_by rules) (rule_named (rules_in rules table.now places.now)) tail.now (proof_of tail.now) }
+#[tactic(auto, unfolding(evr0_section::specs::Proof::proof_of))]
+pub fn read_ruled(rules: Rulebook, tail: &[u8]) -> Result<Ruled, Refusal>
+    ensures { answer_out (ruled_out (chars_by rules.entry) tail.now) result
+        ≡ ruled_by (chars_by rules.entry) (rule_named (book_rules rules.entry)) tail.now (proof_of tail.now) }
 {
-    let number = local_format::field::read_u32_le(tail, 0);
-    let U32::Value {
-        value: proof_id,
-        next: proposition_at,
-    } = number
+    let Some(
+        Field {
+            value: proof_id,
+            next: proposition_at,
+        },
+    ) = field_at::<u32>(tail, 0)
     else {
-        return refused(local_format::refusal::refuse(5, 0));
+        return Err(refuse(5, 0));
     };
-    let proposition = local_format::field::read_u32_le(tail, proposition_at);
-    let U32::Value {
-        value: proposition_index,
-        next: rule_at,
-    } = proposition
+    let Some(
+        Field {
+            value: proposition_index,
+            next: rule_at,
+        },
+    ) = field_at::<u32>(tail, proposition_at)
     else {
-        return refused(local_format::refusal::refuse(5, proposition_at));
+        return Err(refuse(5, proposition_at));
     };
-    let rule = read_rule(rules, table, places, tail, rule_at);
-    let text = rule.text;
-    let named = rule.named;
-    let Text::Whole {
-        start,
-        len,
-        chars,
-        next: authority_at,
-    } = text
-    else {
-        return refused(local_format::text::text_refusal(text));
-    };
-    let rule_id = Span {
-        start,
-        len,
-        chars,
-        next: authority_at,
-    };
-    let proof_id = ProofNumber(proof_id);
-    let proposition_index = PropositionIndex(proposition_index);
-    Ruled {
-        read: read_rest(tail, proof_id, proposition_index, rule_id),
-        named,
-    }
+    let RuleText { text, rule } = read_rule(rules, tail, rule_at)?;
+    let Sized { item: proof, size } = read_rest(
+        tail,
+        ProofNumber(proof_id),
+        PropositionIndex(proposition_index),
+        text,
+    )?;
+    Ok(Ruled { proof, size, rule })
 }
 
 // The proof at the front of `tail`.
-pub fn read_proof(tail: &[u8]) -> ProofRead
-    ensures { proof_out result ≡ proof_of tail.now }
+pub fn read_proof(tail: &[u8]) -> Result<Sized<Proof>, Refusal>
+    ensures { answer_out (sized_out proof_record) result ≡ proof_of tail.now }
 {
-    let places = [0u64; 0];
-    let ruled = read_ruled(Rules::Four, &tail[..0], &places[..0], tail);
-    ruled.read
-}
-
-fn unsettled(number: u8) -> Settled
-    ensures { (name : List ℕ) → settled_out name result ≡ refuse number 0 }
-{
-    Settled::Refused(local_format::refusal::refuse(number, 0))
-}
-
-// Whether a proof's witness count, parent count and operation are the rule's.
-fn has_numbers(rule: Rule, proof: Proof) -> bool
-    ensures { (name : List ℕ) → result ≡ has_numbers (rule_out name rule) (proof_record proof) }
-{
-    both(
-        proof.witness_count == rule.witnesses as u32,
-        both(
-            proof.parent_count == rule.parents as u32,
-            proof.authorized_operation == rule.operation,
-        ),
-    )
+    let Ruled {
+        proof: item,
+        size,
+        rule: _,
+    } = read_ruled(Rulebook::Four, tail)?;
+    Ok(Sized { item, size })
 }
 
 // Whether a proof's number is its place, and its proposition is there.
 fn is_next(counts: Counts, unowned: Unowned, proof: Proof) -> bool
     ensures { result ≡ is_next (counts_out counts) (unowned_out unowned) (proof_record proof) }
 {
-    both(
-        proof.proof_id.place() == unowned.proof,
-        proof.proposition_index.place() < counts.propositions,
-    )
+    (proof.proof_id.place() == unowned.proof)
+        & (proof.proposition_index.place() < counts.propositions)
 }
 
 // Whether a proof's first witness and first parent are the next unowned.
 fn is_contiguous(unowned: Unowned, proof: Proof) -> bool
     ensures { result ≡ is_contiguous (unowned_out unowned) (proof_record proof) }
 {
-    both(
-        proof.witness_first.place() == unowned.witness,
-        wide(proof.parent_first) == unowned.parent,
-    )
+    (proof.witness_first.place() == unowned.witness)
+        & (proof.parent_first as usize == unowned.parent)
 }
 
 // Whether a proof's witnesses and parents end within their tables. The sums are wide.
 fn ends_within(counts: Counts, proof: Proof) -> bool
     ensures { result ≡ ends_within (counts_out counts) (proof_record proof) }
 {
-    let witnesses = proof.witness_first.place() + wide(proof.witness_count);
-    let parents = wide(proof.parent_first) + wide(proof.parent_count);
-    both(witnesses <= counts.witnesses, parents <= counts.parents)
+    let witnesses = proof.witness_first.place() + proof.witness_count as usize;
+    let parents = proof.parent_first as usize + proof.parent_count as usize;
+    (witnesses <= counts.witnesses) & (parents <= counts.parents)
+}
+
+// Whether a proof's witness count, parent count and operation are the rule's.
+#[tactic(auto, unfolding(evr0_section::specs::Proof::has_numbers))]
+fn has_numbers(rule: Rule, proof: Proof) -> bool
+    ensures { (name : List ℕ) → result ≡ has_numbers (rule_out name rule) (proof_record proof) }
+{
+    (proof.witness_count == rule.witnesses as u32)
+        & ((proof.parent_count == rule.parents as u32)
+            & (proof.authorized_operation == rule.operation))
 }
 
 // The rule of a proof that is the next one, by what its rule's text names.
-pub fn check_proof(named: Named, counts: Counts, unowned: Unowned, proof: Proof) -> Settled
+#[tactic(auto, unfolding(evr0_section::specs::Proof::check_proof))]
+pub fn check_proof(
+    named: Option<Rule>,
+    counts: Counts,
+    unowned: Unowned,
+    proof: Proof,
+) -> Result<Rule, Refusal>
     ensures { (rules : List of.Rule) (name : List ℕ) → named_out name named ≡ rule_named rules name
-        → settled_out name result ≡ check_proof rules (counts_out counts) (unowned_out unowned) name (proof_record proof) }
+        → answer_out (rule_out name) result ≡ check_proof rules (counts_out counts) (unowned_out unowned) name (proof_record proof) }
 {
-    if !is_next(counts, unowned, proof) {
-        return unsettled(17);
-    }
-    if !is_contiguous(unowned, proof) {
-        return unsettled(18);
-    }
-    if !ends_within(counts, proof) {
-        return unsettled(19);
-    }
-    let Named::Known(rule) = named else {
-        return unsettled(20);
+    check(is_next(counts, unowned, proof), 17, 0)?;
+    check(is_contiguous(unowned, proof), 18, 0)?;
+    check(ends_within(counts, proof), 19, 0)?;
+    let Some(rule) = named else {
+        return Err(refuse(20, 0));
     };
-    if !has_numbers(rule, proof) {
-        return unsettled(21);
-    }
-    Settled::By(rule)
+    check(has_numbers(rule, proof), 21, 0)?;
+    Ok(rule)
 }

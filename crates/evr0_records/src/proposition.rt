@@ -1,16 +1,16 @@
 // Proposition records and their order.
 ghost use Rattle.std.specs.Prelude.{◌≡◌};
-ghost use Rattle.local_format.specs.Out.{refuse};
+ghost use Rattle.local_format.specs.Maps.{answer_out};
 ghost use Rattle.evr0_section.specs.Proposition.{proposition_of, compare_keys, is_less, key_of};
-ghost use Rattle.evr0_records.specs.Maps.{proposition_record, proposition_out};
+ghost use Rattle.evr0_records.specs.Maps.{sized_out, proposition_record};
 
-use crate::order::{and_then, is_less};
-use evr0_fields::span::Span;
-use local_format::field::U32;
-use local_format::refusal::Refusal;
-use local_format::text::Text;
+use crate::sized::Sized;
+use evr0_fields::span::bytes_of;
+use local_format::field::{Field, field_at};
+use local_format::refusal::{Refusal, refuse};
+use local_format::text::{Span, text_at};
 
-#[derive(Clone, Copy)]
+#[derive(Clone, Copy, Debug, PartialEq, Eq)]
 pub struct Proposition {
     pub kind: Span,
     pub ast_owner_id: u32,
@@ -18,73 +18,49 @@ pub struct Proposition {
     pub type_obligation_id: u32,
 }
 
-#[derive(Drop)]
-pub enum PropositionRead {
-    Read {
-        proposition: Proposition,
-        size: usize,
-    },
-    Refused(Refusal),
-}
-
-fn cut(at: usize) -> PropositionRead
-    ensures { proposition_out result ≡ refuse 5 at }
-{
-    PropositionRead::Refused(local_format::refusal::refuse(5, at))
-}
-
 // The proposition at the front of `tail`.
-pub fn read_proposition(tail: &[u8]) -> PropositionRead
-    ensures { proposition_out result ≡ proposition_of tail.now }
+#[tactic(auto, unfolding(evr0_section::specs::Proposition::proposition_of))]
+pub fn read_proposition(tail: &[u8]) -> Result<Sized<Proposition>, Refusal>
+    ensures { answer_out (sized_out proposition_record) result ≡ proposition_of tail.now }
 {
-    let kind = local_format::text::read_text(tail, 0);
-    let Text::Whole {
-        start,
-        len,
-        chars,
-        next: owner_at,
-    } = kind
+    let kind = text_at(tail, 0)?;
+    let owner_at = kind.next;
+    let Some(
+        Field {
+            value: ast_owner_id,
+            next: scope_at,
+        },
+    ) = field_at::<u32>(tail, owner_at)
     else {
-        return PropositionRead::Refused(local_format::text::text_refusal(kind));
+        return Err(refuse(5, owner_at));
     };
-    let owner = local_format::field::read_u32_le(tail, owner_at);
-    let U32::Value {
-        value: ast_owner_id,
-        next: scope_at,
-    } = owner
+    let Some(
+        Field {
+            value: semantic_scope_id,
+            next: type_at,
+        },
+    ) = field_at::<u32>(tail, scope_at)
     else {
-        return cut(owner_at);
+        return Err(refuse(5, scope_at));
     };
-    let scope = local_format::field::read_u32_le(tail, scope_at);
-    let U32::Value {
-        value: semantic_scope_id,
-        next: type_at,
-    } = scope
+    let Some(
+        Field {
+            value: type_obligation_id,
+            next: size,
+        },
+    ) = field_at::<u32>(tail, type_at)
     else {
-        return cut(scope_at);
+        return Err(refuse(5, type_at));
     };
-    let obligation = local_format::field::read_u32_le(tail, type_at);
-    let U32::Value {
-        value: type_obligation_id,
-        next: size,
-    } = obligation
-    else {
-        return cut(type_at);
-    };
-    PropositionRead::Read {
-        proposition: Proposition {
-            kind: Span {
-                start,
-                len,
-                chars,
-                next: owner_at,
-            },
+    Ok(Sized {
+        item: Proposition {
+            kind,
             ast_owner_id,
             semantic_scope_id,
             type_obligation_id,
         },
         size,
-    }
+    })
 }
 
 // Whether the proposition `a` at the front of `part` comes before the proposition `b` at the front of `tail`: by kind's bytes, then owner,
@@ -92,14 +68,10 @@ pub fn read_proposition(tail: &[u8]) -> PropositionRead
 pub fn precedes(part: &[u8], a: Proposition, tail: &[u8], b: Proposition) -> bool
     ensures { result ≡ is_less (compare_keys (key_of part.now (proposition_record a)) (key_of tail.now (proposition_record b))) }
 {
-    let a_kind = a.kind;
-    let b_kind = b.kind;
-    let kinds = crate::order::compare_bytes(
-        evr0_fields::span::bytes_of(part, a_kind),
-        evr0_fields::span::bytes_of(tail, b_kind),
-    );
-    let owners = crate::order::compare(a.ast_owner_id, b.ast_owner_id);
-    let scopes = crate::order::compare(a.semantic_scope_id, b.semantic_scope_id);
-    let types = crate::order::compare(a.type_obligation_id, b.type_obligation_id);
-    is_less(and_then(kinds, and_then(owners, and_then(scopes, types))))
+    bytes_of(part, a.kind)
+        .cmp(&bytes_of(tail, b.kind))
+        .then(a.ast_owner_id.cmp(&b.ast_owner_id))
+        .then(a.semantic_scope_id.cmp(&b.semantic_scope_id))
+        .then(a.type_obligation_id.cmp(&b.type_obligation_id))
+        .is_lt()
 }

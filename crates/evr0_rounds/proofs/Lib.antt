@@ -1,3 +1,4 @@
+pub mod TablesLaws
 pub mod KinLaws
 pub mod MarkLaws
 pub mod FillLaws

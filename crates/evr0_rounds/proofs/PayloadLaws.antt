@@ -1,4 +1,4 @@
--- The rounds of a payload from its checked head, its tables and what the lent tables hold: one law for each way that they end.
+-- The rounds of a payload from its tables and what the lent tables hold: one law for each way that they end.
 use Prim.Native.Nat.{ℕ, ◌+◌, ◌≤◌, ◌<◌}
 use mathlib.Core.Path.{◌≡◌, refl, sym, ap, ap₂, ◌∙◌}
 use mathlib.Core.List.{List}
@@ -6,123 +6,98 @@ use native.Mathlib.Omega.{arith}
 use lib.ListN.{length, take}
 use Rattle.local_format.specs.Refusal.{Refusal}
 use Rattle.local_format.specs.Out.{Out, ok, refused, ◌>>=◌}
-use Rattle.local_format.proofs.OutLaws.{bind_ok, ok_same}
+use Rattle.local_format.proofs.OutLaws.{never, bind_ok, ok_same}
 use Rattle.local_format.proofs.Each.{Refuses, answers, answered, each_refused, weaker, under, on}
 use Rattle.lent_table.specs.Lent.{lent}
 use Rattle.derivation.specs.Rule.{Rule}
 use Rattle.derivation.specs.Section.{proof_at, proof_total}
-use Rattle.evr0_section.specs.Head.{Counts, Head, Room, span_width, witness_size, checked_head}
+use Rattle.evr0_section.specs.Head.{Room, span_width, witness_size}
 use Rattle.evr0_section.specs.Rows.{starts_of}
-use Rattle.evr0_section.specs.Section.{Four, Tables, Section, tables_after, whole, section_of, tables_of}
+use Rattle.evr0_section.specs.Section.{Tables, Section, section_of, tables_of}
 use Rattle.evr0_section.proofs.SectionWithin.{tables_refuse}
 use Rattle.rounds.specs.Rounds.{rounds}
 use Rattle.rounds.specs.ByRounds.{rounds_in}
 use Rattle.rounds.proofs.Methods.{rounds_within}
-use Rattle.evr0_tables.specs.PayloadMaps.{Places, Reads}
+use Rattle.evr0_tables.specs.PayloadMaps.{Payload, payload_in, Reads}
 use Rattle.evr0_pass.specs.View.{proof_view, view}
 use Rattle.evr0_pass.specs.Maps.{done_in}
 use Rattle.evr0_pass.proofs.ViewLaws.{proof_total_lem, proof_at_lem}
 use Rattle.evr0_pass.proofs.ViewOf.{layout_of, section_view, tables_there}
 use Rattle.evr0.specs.Answer.{Lent, room_of, Filled}
-use Rattle.evr0.specs.Steps.{HeadThere, passed_in, Passes}
-use Rattle.evr0.proofs.AnswerLaws.{not_passed, refusal_passes}
-use Rattle.evr0.proofs.CheckLaws.{places_read, places_refused, same_tables, f, four_is, read, viewed}
-use Rattle.evr0_rounds.specs.Answer.{answer_of}
-use Rattle.evr0_rounds.specs.Steps.{Fills, Ends}
+use Rattle.evr0.proofs.CheckLaws.{t, are, same, viewed}
+use Rattle.evr0_rounds.specs.Steps.{Fills, Passes}
 
--- ---- The tables and the rounds
-same_done : (t : Tables) (end : ℕ) (y : Out (List ℕ)) → done_in y ≡ passed_in (y >>= λ rs. ok (record { tables = t; depths = rs; cursor = end }))
-same_done t end (ok rs) = refl
-same_done t end (refused r) = refl
+tables_refused : (x : Out Tables) {q : Refusal} → payload_in x ≡ refused q → x ≡ refused q
+tables_refused (ok t) e = absurd (never (sym e))
+tables_refused (refused r) e = cc
 
-module _ (rules : List Rule) (before after : Lent) (p : List ℕ) (schema : ℕ) (counts : Counts) (at : ℕ)
-    (there : HeadThere (room_of before) p schema counts at) where
-  abbrev four : Out Four
-  four = tables_after rules (span_width schema) counts p at
+rounds_refused : (x : Out (List ℕ)) {q : Refusal} → done_in x ≡ refused q → x ≡ refused q
+rounds_refused (ok rs) e = absurd (never (sym e))
+rounds_refused (refused r) e = cc
 
-  pub tables_refused : {ps qs ks : List ℕ} {q : Refusal} → Reads four before.propositions before.proofs before.depths ps qs ks (refused q)
-      → after.propositions ≡ ps → after.proofs ≡ qs → after.depths ≡ ks → (end : ℕ)
+refusal_passes : {x : Out Section} {q : Refusal} → x ≡ refused q → {before after : Lent} → Filled (refused q) before after → Passes x before after (refused q)
+refusal_passes e none = rw e (record { answer = refl; tables = none })
+
+module _ (rules : List Rule) (before : Lent) (p : List ℕ) where
+  abbrev read : Out Tables
+  read = tables_of rules (room_of before) p
+
+  -- refused tables
+  pub not_read : {after : Lent} {q : Refusal} → Reads read before after (refused q) → (end : ℕ)
       → Passes (rounds_in rules (room_of before) p end) before after (refused q)
-  unfolding rounds_in tables_of
-  tables_refused {q = q} r ep eq ek end =
-      let x = places_refused four q (sym r.answer) in
-      let y : tables_after rules (span_width there.head.schema) there.head.counts p there.head.next ≡ refused q =
-      same_tables rules before after p schema counts at there x in
-      let none : rounds_in rules (room_of before) p end ≡ refused q = rw (there.read, y) in
-      refusal_passes none
-      (record { propositions = ep ∙ r.propositions ∙ rw x; proofs = eq ∙ r.proofs ∙ rw x; depths = ek ∙ r.polarities ∙ rw x })
+  unfolding rounds_in
+  not_read {q = q} r end =
+      let x = tables_refused read (sym r.answer) in
+      let none : rounds_in rules (room_of before) p end ≡ refused q = rw x in
+      refusal_passes none (record { propositions = r.propositions ∙ rw x; proofs = r.proofs ∙ rw x; depths = r.polarities ∙ rw x })
 
-  module _ {size : ℕ} (sized : size ≡ witness_size (span_width schema)) {ps qs ks : List ℕ} {g : Places}
-      (r : Reads four before.propositions before.proofs before.depths ps qs ks (ok g)) where
-    abbrev found : Four
-    found = f rules before after p schema counts at there sized r
-
-    -- the rounds as they are made, over what the lent tables hold
+  -- tables that were read, with the rounds that are made of them
+  module _ {g : Payload} {middle : Lent} (r : Reads read before middle (ok g)) {size : ℕ} (sized : size ≡ witness_size (span_width g.head.schema)) where
     abbrev made : Out (List ℕ)
     made =
         rounds g.parents_at
-        (view rules p (take counts.proofs qs) (record { counts = counts; witness_size = size; witnesses_at = g.witnesses_at; parents_at = g.parents_at }))
+        (view rules p (take g.head.counts.proofs middle.proofs)
+        (record { counts = g.head.counts; witness_size = size; witnesses_at = g.witnesses_at; parents_at = g.parents_at }))
 
-    made_is : rounds found.rest.witnesses.next (section_of (whole there.head found)) ≡ made
-    made_is =
-        let b = places_read four (sym r.answer) in
-        let same : found ≡ b.0 = ok_same (sym (four_is rules before after p schema counts at there sized r) ∙ b.1) in
-        ap₂ rounds (ap (λ (x : Four). x.rest.witnesses.next) same ∙ b.3) (sym (viewed rules before after p schema counts at there sized r))
+    abbrev found : Tables
+    found = t rules before p r
 
-    section_is : (end : ℕ) → rounds_in rules (room_of before) p end
-        ≡ (made >>= λ rs. ok (record { tables = whole there.head found; depths = rs; cursor = end }))
+    made_is : rounds found.witnesses.next (section_of found) ≡ made
+    made_is = ap₂ rounds (ap (λ (y : Payload). y.parents_at) (same rules before p r)) (sym (viewed rules before p r sized))
+
+    section_is : (end : ℕ) → rounds_in rules (room_of before) p end ≡ (made >>= λ rs. ok (record { tables = found; depths = rs; cursor = end }))
     unfolding rounds_in
-    section_is end = rw (read rules before after p schema counts at there sized r, made_is)
+    section_is end = rw (are rules before p r, made_is)
 
-    pub rounds_made : {ds : List ℕ} {u : Unit {0}} → length ks ≡ length before.depths → Fills made ks ds (ok u) → after.propositions ≡ ps
-        → after.proofs ≡ qs → after.depths ≡ ds → (end : ℕ) → Passes (rounds_in rules (room_of before) p end) before after (ok tt)
-    rounds_made n h ep eq ed end =
-        let four_found = four_is rules before after p schema counts at there sized r in
+    pub rounds_made : {after : Lent} {u : Unit {0}} → room_of middle ≡ room_of before → Fills made middle.depths after.depths (ok u)
+        → after.propositions ≡ middle.propositions → after.proofs ≡ middle.proofs → (end : ℕ)
+        → Passes (rounds_in rules (room_of before) p end) before after (ok g.head.counts.proofs)
+    rounds_made n h ep eq end =
         let (rs, e, done) = bind_ok made _ (sym h.answer) in
         rw (section_is end, e)
         (record {
-          answer = refl;
+          answer = ap (λ (y : Payload). ok y.head.counts.proofs) (sym (same rules before p r));
           tables = record {
-            propositions = ep ∙ r.propositions ∙ rw four_found;
-            proofs = eq ∙ r.proofs ∙ rw four_found;
-            depths = ed ∙ h.rounds rs e ∙ ap (λ (k : ℕ). lent k rs) n;
+            propositions = ep ∙ r.propositions ∙ rw (are rules before p r);
+            proofs = eq ∙ r.proofs ∙ rw (are rules before p r);
+            depths = h.rounds rs e ∙ ap (λ (k : Room). lent k.depths rs) n;
           };
         })
 
-    pub not_made : {ds : List ℕ} {q : Refusal} → Fills made ks ds (refused q) → Filled (refused q) before after → (end : ℕ)
+    pub not_made : {after : Lent} {ds : List ℕ} {q : Refusal} → Fills made middle.depths ds (refused q) → Filled (refused q) before after → (end : ℕ)
         → Passes (rounds_in rules (room_of before) p end) before after (refused q)
     not_made {q = q} h none end =
-        let e : passed_in (rounds_in rules (room_of before) p end) ≡ refused q =
-        ap passed_in (section_is end) ∙ sym (h.answer ∙ same_done (whole there.head found) end made) in
-        refusal_passes (not_passed (rounds_in rules (room_of before) p end) q e) none
+        let e = rounds_refused made (sym h.answer) in
+        let x : rounds_in rules (room_of before) p end ≡ refused q = section_is end ∙ rw e in
+        refusal_passes x none
 
--- ---- The head
-module _ (rules : List Rule) (room : Room) (p : List ℕ) (end : ℕ) where
-  pub no_head : (q : Refusal) → checked_head room p ≡ refused q → rounds_in rules room p end ≡ refused q
-  unfolding rounds_in tables_of
-  no_head q e = rw e
-
-  -- a section that is accepted has this head
-  pub accepted_head : (h : Head) → checked_head room p ≡ ok h → (s : Section) → rounds_in rules room p end ≡ ok s → (s.tables.head ≡ h) × (s.cursor ≡ end)
-  unfolding rounds_in tables_of
-  accepted_head h eh s e =
-      let a = bind_ok (tables_of rules room p) _ e in
-      let b = bind_ok (rounds a.0.witnesses.next (section_of a.0)) _ a.2 in
-      let q : record { tables = a.0; depths = b.0; cursor = end } ≡ s = ok_same b.2 in
-      let k = bind_ok (checked_head room p) _ a.1 in
-      let f = bind_ok (tables_after rules (span_width k.0.schema) k.0.counts p k.0.next) _ k.2 in
-      let w : whole k.0 f.0 ≡ a.0 = ok_same f.2 in (
-        ap (λ (x : Section). x.tables.head) (sym q) ∙ ap (λ (x : Tables). x.head) (sym w) ∙ ok_same (sym k.1 ∙ eh),
-        ap (λ (x : Section). x.cursor) (sym q),
-      )
-
-  pub section_ends : {before after : Lent} (cursor n : ℕ) (h : Head) → checked_head room p ≡ ok h → h.counts.proofs ≡ n → (s : Section)
-      → rounds_in rules room p end ≡ ok s → Filled (rounds_in rules room p end) before after
-      → Ends (rounds_in rules room p end) cursor before after (record { cursor = end; outcome = ok n })
-  section_ends cursor n h eh k s e t =
-      let a = accepted_head h eh s e in
-      let same : s.tables.head.counts.proofs ≡ n = ap (λ (h : Head). h.counts.proofs) a.0 ∙ k in
-      record { answer = sym (ap (answer_of cursor) e ∙ rw (same, a.1)); tables = t }
+-- the cursor after an accepted section
+pub cursor_after : (rules : List Rule) (room : Room) (p : List ℕ) (end : ℕ) {s : Section} → rounds_in rules room p end ≡ ok s → s.cursor ≡ end
+unfolding rounds_in
+cursor_after rules room p end e =
+    let a = bind_ok (tables_of rules room p) _ e in
+    let b = bind_ok (rounds a.0.witnesses.next (section_of a.0)) _ a.2 in
+    ap (λ (x : Section). x.cursor) (sym (ok_same b.2))
 
 -- ---- What is refused of a payload stands within it
 module _ (rules : List Rule) (room : Room) (p : List ℕ) where

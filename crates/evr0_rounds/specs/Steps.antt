@@ -1,26 +1,13 @@
 -- What the functions of the rounds leave on the way to their answer.
-use Rattle.std.specs.Prelude.{ℕ, ◌≤◌, ◌<◌, ◌≡◌, Bool, List, [], length, get_or}
-use Rattle.local_format.specs.Out.{Out, ok, ◌>>◌}
+use Rattle.std.specs.Prelude.{ℕ, ◌≤◌, ◌<◌, ◌≡◌, Bool, List, length, get_or}
+use Rattle.local_format.specs.Out.{Out, ok, refused, ◌>>=◌}
 use Rattle.lent_table.specs.Lent.{lent}
 use Rattle.derivation.specs.Section as of
-use Rattle.derivation.specs.Pass.{parents_from}
 use Rattle.rounds.specs.Rounds.{after_rounds, none_left}
 use Rattle.evr0_section.specs.Section.{Section}
 use Rattle.evr0_pass.specs.Maps.{done_in}
 use Rattle.evr0.specs.Answer.{Lent, Filled}
-use Rattle.evr0_rounds.specs.Answer.{Answer, answer_of}
-
--- a proof with this number, proposition and authority
-pub record Numbers (q : of.Proof) (n p a : ℕ) : Type 0 where
-  pub number : q.number ≡ n
-  pub proposition : q.proposition ≡ p
-  pub authority : q.authority ≡ a
-
--- whether its next parents pass 25 and 26, from a cell on
-abbrev pub cells_pass : ℕ → of.Section → of.Proof → ℕ → ℕ → Out (Unit {0})
-cells_pass cells_at s q count first = do
-  parents_from cells_at s q [] count first 0 0
-  ok tt
+use Rattle.evr0_rounds.specs.Answer.{Answer}
 
 -- the first unmarked proof from a place on
 pub record FirstUnmarked (rounds : List ℕ) (from found : ℕ) : Type 0 where
@@ -45,7 +32,32 @@ pub record Fills (x : Out (List ℕ)) (before after : List ℕ) (given : Out (Un
   pub answer : given ≡ done_in x
   pub rounds : (rs : List ℕ) → x ≡ ok rs → after ≡ lent (length before) rs
 
--- the section, or its refusal, and the three lent tables
-pub record Ends (x : Out Section) (cursor : ℕ) (before after : Lent) (given : Answer) : Type 0 where
-  pub answer : given ≡ answer_of cursor x
+-- how many proofs an accepted section has
+abbrev pub proofs_in : Out Section → Out ℕ
+proofs_in x = do
+  s ← x
+  ok s.tables.head.counts.proofs
+
+-- that, or the refusal, and the three lent tables
+pub record Passes (x : Out Section) (before after : Lent) (given : Out ℕ) : Type 0 where
+  pub answer : given ≡ proofs_in x
   pub tables : Filled x before after
+
+-- with the cursor after the section
+pub record Marked : Type 0 where
+  pub proofs : ℕ
+  pub cursor : ℕ
+
+abbrev pub marked_in : Out Section → Out Marked
+marked_in x = do
+  s ← x
+  ok (record { proofs = s.tables.head.counts.proofs; cursor = s.cursor })
+
+pub record Ends (x : Out Section) (before after : Lent) (given : Out Marked) : Type 0 where
+  pub answer : given ≡ marked_in x
+  pub tables : Filled x before after
+
+-- what is answered of it where the cursor was brought at `cursor`
+abbrev pub answer_with : ℕ → Out Marked → Answer
+answer_with cursor (ok m) = record { cursor = m.cursor; outcome = ok m.proofs }
+answer_with cursor (refused r) = record { cursor = cursor; outcome = refused r }

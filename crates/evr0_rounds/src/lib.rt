@@ -3,4 +3,5 @@
 
 mod kin;
 mod mark;
+mod parents;
 pub mod section;

@@ -1,105 +1,70 @@
 // The rounds over the proofs of a payload whose tables have been read, made in place.
-ghost use Rattle.std.specs.Prelude.{◌≡◌, List, ℕ, ◌+◌, ◌*◌, ◌≤◌, ◌<◌, length, get_or};
+ghost use Rattle.std.specs.Prelude.{◌≡◌, List, ◌≤◌, ◌<◌, length, take};
+ghost use Rattle.local_format.specs.Maps.{answer_out};
 ghost use Rattle.derivation.specs.Rule.{Rule};
+ghost use Rattle.derivation.specs.Section.{proof_at};
 ghost use Rattle.rounds.specs.Rounds as of;
-ghost use Rattle.rounds.specs.InPlace.{were_marked, turn_in};
-ghost use Rattle.evr0_fields.specs.Maps.{checked_out};
+ghost use Rattle.rounds.specs.InPlace.{was_marked, were_marked, turn_in};
 ghost use Rattle.evr0_pass.specs.View.{TablesThere};
 ghost use Rattle.evr0_pass.specs.Maps.{layout_out, tables_in};
 ghost use Rattle.evr0_rounds.specs.Steps.{FirstUnmarked, RoundDue, Done, Fills};
+ghost use Rattle.evr0_pass.specs.Tables.{tables_by};
 
-use crate::kin::{after_name, check_kin};
-use evr0_fields::check::{Checked, refused};
-use evr0_fields::number::wide;
-use evr0_pass::pass::Layout;
-use local_format::field::u32_at;
+use crate::kin::check_kin;
+use crate::parents::{cells, parent};
+use evr0_pass::pass::{Layout, Tables};
+use lent_table::{clear, clear_from};
+use local_format::refusal::{Refusal, check};
 
-// An entry of a table; 0 past its end.
-fn entry_at(table: &[u64], i: usize) -> u64
-    ensures { result ≡ get_or table.now i 0 }
+// Whether the proof j was marked in an earlier round: its entry is neither 0 nor this round.
+#[tactic(auto, unfolding(rounds::specs::InPlace::was_marked))]
+fn was_marked(rounds: &[u64], round: u64, j: usize) -> bool
+    ensures { result ≡ was_marked round rounds.now j }
 {
-    if i < table.len() {
-        return table[i];
-    }
-    0
+    let entry = rounds.get(j).copied().unwrap_or(0);
+    (entry != 0) & (entry != round)
 }
 
-// Whether the `count` parents from the cell `first` on were all marked in earlier rounds: each entry is neither 0 nor this round.
-fn were_marked(
-    payload: &[u8],
-    tables: Layout,
-    rounds: &[u64],
-    round: u64,
-    first: usize,
-    count: usize,
-) -> bool
-    requires parents_in_bounds { tables.parents_at + 4 * tables.counts.parents ≤ length payload.now }
-    requires count_bound { first + count ≤ tables.counts.parents }
-    ensures { (rules : List Rule) (starts : List ℕ) → result
-        ≡ were_marked (tables_in rules payload.now starts tables) round rounds.now count first }
+// Whether the parents of the proof i all were.
+fn were_marked(tables: Tables, rounds: &[u64], round: u64, i: usize) -> bool
+    requires { i < length tables.starts.now }
+    ensures { (rules : List Rule) → result ≡ were_marked (tables_by rules tables.entry) round rounds.now
+        (proof_at (tables_by rules tables.entry) i).parent_count (proof_at (tables_by rules tables.entry) i).first_parent }
 {
-    let mut cell = first;
-    let end = first + count;
-    while cell < end {
-        let entry = entry_at(rounds, wide(u32_at(payload, tables.parents_at + 4 * cell)));
-        if entry == 0 {
+    let (first, end) = cells(tables, i);
+    for cell in first..end {
+        if !was_marked(rounds, round, parent(tables, cell)) {
             return false;
         }
-        if entry == round {
-            return false; // marked in this round
-        }
-        cell += 1;
     }
     true
 }
 
-// The i-th proof in its turn.
-fn turn_of(
-    payload: &[u8],
-    starts: &[u64],
-    tables: Layout,
-    rounds: &[u64],
-    round: u64,
-    i: usize,
-) -> u64
-    requires tables_there { TablesThere payload.now starts.now (layout_out tables) }
-    requires i_in_bounds { (i < length starts.now) × (length rounds.now ≡ length starts.now) }
-    ensures { (rules : List Rule) → result
-        ≡ turn_in (tables_in rules payload.now starts.now tables) round rounds.now i }
+// The proof i in its turn.
+#[tactic(auto, unfolding(rounds::specs::InPlace::turn_in))]
+fn turn_of(tables: Tables, rounds: &[u64], round: u64, i: usize) -> u64
+    requires { (i < length tables.starts.now) × (length rounds.now ≡ length tables.starts.now) }
+    ensures { (rules : List Rule) → result ≡ turn_in (tables_by rules tables.entry) round rounds.now i }
 {
     let entry = rounds[i];
     if entry != 0 {
-        return entry;
+        entry
+    } else if were_marked(tables, rounds, round, i) {
+        round
+    } else {
+        0
     }
-    let rest = after_name(payload, starts[i] as usize);
-    let first = wide(u32_at(payload, rest + 12));
-    let count = wide(u32_at(payload, rest + 16));
-    let marked = were_marked(payload, tables, rounds, round, first, count);
-    if marked {
-        return round;
-    }
-    0
 }
 
 // One round, from the first unmarked proof on.
-fn mark_round(
-    payload: &[u8],
-    starts: &[u64],
-    tables: Layout,
-    round: u64,
-    first: usize,
-    rounds: &mut [u64],
-)
-    requires tables_there { TablesThere payload.now starts.now (layout_out tables) }
-    requires round_due { RoundDue (length starts.now) round first rounds.old }
+fn mark_round(tables: Tables, round: u64, first: usize, rounds: &mut [u64])
+    requires { RoundDue (length tables.starts.now) round first rounds.old }
     ensures { (rules : List Rule) → rounds.new
-        ≡ of.turns (tables_in rules payload.now starts.now tables) round rounds.old (length starts.now) 0 }
+        ≡ of.turns (tables_by rules tables.entry) round rounds.old (length tables.entry.starts.now) 0 }
 {
-    let mut i = first;
-    while i < starts.len() {
-        let turn = turn_of(payload, starts, tables, rounds, round, i);
+    for i in first..tables.starts.len() {
+        let turn = turn_of(tables, rounds, round, i);
         rounds[i] = turn;
-        i += 1;
     }
 }
 
@@ -108,54 +73,65 @@ fn first_unmarked(rounds: &[u64], from: usize) -> usize
     requires { from ≤ length rounds.now }
     ensures { FirstUnmarked rounds.now from result }
 {
-    let mut i = from;
-    while i < rounds.len() {
+    for i in from..rounds.len() {
         if rounds[i] == 0 {
             return i;
         }
-        i += 1;
     }
-    i
+    rounds.len()
 }
 
 // The rounds, until no proof is left or 256 are done: whether none is left.
-fn mark_rounds(payload: &[u8], starts: &[u64], tables: Layout, rounds: &mut [u64]) -> bool
-    requires { TablesThere payload.now starts.now (layout_out tables) × (length rounds.old ≡ length starts.now) }
-    ensures { (rules : List Rule)
-        → Done (tables_in rules payload.now starts.now tables) rounds.new result }
+fn mark_rounds(tables: Tables, rounds: &mut [u64]) -> bool
+    requires { length rounds.old ≡ length tables.starts.now }
+    ensures { (rules : List Rule) → Done (tables_by rules tables.entry) rounds.new result }
 {
-    lent_table::clear(rounds);
+    clear(rounds);
     let mut done: u64 = 0;
-    let mut first: usize = 0;
-    while first < starts.len() {
+    let mut first = 0;
+    while first < tables.starts.len() {
         if 256 <= done {
             return false;
         }
         done += 1;
-        mark_round(payload, starts, tables, done, first, rounds);
+        mark_round(tables, done, first, rounds);
         first = first_unmarked(rounds, first);
     }
     true
 }
 
-// 25 and 26 of each proof, whose starts are given, then its round, with zeros past the rounds; 27 where a proof is unmarked after 256 rounds.
-pub fn fill_rounds(payload: &[u8], starts: &[u64], tables: Layout, rounds: &mut [u64]) -> Checked
-    requires { TablesThere payload.now starts.now (layout_out tables) × (length starts.now ≤ length rounds.old) }
-    ensures { (rules : List Rule)
-        → Fills (of.rounds tables.parents_at (tables_in rules payload.now starts.now tables))
-        rounds.old rounds.new (checked_out result) }
+// 25 and 26 of each proof, then its round, with zeros past the rounds; 27 where a proof is unmarked after 256 rounds.
+fn fill_rounds(tables: Tables, rounds: &mut [u64]) -> Result<(), Refusal>
+    requires { length tables.starts.now ≤ length rounds.old }
+    ensures { (rules : List Rule) → Fills (of.rounds tables.entry.layout.parents_at (tables_by rules tables.entry))
+        rounds.old rounds.new (answer_out (λ done. done) result) }
 {
-    let kin = check_kin(payload, starts, tables);
-    match kin {
-        Checked::Refused(refusal) => Checked::Refused(refusal),
-        Checked::Passed => {
-            let count = starts.len();
-            let marked = mark_rounds(payload, starts, tables, &mut rounds[..count]);
-            if !marked {
-                return refused(27, 0);
-            }
-            lent_table::clear_from(rounds, count);
-            Checked::Passed
-        }
-    }
+    check_kin(tables)?;
+    let count = tables.starts.len();
+    let marked = mark_rounds(tables, &mut rounds[..count]);
+    check(marked, 27, 0)?;
+    clear_from(rounds, count);
+    Ok(())
+}
+
+// The same over the proofs that start at the front of a table, which stays as it is.
+pub fn fill_front(
+    payload: &[u8],
+    layout: Layout,
+    proofs: &mut [u64],
+    rounds: &mut [u64],
+) -> Result<(), Refusal>
+    requires tables_there { TablesThere payload.now (take layout.counts.proofs proofs.old) (layout_out layout) }
+    requires room { (layout.counts.proofs ≤ length proofs.old) × (layout.counts.proofs ≤ length rounds.old) }
+    ensures kept { proofs.new ≡ proofs.old }
+    ensures fills { (rules : List Rule) → Fills
+        (of.rounds layout.parents_at (tables_in rules payload.now (take layout.counts.proofs proofs.old) layout))
+        rounds.old rounds.new (answer_out (λ done. done) result) }
+{
+    let tables = Tables {
+        payload,
+        starts: &proofs[..layout.counts.proofs],
+        layout,
+    };
+    fill_rounds(tables, rounds)
 }

@@ -1,28 +1,29 @@
 -- Laws of loading: the loop stands where the rules before a place are read and those from it on are left; a turn reads one more, or says
 -- what the whole is refused with.
+use Rattle.std.specs.Prelude.{Option, is_some}
 use Prim.Native.Nat.{ℕ, zero, suc, ◌+◌, ◌-◌, ◌≤◌, ◌<◌}
 use mathlib.Core.Path.{◌≡◌, refl, sym, ap, ◌∙◌, subst}
-use mathlib.Core.Bool.{true, false, not}
-use mathlib.Core.List.Memᴰ
-use mathlib.Core.List.{List, [], ◌∷◌, ◌++◌, map, append_assoc, append-nil, Memᴰ}
+use mathlib.Core.Bool.{Bool, true, false, not, ◌&&◌}
+use mathlib.Core.List.{List, [], ◌∷◌, ◌++◌, map, append_assoc, append-nil}
 use mathlib.Core.Logic.{⊎_elim}
 use native.Mathlib.Omega.{arith}
 use native.Mathlib.Numerals.{add-one}
-use native.Mathlib.Nat.{zero-add, suc-add}
-use lib.ListN.{length, get_or, take, drop, set, length-map, length-append, length-drop, get_or-append}
-use lib.Seq.{get_or-append_seam, take-suc-set, take-nil}
-use borrow.Author.Tests.{le-leb, lt-leb, eq-eqb, ne_eqb}
+use lib.Dec.{leb, eqb}
+use lib.ListN.{length, take, drop, set, length-map, length-append, get_or-append}
+use lib.Seq.{get_or-append_seam, take-suc-set}
 use Rattle.local_format.specs.Refusal.{Refusal}
 use Rattle.local_format.specs.Out.{Out, ok, refused, refuse, check, ◌>>=◌, ◌>>◌}
-use Rattle.local_format.specs.Field.{field_at}
-use Rattle.local_format.proofs.OutLaws.{never, ok_same, bind_ok}
-use Rattle.local_format.proofs.FieldLaws.{le_1, field_there}
-use Rattle.derivation.specs.Rule.{Rule, known, unknown, rule_named}
+use Rattle.local_format.specs.Field.{Got, whole, cut, or_cut, field_at}
+use Rattle.local_format.proofs.OutLaws.{never, ok_same, bind_ok, checked_ok}
+use Rattle.local_format.proofs.FieldLaws.{field_ok}
+use Rattle.derivation.specs.Rule.{Rule, rule_named}
 use Rattle.derivation.proofs.Tests.{order}
-use Rattle.rule_table.specs.Load.{outside_bounds, given_twice, rule_in, Loaded, rule_at, outside, named_in, rules_from, rules_of, Distinct, none, Allowed}
+use Rattle.rule_table.specs.Load.{outside_bounds, given_twice, rule_in, Loaded, rule_at, outside, named_in, rules_from, rules_of, Distinct, none}
 use Rattle.rule_table.proofs.Load.{outside_ok, loaded}
-use Rattle.evr0_rules.specs.Maps.{StartsThere, RulesThere, count_in, Starts, Loads}
-use Rattle.evr0_rules.proofs.NameLaws.{known_given, unknown_new, given_last, distinct_last}
+use Rattle.evr0_rules.specs.There.{StartsThere, RulesThere, LoadsAt}
+use Rattle.evr0_rules.specs.Maps.{named_out, new_rule_at, count_in, Starts}
+use Rattle.evr0_rules.specs.declared.rule.Rule as code
+use Rattle.evr0_rules.proofs.NameLaws.{new_test, given_last, distinct_last}
 use Rattle.evr0_rules.proofs.RuleLaws.{RuleRead, rule_read, name_is}
 
 -- rules read before others
@@ -61,19 +62,40 @@ onto_none : (x : Out (List Rule)) → x ≡ onto [] x
 onto_none (ok rs) = refl
 onto_none (refused q) = refl
 
--- a start stored behind other words
-start_set : (places : List ℕ) (n i x : ℕ) → drop n (set places (n + i) x) ≡ set (drop n places) i x
-start_set places zero i x = rw (zero-add i)
-start_set [] (suc n) i x = refl
-start_set (y ∷ places) (suc n) i x = rw (suc-add n i) (start_set places n i x)
+-- ---- The rule at a place, whose name is new
+module _ (t : List ℕ) (at : ℕ) (before : List Rule) where
+  -- what is read hangs on whether the code finds the name among those before
+  pub turn : {x : Loaded} (found : Option code.Rule) (b : Bool) → ok x ≡ outside (rule_at t at)
+      → named_out (take (x.next - 4 - (at + 2)) (drop (at + 2) t)) found
+      ≡ rule_named before (take (x.next - 4 - (at + 2)) (drop (at + 2) t))
+      → is_some found ≡ not b → (check b given_twice 0 >> ok x) ≡ new_rule_at before t at
+  turn {x} found b e n h =
+      let r = outside_ok _ (sym e) in
+      let name : take (x.next - 4 - (at + 2)) (drop (at + 2) t) ≡ x.rule.name = name_is t at r ∙ ap (λ (r : Rule). r.name) (rule_read t at r).is in
+      rw (← e, ← name, new_test before _ found b n h) refl
 
-pub drop_take : (n k : ℕ) (l : List ℕ) → drop n (take (n + k) l) ≡ take k (drop n l)
-drop_take zero k l = rw (zero-add k)
-drop_take (suc n) k [] = rw (suc-add n k) (sym (take-nil k))
-drop_take (suc n) k (x ∷ l) = rw (suc-add n k) (drop_take n k l)
+  turn_refused : (n : ℕ) {q : Refusal} → new_rule_at before t at ≡ refused q → onto before (outside (rule_at t at) >>= onwards n before t) ≡ refused q
+  turn_refused n {q} = go (outside (rule_at t at))
+    where
+      checked : (r : Loaded) (b : Bool) (y : Out (List Rule)) → (check b given_twice 0 >> ok r) ≡ refused q → (check b given_twice 0 >> y) ≡ refused q
+      checked r true y e = absurd (never (sym e))
+      checked r false y e = cc
 
-read_so_far : (i : ℕ) → 96 + i - 96 ≡ i
-read_so_far i = omega arith
+      go : (x : Out Loaded) → (x >>= λ r. check (not (named_in before r.rule.name)) given_twice 0 >> ok r) ≡ refused q
+          → onto before (x >>= onwards n before t) ≡ refused q
+      go (ok r) e = rw (checked r (not (named_in before r.rule.name)) _ e)
+      go (refused p) e = cc
+
+  turn_ok : {x : Loaded} → new_rule_at before t at ≡ ok x → (outside (rule_at t at) ≡ ok x) × (named_in before x.rule.name ≡ false)
+  turn_ok {x} e =
+      let (r, f, g) = bind_ok (outside (rule_at t at)) _ e in
+      let (b, h) = checked_ok (not (named_in before r.rule.name)) given_twice 0 (ok r) g in
+      let same : r ≡ x = ok_same h in
+      (f ∙ ap ok same, rw same at (not_true _ b))
+    where
+      not_true : (b : Bool) → not b ≡ true → b ≡ false
+      not_true true e = absurd (let z : ◌≡◌ {A = ℕ} 0 1 = cc in omega arith)
+      not_true false e = refl
 
 module _ (t : List ℕ) where
   -- so many rules are read, at the places xs, and the next one stands at a place
@@ -85,30 +107,27 @@ module _ (t : List ℕ) where
     pub upto : i ≤ count
 
   -- ---- The count
-  pub no_count : length t < 1 → rules_of t ≡ refuse outside_bounds 0
-  unfolding rules_of field_at
-  no_count h = simp (lt-leb 1 (length t) h)
-
-  pub few : 1 ≤ length t → get_or t 0 0 < 1 → rules_of t ≡ refuse outside_bounds 0
+  pub no_count : cut ≡ field_at 1 t 0 → rules_of t ≡ refuse outside_bounds 0
   unfolding rules_of
-  few h k = rw (field_there 5 1 t 0 (omega arith), ← le_1 t 0, lt-leb 1 (get_or t 0 0) k)
+  no_count e = rw (← e)
 
-  pub many : 1 ≤ length t → 32 < get_or t 0 0 → rules_of t ≡ refuse outside_bounds 0
-  unfolding rules_of
-  many h k = rw (field_there 5 1 t 0 (omega arith), ← le_1 t 0, le-leb 1 (get_or t 0 0) (omega arith), lt-leb (get_or t 0 0) 32 k)
+  module _ {n : Got} (e : whole n ≡ field_at 1 t 0) where
+    pub bad_count : {q : Refusal} → refused q ≡ check (leb 1 n.value && leb n.value 32) outside_bounds 0 → rules_of t ≡ refused q
+    unfolding rules_of
+    bad_count f = rw (← e, ← f)
 
-  pub starting : 1 ≤ length t → 1 ≤ get_or t 0 0 → get_or t 0 0 ≤ 32 → Stands (get_or t 0 0) 0 1 []
-  unfolding rules_of
-  starting h k m =
-      let n : get_or t 0 0 - 0 ≡ get_or t 0 0 = omega arith in
-      record {
-        whole = rw (field_there 5 1 t 0 (omega arith), ← le_1 t 0, le-leb 1 (get_or t 0 0) k, le-leb (get_or t 0 0) 32 m, n)
-            (onto_none (rules_from (get_or t 0 0) [] t 1));
-        there = λ i l. absurd (omega arith);
-        distinct = none;
-        total = refl;
-        upto = omega arith;
-      }
+    pub starting : {u : Unit {0}} → ok u ≡ check (leb 1 n.value && leb n.value 32) outside_bounds 0 → Stands n.value 0 1 []
+    unfolding rules_of
+    starting f =
+        let k : n.next ≡ 1 = omega (arith, (field_ok 5 1 t 0 (ap (or_cut 5 0) (sym e))).0) in
+        let m : n.value - 0 ≡ n.value = omega arith in
+        record {
+          whole = rw (← e, ← f, k, m) (onto_none (rules_from n.value [] t 1));
+          there = λ i l. absurd (omega arith);
+          distinct = none;
+          total = refl;
+          upto = omega arith;
+        }
 
   -- ---- A turn
   module _ {count i at : ℕ} {xs : List ℕ} (s : Stands count i at xs) (l : i < count) where
@@ -122,25 +141,18 @@ module _ (t : List ℕ) where
     unfolding rules_from
     here = let e : count - i ≡ suc left = omega arith in s.whole ∙ rw e
 
-    pub stops_outside : refuse outside_bounds 0 ≡ outside (rule_at t at) → rules_of t ≡ refuse outside_bounds 0
-    stops_outside e = here ∙ rw (← e)
+    pub stops : {q : Refusal} → refused q ≡ new_rule_at done t at → rules_of t ≡ refused q
+    stops e = here ∙ turn_refused t at done left (sym e)
 
-    module _ {x : Loaded} (e : ok x ≡ outside (rule_at t at)) where
-      pub read : RuleRead t at x
-      read = rule_read t at (outside_ok _ (sym e))
+    module _ {x : Loaded} (e : ok x ≡ new_rule_at done t at) where
+      new : (outside (rule_at t at) ≡ ok x) × (named_in done x.rule.name ≡ false)
+      new = turn_ok t at done (sym e)
 
-      -- the bytes of the name
-      abbrev name : List ℕ
-      name = take (x.next - 4 - (at + 2)) (drop (at + 2) t)
+      read : RuleRead t at x
+      read = rule_read t at (outside_ok _ new.0)
 
-      pub stops_twice : {r : Rule} → rule_named done name ≡ known r → rules_of t ≡ refuse given_twice 0
-      stops_twice {r} k =
-          let twice : named_in done (rule_in t at).name ≡ true = rw (← name_is t at (outside_ok _ (sym e))) (known_given done name r k) in
-          here ∙ rw (← e, ← read.is, twice)
-
-      more : named_in done (rule_in t at).name ≡ false → rules_of t
-          ≡ onto (done ++ (rule_in t at ∷ [])) (rules_from left (rule_in t at ∷ done) t x.next)
-      more k = here ∙ rw (← e, ← read.is, k) (onto_more done (rule_in t at) (rules_from left (rule_in t at ∷ done) t x.next))
+      more : rules_of t ≡ onto (done ++ (rule_in t at ∷ [])) (rules_from left (rule_in t at ∷ done) t x.next)
+      more = here ∙ rw (new.0, new.1, ← read.is) (onto_more done (rule_in t at) (rules_from left (rule_in t at ∷ done) t x.next))
 
       one_more : StartsThere t (xs ++ (at ∷ []))
       one_more j h =
@@ -149,58 +161,47 @@ module _ (t : List ℕ) where
           (λ g. rw (get_or-append xs (at ∷ []) 0 j g) (s.there j g))
           (order (length xs) j)
 
-      pub goes_on : rule_named done name ≡ unknown → Stands count (i + 1) x.next (xs ++ (at ∷ []))
-      goes_on k =
-          let new : named_in done (rule_in t at).name ≡ false = rw (← name_is t at (outside_ok _ (sym e))) (unknown_new done name k) in
+      pub goes_on : Stands count (i + 1) x.next (xs ++ (at ∷ []))
+      goes_on =
           record {
             whole = rw (map_last t xs at)
-                (more new
+                (more
                 ∙ ap (onto (done ++ (rule_in t at ∷ [])))
                 (rules_alike left (rule_in t at ∷ done) (done ++ (rule_in t at ∷ [])) (given_last (rule_in t at) done) t x.next));
             there = one_more;
-            distinct = rw (map_last t xs at) (distinct_last done (rule_in t at) s.distinct new);
+            distinct = rw (map_last t xs at) (distinct_last done (rule_in t at) s.distinct (rw (← read.is) at new.1));
             total = rw (length-append xs (at ∷ [])) (omega (arith, s.total));
             upto = omega arith;
           }
 
-  -- those that were read can be looked up
-  pub known_so_far : {count i at : ℕ} (places : List ℕ) → Stands count i at (take i (drop 96 places))
-      → StartsThere t (take (96 + i - 96) (drop 96 places))
-  known_so_far {i = i} places s = rw (read_so_far i) s.there
-
-  pub so_far : (places name : List ℕ) (i : ℕ)
-      → rule_named (map (rule_in t) (take (96 + i - 96) (drop 96 places))) name ≡ rule_named (map (rule_in t) (take i (drop 96 places))) name
-  so_far places name i = rw (read_so_far i)
-
-  -- the place is kept, behind a tree
-  pub stored : {count at : ℕ} (place : ℕ) (places : List ℕ) (n i : ℕ) → n + i < length places
-      → Stands count (i + 1) at (take i (drop n places) ++ (place ∷ [])) → Stands count (i + 1) at (take (i + 1) (drop n (set places (n + i) place)))
-  stored place places n i h s =
-      let l : i < length (drop n places) = rw length-drop (omega arith) in
-      let e : take (i + 1) (set (drop n places) i place) ≡ take i (drop n places) ++ (place ∷ []) = rw add-one (take-suc-set (drop n places) i place l) in
-      rw (start_set places n i place, e) s
+  -- the place is kept
+  pub stored : {count at : ℕ} (place : ℕ) (starts : List ℕ) (i : ℕ) → i < length starts
+      → Stands count (i + 1) at (take i starts ++ (place ∷ [])) → Stands count (i + 1) at (take (i + 1) (set starts i place))
+  stored place starts i h s =
+      let e : take (i + 1) (set starts i place) ≡ take i starts ++ (place ∷ []) = rw add-one (take-suc-set starts i place h) in
+      rw e s
 
   -- ---- The end
   module _ {count i at : ℕ} {xs : List ℕ} (s : Stands count i at xs) (h : count ≤ i) where
     no_more : count - i ≡ 0
     no_more = omega arith
 
-    pub left_over : (at ≡ length t → ⊥) → rules_of t ≡ refuse outside_bounds 0
+    pub left_over : {q : Refusal} → refused q ≡ check (eqb at (length t)) outside_bounds 0 → rules_of t ≡ refused q
     unfolding rules_from
-    left_over e = s.whole ∙ rw (no_more, ne_eqb at (length t) e)
+    left_over e = s.whole ∙ rw (no_more, ← e)
 
-    pub all_read : at ≡ length t → rules_of t ≡ ok (map (rule_in t) xs)
+    all_read : {u : Unit {0}} → ok u ≡ check (eqb at (length t)) outside_bounds 0 → rules_of t ≡ ok (map (rule_in t) xs)
     unfolding rules_from
-    all_read e = s.whole ∙ rw (no_more, eq-eqb at (length t) e, append-nil (map (rule_in t) xs))
+    all_read e = s.whole ∙ rw (no_more, ← e, append-nil (map (rule_in t) xs))
 
   -- ---- What is left in the places
   pub refused_loads : (starts : List ℕ) (given : Out ℕ) (q : Refusal) → rules_of t ≡ refused q → given ≡ refused q → Starts t starts given
   refused_loads starts given q e g =
       record { answer = g ∙ sym (ap count_in e); are = λ rs f. absurd (never (sym e ∙ f)); there = λ rs f. absurd (never (sym e ∙ f)) }
 
-  pub all_loads : {count i at : ℕ} (starts : List ℕ) → i ≤ length starts → (s : Stands count i at (take i starts)) → count ≤ i → at ≡ length t
-      → Starts t starts (ok count)
-  all_loads {count} {i} starts l s h e =
+  pub all_loads : {count i at : ℕ} (starts : List ℕ) → (s : Stands count i at (take i starts)) → count ≤ i
+      → {u : Unit {0}} → ok u ≡ check (eqb at (length t)) outside_bounds 0 → Starts t starts (ok count)
+  all_loads {count} {i} starts s h e =
       let r = all_read s h e in
       let n : length (map (rule_in t) (take i starts)) ≡ i = length-map (take i starts) (rule_in t) ∙ s.total in
       let c : count ≡ i = omega (arith, s.upto) in
@@ -210,36 +211,27 @@ module _ (t : List ℕ) where
         there = λ rs f. subst (λ (rs : List Rule). StartsThere t (take (length rs) starts)) (ok_same (sym r ∙ f)) (rw n s.there);
       }
 
--- ---- Behind a tree
-
--- the starts, once a word before them is stored
-pub word_set : (places : List ℕ) (n at x : ℕ) → at < n → drop n (set places at x) ≡ drop n places
-word_set places zero at x h = absurd (omega arith)
-word_set [] (suc n) at x h = refl
-word_set (y ∷ places) (suc n) zero x h = refl
-word_set (y ∷ places) (suc n) (suc at) x h = word_set places n at x (omega arith)
-
+-- ---- A loaded table
 pub loaded_most : {t starts : List ℕ} {count : ℕ} → Starts t starts (ok count) → count ≤ 32
 loaded_most {t} s =
     let a = bind_ok (rules_of t) _ (sym s.answer) in omega (arith, (loaded t a.0 a.1).most, ok_same a.2)
 
--- what is loaded stands behind the tree
-pub behind : {t starts : List ℕ} {given : Out ℕ} (places : List ℕ) → drop 96 places ≡ starts → Starts t starts given → Loads t places given
-behind {t} {starts} places e s =
-    let part : (rs : List Rule) → drop 96 (take (96 + length rs) places) ≡ take (length rs) starts =
-    λ rs. drop_take 96 (length rs) places ∙ ap (take (length rs)) e in
-    let are : (rs : List Rule) → rules_of t ≡ ok rs → rs ≡ map (rule_in t) (drop 96 (take (96 + length rs) places)) = λ rs k. rw (part rs) (s.are rs k) in
-    record {
-      answer = s.answer;
-      are = are;
-      there = λ rs k.
-          record {
-            starts = rw (part rs) (s.there rs k);
-            distinct = subst Distinct (are rs k) (loaded t rs k).distinct;
-            allowed = subst (λ rs. (r : Rule) → Memᴰ r rs → Allowed r) (are rs k) (loaded t rs k).allowed;
-          };
-    }
+pub loads_at : {t starts : List ℕ} {count : ℕ} → Starts t starts (ok count) → LoadsAt t (take count starts)
+loads_at {t} {starts} s =
+    let a = bind_ok (rules_of t) _ (sym s.answer) in
+    a.1 ∙ ap ok (s.are a.0 a.1 ∙ ap (λ (n : ℕ). map (rule_in t) (take n starts)) (ok_same a.2))
 
--- where there is no table
-pub no_rules : (t : List ℕ) → RulesThere t []
-no_rules t = record { starts = λ i h. absurd (omega arith); distinct = none; allowed = λ r m. absurd (Memᴰ.not-nil m) }
+pub starts_there : {t starts : List ℕ} {count : ℕ} → Starts t starts (ok count) → StartsThere t (take count starts)
+starts_there {t} {starts} s =
+    let a = bind_ok (rules_of t) _ (sym s.answer) in
+    subst (λ (n : ℕ). StartsThere t (take n starts)) (ok_same a.2) (s.there a.0 a.1)
+
+pub not_loaded : {t starts : List ℕ} {q : Refusal} → Starts t starts (refused q) → refused q ≡ rules_of t
+not_loaded {t} {starts} {q} s = go (rules_of t) s.answer
+  where
+    go : (x : Out (List Rule)) → refused q ≡ count_in x → refused q ≡ x
+    go (ok rs) e = absurd (never e)
+    go (refused r) e = cc
+
+pub rules_there : {t starts : List ℕ} → LoadsAt t starts → StartsThere t starts → RulesThere t starts
+rules_there {t} e h = let l = loaded t _ e in record { starts = h; distinct = l.distinct; allowed = l.allowed }

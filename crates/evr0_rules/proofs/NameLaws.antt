@@ -1,25 +1,33 @@
 -- Laws of a look-up: names by their words, and a name is found or not as the rules go by, one after the other.
+use Rattle.std.specs.Prelude.{Option, Some, None, is_some}
 use Prim.Native.Nat.{ℕ, zero, suc, ◌+◌, ◌-◌, ◌≤◌, ◌<◌}
 use mathlib.Core.Path.{◌≡◌, refl, sym, ap, ◌∙◌}
-use mathlib.Core.Bool.{Bool, true, false, cond, ◌||◌}
+use mathlib.Core.Bool.{Bool, true, false, not, cond, ◌||◌}
 use mathlib.Core.List.Memᴰ
 use mathlib.Core.List.{List, [], ◌∷◌, ◌++◌, map, Memᴰ}
 use mathlib.Core.Logic.{◌⊎◌, inl, inr, ⊎_elim}
 use native.Mathlib.Omega.{arith}
 use native.Mathlib.Numerals.{add-one}
-use lib.ListN.{length, get_or, take, drop, length-drop, drop_of_length-le}
-use lib.Seq.{drop-cons, drop-drop, take_all}
+use lib.ListN.{length, get_or, drop, drop_of_length-le}
+use lib.Seq.{drop-cons, drop-drop}
 use borrow.Author.Tests.{eq-eqb}
 use Rattle.local_format.specs.Tag.{equal}
 use Rattle.local_format.specs.Field.{le}
-use Rattle.local_format.proofs.TagLaws.{equal_is, turns, ended}
+use Rattle.local_format.proofs.TagLaws.{equal_is, turns}
 use Rattle.derivation.specs.Rule.{Rule, known, unknown, rule_named}
 use Rattle.rule_table.specs.Load.{rule_in, named_in, Distinct, none, also}
 use Rattle.rule_table.proofs.Load.{differ, equal_self}
 use Rattle.rule_table.proofs.Names.{loaded_named}
+use Rattle.evr0_rules.specs.declared.rule.Rule as code
+use Rattle.evr0_rules.specs.Maps.{rule_out, named_out}
 
 -- ---- Names by eight bytes at a time
 module _ (a b : List ℕ) where
+  -- nothing is left of either
+  ended : (i : ℕ) → length a ≤ i → length b ≤ i → equal (drop i a) (drop i b) ≡ true
+  unfolding equal
+  ended i h k = rw (drop_of_length-le a h, drop_of_length-le b k) refl
+
   -- a word of theirs differs
   pub word_differs : (i : ℕ) → (le 8 a i ≡ le 8 b i → ⊥) → false ≡ equal a b
   word_differs i h = sym (differ a b (λ e. h (ap (λ (c : List ℕ). le 8 c i) e)))
@@ -29,7 +37,7 @@ module _ (a b : List ℕ) where
       → le 8 a (length a - 8) ≡ le 8 b (length a - 8) → (i : ℕ) → length a - 8 ≤ i → equal (drop i a) (drop i b) ≡ true
   end_same p q l h e i k =
       let n = length a - 8 in
-      let ends : equal (drop (n + 8) a) (drop (n + 8) b) ≡ true = ended a b (n + 8) (omega arith) (omega arith) in
+      let ends : equal (drop (n + 8) a) (drop (n + 8) b) ≡ true = ended (n + 8) (omega arith) (omega arith) in
       let word : equal (drop n a) (drop n b) ≡ true = turns 8 a b p q n (omega arith) (omega arith) ∙ rw (eq-eqb _ _ e, ends) in
       let at : n + (i - n) ≡ i = omega arith in
       let rest : drop i a ≡ drop i b =
@@ -37,6 +45,12 @@ module _ (a b : List ℕ) where
       rw rest (equal_self (drop i b))
 
 -- ---- Rule by rule
+
+-- the numbers of the rule at a place, under a name that it has
+pub known_at : (t name : List ℕ) (at : ℕ) (r : code.Rule) → equal name (rule_in t at).name ≡ true → rule_out (rule_in t at).name r ≡ rule_in t at
+    → named_out name (Some r) ≡ known (rule_in t at)
+known_at t name at r e is = ap (λ (n : List ℕ). known (rule_out n r)) (equal_is name _ e) ∙ ap known is
+
 module _ (t : List ℕ) (name : List ℕ) (starts : List ℕ) (i : ℕ) (l : i < length starts) where
   next_is : map (rule_in t) (drop i starts) ≡ rule_in t (get_or starts i 0) ∷ map (rule_in t) (drop (i + 1) starts)
   next_is = rw (add-one, drop-cons starts i 0 l)
@@ -65,10 +79,6 @@ found_any t name starts i d h e = sym ((loaded_named d name (rule_in t (get_or s
     among (x ∷ xs) zero h = Memᴰ.head refl
     among (x ∷ xs) (suc i) h = Memᴰ.tail (among xs i (omega arith))
 
--- a part of a list, from a place to its end
-pub from_on : (n : ℕ) (l : List ℕ) → take (length l - n) (drop n l) ≡ drop n l
-from_on n l = take_all (length l - n) (drop n l) (rw length-drop (omega arith))
-
 -- ---- A name that is found was given
 pub known_given : (rs : List Rule) (name : List ℕ) (r : Rule) → rule_named rs name ≡ known r → named_in rs name ≡ true
 unfolding rule_named named_in
@@ -89,6 +99,20 @@ unknown_new (x ∷ rs) name e = go (equal name x.name) (unknown_new rs name) e
         → (b || named_in rs name) ≡ false
     go true later e = absurd (let z : ◌≡◌ {A = ℕ} 0 1 = cc in omega arith)
     go false later e = later e
+
+-- a look-up that finds none says that the name is new
+pub new_test : (rs : List Rule) (name : List ℕ) (found : Option code.Rule) (b : Bool) → named_out name found ≡ rule_named rs name
+    → is_some found ≡ not b → b ≡ not (named_in rs name)
+new_test rs name (Some r) b e h = rw (known_given rs name _ (sym e)) (told b h)
+  where
+    told : (b : Bool) → true ≡ not b → b ≡ false
+    told true h = h
+    told false h = refl
+new_test rs name None b e h = rw (unknown_new rs name (sym e)) (told b h)
+  where
+    told : (b : Bool) → false ≡ not b → b ≡ true
+    told true h = refl
+    told false h = h
 
 -- whether a name was given does not hang on the order
 pub given_last : (r : Rule) (rs : List Rule) (name : List ℕ) → named_in (r ∷ rs) name ≡ named_in (rs ++ (r ∷ [])) name

@@ -1,50 +1,48 @@
 -- Laws of one rule at a place of a table: what reading it answers, by what its text and its numbers are.
-use Prim.Native.Nat.{ℕ, ◌+◌, ◌-◌, ◌≤◌, ◌<◌}
-use mathlib.Core.Path.{◌≡◌, ap}
-use mathlib.Core.Bool.{true, false}
+use Prim.Native.Nat.{ℕ, ◌+◌, ◌-◌, ◌≤◌}
+use mathlib.Core.Path.{◌≡◌, refl, sym, ap, ◌∙◌}
+use mathlib.Core.Bool.{Bool}
 use mathlib.Core.List.{List}
 use native.Mathlib.Omega.{arith}
 use lib.ListN.{length, take, drop, length-take, length-drop}
-use borrow.Author.Tests.{lt-leb}
-use Rattle.local_format.specs.Refusal.{Refusal}
-use Rattle.local_format.specs.Out.{ok, refused, refuse}
-use Rattle.local_format.specs.Field.{le, field_at}
+use Rattle.local_format.specs.Out.{ok, check, ◌>>◌}
+use Rattle.local_format.specs.Field.{Got, le, whole, or_cut, field_at}
 use Rattle.local_format.specs.Text.{Span, section_field, text_at}
 use Rattle.local_format.proofs.OutLaws.{ok_same, bind_ok, checked_ok}
-use Rattle.local_format.proofs.FieldLaws.{field_ok, field_there}
+use Rattle.local_format.proofs.FieldLaws.{field_ok}
 use Rattle.local_format.proofs.TextLaws.{text_ok}
 use Rattle.rule_table.specs.Load.{outside_bounds, bounded, rule_in, Loaded, rule_at, outside}
-use Rattle.rule_table.proofs.Load.{text_read}
+use Rattle.rule_table.proofs.Load.{text_read, outside_ok}
+use Rattle.evr0_rules.specs.declared.rule.Rule as code
+use Rattle.evr0_rules.specs.Maps.{rule_out}
 
 module _ (t : List ℕ) (at : ℕ) where
-  pub no_name : {q : Refusal} → text_at t at ≡ refused q → refuse outside_bounds 0 ≡ outside (rule_at t at)
-  unfolding rule_at
-  no_name e = rw e
-
   -- the name that was read has as many bytes as its length says
   pub name_length : at + 2 + le 2 t at ≤ length t → length (rule_in t at).name ≡ le 2 t at
   unfolding rule_in
   name_length h = rw (length-take, length-drop) (omega arith)
 
-  module _ {x : Span} (e : text_at t at ≡ ok x) where
-    pub name_ends : (x.next ≡ at + 2 + le 2 t at) × (x.len ≡ le 2 t at) × (x.next ≤ length t)
-    name_ends = let a = text_ok t at e in let b = text_read t at e in (b.end, omega (arith, a.3, b.end), a.4)
+  -- a text and four bytes were read
+  module _ {x : Span} {n : Got} (e : ok x ≡ text_at t at) (f : whole n ≡ field_at 4 t x.next) where
+    ends : (x.next ≡ at + 2 + le 2 t at) × (x.len ≡ le 2 t at) × (x.next + 4 ≤ length t)
+    ends =
+        let a = text_ok t at (sym e) in
+        let b = text_read t at (sym e) in
+        let k = field_ok 5 4 t x.next (ap (or_cut 5 x.next) (sym f)) in
+        (b.end, omega (arith, a.3, b.end), omega (arith, k.1))
 
-    pub no_numbers : length t - x.next < 4 → refuse outside_bounds 0 ≡ outside (rule_at t at)
-    unfolding rule_at field_at
-    no_numbers h = rw e (simp (lt-leb (x.next + 4) (length t) (omega (arith, name_ends.2))))
+    pub numbers_there : at + 6 + le 2 t at ≤ length t
+    numbers_there = omega (arith, ends.0, ends.2)
 
-    module _ (h : 4 ≤ length t - x.next) where
-      there : x.next + 4 ≤ length t
-      there = omega (arith, name_ends.2)
-
-      pub unbounded : false ≡ bounded (rule_in t at) → refuse outside_bounds 0 ≡ outside (rule_at t at)
-      unfolding rule_at
-      unbounded b = rw (e, field_there 5 4 t x.next there, ← b)
-
-      pub read : true ≡ bounded (rule_in t at) → ok (record { rule = rule_in t at; next = x.next + 4 }) ≡ outside (rule_at t at)
-      unfolding rule_at
-      read b = rw (e, field_there 5 4 t x.next there, ← b)
+    -- what is read hangs on whether the code finds the rule within its bounds
+    pub reads : {b : Bool} {r : code.Rule} → ((name : List ℕ) → length name ≡ x.len → b ≡ bounded (rule_out name r))
+        → rule_out (rule_in t at).name r ≡ rule_in t at
+        → (check b outside_bounds 0 >> ok (record { rule = rule_in t at; next = n.next })) ≡ rule_at t at
+    unfolding rule_at
+    reads {b} h is =
+        let inside : at + 2 + le 2 t at ≤ length t = omega (arith, numbers_there) in
+        let bound : b ≡ bounded (rule_in t at) = h _ (name_length inside ∙ sym ends.1) ∙ ap bounded is in
+        rw (← e, ← f, bound) refl
 
   pub record RuleRead (x : Loaded) : Type 0 where
     pub is : rule_in t at ≡ x.rule
@@ -70,3 +68,7 @@ module _ (t : List ℕ) (at : ℕ) where
   pub name_is : {x : Loaded} → rule_at t at ≡ ok x → take (x.next - 4 - (at + 2)) (drop (at + 2) t) ≡ (rule_in t at).name
   unfolding rule_in
   name_is {x} e = let k : x.next - 4 - (at + 2) ≡ le 2 t at = omega (arith, (rule_read e).next) in rw k
+
+  -- the bytes of the name lie between the two places
+  pub name_ends : {x : Loaded} → ok x ≡ outside (rule_at t at) → (at + 6 ≤ x.next) × (x.next ≤ length t)
+  name_ends e = let r = rule_read (outside_ok _ (sym e)) in (omega (arith, r.next), omega (arith, r.next, r.inside))

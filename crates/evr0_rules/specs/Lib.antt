@@ -1,1 +1,2 @@
+pub mod There
 pub mod Maps

@@ -1,7 +1,7 @@
 // The proof rules of a section: the four, or those of a table that comes as bytes.
 #![tactic(auto)]
 
-pub mod find;
+mod find;
 mod four;
 mod grow;
 pub mod load;

@@ -1,16 +1,19 @@
 // The proof records of an accepted section, by the starts of its table.
 ghost use Rattle.std.specs.Prelude.{◌≡◌};
-ghost use Rattle.evr0_records.specs.Maps.{proof_out};
+ghost use Rattle.local_format.specs.Maps.{answer_out};
+ghost use Rattle.evr0_records.specs.Maps.{sized_out, proof_record};
 ghost use Rattle.evr0_rulings.specs.Held.{proof_in};
 
-use evr0_records::proof::ProofRead;
+use evr0_records::proof::{Proof, read_proof};
+use evr0_records::sized::Sized;
+use local_format::part::tail;
+use local_format::refusal::{Refusal, refuse};
 
-pub fn proof_in(payload: &[u8], starts: &[u64], number: usize) -> ProofRead
-    ensures { proof_out result ≡ proof_in payload.now starts.now number }
+pub fn proof_in(payload: &[u8], starts: &[u64], number: usize) -> Result<Sized<Proof>, Refusal>
+    ensures { answer_out (sized_out proof_record) result ≡ proof_in payload.now starts.now number }
 {
     if number < starts.len() {
-        let start = starts[number] as usize;
-        return evr0_records::proof::read_proof(local_format::part::tail(payload, start));
+        return read_proof(tail(payload, starts[number] as usize));
     }
-    ProofRead::Refused(local_format::refusal::refuse(62, 0))
+    Err(refuse(62, 0))
 }

@@ -2,18 +2,20 @@
 use Prim.Native.Nat.{ℕ, suc, ◌+◌}
 use mathlib.Core.Path.{◌≡◌, refl, sym, ap, ◌∙◌}
 use mathlib.Core.List.{List}
+use Rattle.std.specs.Prelude.{Result, Ok, Err}
 use native.Mathlib.Numerals.{add-one}
 use Rattle.local_format.specs.Refusal.{Refusal}
-use Rattle.local_format.specs.Out.{Out, ok, refused}
+use Rattle.local_format.specs.Out.{Out, ok, refused, at_offset, held, based}
+use Rattle.local_format.specs.Maps.{refusal_out, answer_out}
+use Rattle.local_format.specs.declared.refusal.Refusal as code
 use Rattle.local_format.specs.Text.{bytes_at}
-use Rattle.local_format.proofs.OutLaws.{bind_ok, ok_same, never}
+use Rattle.local_format.proofs.OutLaws.{bind_ok, ok_same, refused_same, never}
 use Rattle.derivation.specs.Rule.{Rule, Named, rule_named}
 use Rattle.evr0_section.specs.Head.{Counts}
 use Rattle.evr0_section.specs.Rows.{Sized, Row}
 use Rattle.evr0_section.specs.Witness.{witness_row}
 use Rattle.evr0_section.specs.Proof.{ProofRecord, Settled, Unowned, proof_of, has_numbers, check_proof, proof_row}
 use Rattle.evr0_section.proofs.RowChecks.{proof_checked, witness_known}
-use Rattle.evr0_fields.specs.Maps.{Beside, beside}
 use Rattle.evr0_records.specs.Ruled.{record_by, Ruled, ruled_by}
 use Rattle.evr0_tables.specs.Maps.{after_record, Kept, kept_in, Noted, noted_in, size_in}
 
@@ -62,18 +64,18 @@ module _ (chars : ℕ → ℕ) (rules : List Rule) (s : List ℕ) where
           ∙ ap (λ (x : Ruled). check_proof rules counts u (name x.proof) x.proof) read.2
           ∙ checked_by chars rules counts u _ p
 
-      pub row_unsettled : {q : Refusal} → check_proof rules counts u (name p) p ≡ refused q → refused q ≡ noted_in (proof_row rules counts u s)
+      pub row_unsettled : {q : Refusal} → refused q ≡ check_proof rules counts u (name p) p → refused q ≡ noted_in (proof_row rules counts u s)
       unfolding proof_row
-      row_unsettled c = rw (read.1, same_checks, c)
+      row_unsettled c = rw (read.1, same_checks, ← c)
 
-      pub row_settled : {rule : Rule} → check_proof rules counts u (name p) p ≡ ok rule
+      pub row_settled : {rule : Rule} → ok rule ≡ check_proof rules counts u (name p) p
           → ok (record { polarity = rule.polarity; kept = record { size = n; state = after_record p } }) ≡ noted_in (proof_row rules counts u s)
       unfolding proof_row
       row_settled {rule} c =
           ap (λ (x : Ruled). ok (record { polarity = rule.polarity; kept = record { size = x.size; state = after_record x.proof } })) (sym read.2)
-          ∙ rw (read.1, same_checks, c)
+          ∙ rw (read.1, same_checks, ← c)
           (ap (λ (v : Unowned). ok (record { polarity = rule.polarity; kept = record { size = read.0.size; state = v } }))
-          (after_checked rules counts u _ read.0.item rule (same_checks ∙ c)))
+          (after_checked rules counts u _ read.0.item rule (same_checks ∙ sym c)))
 
 -- ---- A record by what is kept of it
 module _ {A S : Type 0} where
@@ -106,7 +108,20 @@ witness_kept width counts w s e =
     let k : a.0.state ≡ w + 1 = (witness_known width counts w s a.0 a.1).state 0 ∙ sym (add-one w) in
     rw (a.1, k, ok_same a.2)
 
--- ---- An answer with its digests beside it
-pub answered : {A : Type 0} (first second : A → List ℕ) {b : Beside A} (d : Out A) → b ≡ beside first second d → b.answer ≡ d
-answered {A} first second (ok a) e = ap (λ (x : Beside A). x.answer) e
-answered {A} first second (refused r) e = ap (λ (x : Beside A). x.answer) e
+-- ---- A record that was read at a place, or its refusal there
+module _ {T A : Type 0} (value : T → A) (place : ℕ) (read : Result T code.Refusal) {given : Out A} (e : answer_out value read ≡ given) where
+  pub read_there : {x : T} → ok x ≡ based place (answer_out (λ x. x) read) → given ≡ ok (value x)
+  read_there {x} h = go read e h
+    where
+      go : (y : Result T code.Refusal) → answer_out value y ≡ given → ok x ≡ based place (answer_out (λ x. x) y) → given ≡ ok (value x)
+      go (Ok y) k l = sym k ∙ ap (λ (z : T). ok (value z)) (sym (ok_same l))
+      go (Err r) k l = absurd (never (sym l))
+
+  pub refused_there : {r : Refusal} → refused r ≡ based place (answer_out (λ x. x) read)
+      → (q : Refusal) × (given ≡ refused q) × (r ≡ at_offset q (held place q.offset))
+  refused_there {r} h = go read e h
+    where
+      go : (y : Result T code.Refusal) → answer_out value y ≡ given → refused r ≡ based place (answer_out (λ x. x) y)
+          → (q : Refusal) × (given ≡ refused q) × (r ≡ at_offset q (held place q.offset))
+      go (Ok y) k l = absurd (never l)
+      go (Err q) k l = (refusal_out q, sym k, refused_same l)

@@ -7,7 +7,7 @@ use native.Mathlib.Numerals.{add-one}
 use lib.ListN.{length, take, drop, set, length-drop, take-append-drop}
 use lib.Seq.{take-suc-set, length-take-le}
 use Rattle.local_format.specs.Refusal.{Refusal}
-use Rattle.local_format.specs.Out.{Out, ok, refused, at_offset}
+use Rattle.local_format.specs.Out.{Out, ok, refused, at_offset, held}
 use Rattle.local_format.proofs.OutLaws.{bind_ok, ok_same}
 use Rattle.lent_table.specs.Lent.{laid, Front}
 use Rattle.evr0_section.specs.Rows.{Row, Rows, rows}
@@ -25,13 +25,13 @@ module _ {A S : Type 0} (row : S → List ℕ → Out (Row A S)) (p : List ℕ) 
     pub within : place ≤ length p
     pub done : Progress row (λ e. e.start) p count at first i place state xs
 
-  -- the record at the place reached is refused
-  pub record Stopped (place : ℕ) (q : Refusal) : Type 0 where
-    pub within : place + q.offset ≤ length p
-    pub is : rows row count first p at ≡ refused (at_offset q (place + q.offset))
-
   pub starting : at ≤ length p → Stands 0 at first []
   starting h = record { few = omega arith; within = h; done = begun row (λ e. e.start) p count at first }
+
+-- a sum that fits is not held
+pub held_sum : (base at : ℕ) → base + at ≤ 18446744073709551615 → held base at ≡ base + at
+unfolding held
+held_sum base at h = omega arith
 
 -- a number was stored past the first i
 pub one_more : (table : List ℕ) (i n : ℕ) → i < length table → take (i + 1) (set table i n) ≡ take i table ++ (n ∷ [])
@@ -52,14 +52,14 @@ module _ {A S : Type 0} {row : S → List ℕ → Out (Row A S)} {p : List ℕ} 
             done = rw (r.2, r.3) at (turn row (λ e. e.start) p count at first i place state xs s.done h r.0 r.1);
           }
 
-      pub stop : {q : Refusal} → kept_in (row state (drop place p)) ≡ refused q → Stopped row p count at first place q
-      stop {q} e =
+      -- the refusal of the record at the place reached is the table's
+      pub stop : {q : Refusal} → kept_in (row state (drop place p)) ≡ refused q → length p ≤ 18446744073709551615
+          → rows row count first p at ≡ refused (at_offset q (held place q.offset))
+      stop {q} e l =
           let r = kept_refused (row state (drop place p)) q e in
           let f = (each_refused inside r).offset in
-          record {
-            within = omega (arith, s.within, length-drop place p);
-            is = refused_at row (λ e. e.start) p count at first i place state xs s.done h q r;
-          }
+          let k = held_sum place q.offset (omega (arith, s.within, length-drop place p)) in
+          refused_at row (λ e. e.start) p count at first i place state xs s.done h q r ∙ rw k
 
     -- ---- The end
     module _ (h : count ≤ i) where

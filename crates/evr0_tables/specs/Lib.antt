@@ -1,2 +1,3 @@
+pub mod LentTables
 pub mod Maps
 pub mod PayloadMaps

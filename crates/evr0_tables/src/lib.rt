@@ -1,6 +1,7 @@
 // The four tables of a payload.
 #![tactic(auto)]
 
+pub mod lent;
 pub mod part;
 pub mod payload;
 mod rows;

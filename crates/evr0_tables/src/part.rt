@@ -1,19 +1,13 @@
-// A refusal of a part of some bytes.
-ghost use Rattle.std.specs.Prelude.{◌≡◌, ◌+◌, ◌≤◌};
-ghost use Rattle.local_format.specs.Out.{at_offset};
-ghost use Rattle.local_format.specs.Maps.{refusal_out};
+// The answer of a part of some bytes.
+ghost use Rattle.std.specs.Prelude.{◌≡◌};
+ghost use Rattle.local_format.specs.Out.{based};
+ghost use Rattle.local_format.specs.Maps.{answer_out};
 
-use local_format::refusal::Refusal;
+use local_format::refusal::{Refusal, based};
 
-// The refusal of the whole, where the part starts at `start`.
-pub fn moved(refused: Refusal, start: usize) -> Refusal
-    requires { start + refused.offset ≤ 18446744073709551615 }
-    ensures { refusal_out result ≡ at_offset (refusal_out refused) (start + refused.offset) }
+// The answer of the whole, where the part starts at `start`.
+pub fn moved<T>(read: Result<T, Refusal>, start: usize) -> Result<T, Refusal>
+    ensures { answer_out (λ x. x) result ≡ based start (answer_out (λ x. x) read) }
 {
-    let kind = refused.kind;
-    Refusal {
-        kind,
-        number: refused.number,
-        offset: start + refused.offset,
-    }
+    read.map_err(|refused| based(refused, start))
 }

@@ -1,156 +1,98 @@
-// The tables of a payload, after its head.
-ghost use Rattle.std.specs.Prelude.{◌≡◌, ◌≤◌, length, ◌&&◌, eqb};
+// The head and the tables of a payload.
+ghost use Rattle.std.specs.Prelude.{◌≡◌, ◌≤◌, length};
+ghost use Rattle.local_format.specs.Maps.{answer_out};
 ghost use Rattle.evr0_section.specs.Head.{span_width};
-ghost use Rattle.evr0_section.specs.Section.{rest_after, tables_after};
+ghost use Rattle.evr0_section.specs.Section.{rest_after, tables_of};
 ghost use Rattle.evr0_head.specs.Maps.{counts_out};
-ghost use Rattle.evr0_rules.specs.Maps.{rules_in, RulesThere};
-ghost use Rattle.evr0_tables.specs.Maps.{table_out};
-ghost use Rattle.evr0_tables.specs.PayloadMaps.{parents_in, places_out, Begins, Reads};
+ghost use Rattle.evr0_rules.specs.Maps.{book_rules};
+ghost use Rattle.evr0_tables.specs.LentTables.{tables_out, room_of, SameTables};
+ghost use Rattle.evr0_tables.specs.PayloadMaps.{parents_in, payload_out, Begins, Reads};
 
-use crate::tables::{ProofTable, Table};
-use evr0_head::counts::Counts;
-use evr0_records::proof::Unowned;
-use evr0_rules::settle::Rules;
-use local_format::refusal::Refusal;
+use crate::lent::Tables;
+use crate::tables::{Owned, read_parents, read_proofs, read_propositions, read_witnesses};
+use evr0_head::head::{Head, Room, read_checked_head};
+use evr0_rules::settle::Rulebook;
+use lent_table::clear_from;
+use local_format::refusal::{Refusal, check};
 
-// The places of the witnesses and of the parents.
-#[derive(Drop)]
-pub enum Places {
-    Read {
-        witnesses_at: usize,
-        parents_at: usize,
-    },
-    Refused(Refusal),
-}
-
-// Whether every witness and every parent cell is owned.
-fn all_owned(unowned: Unowned, counts: Counts) -> bool
-    ensures { result ≡ (eqb unowned.witness counts.witnesses && eqb unowned.parent counts.parents) }
-{
-    if unowned.witness != counts.witnesses {
-        return false;
-    }
-    unowned.parent == counts.parents
+// The head of a payload, and the places of its witnesses and of its parents.
+#[derive(Clone, Copy, Debug, PartialEq, Eq)]
+pub struct Payload {
+    pub head: Head,
+    pub witnesses_at: usize,
+    pub parents_at: usize,
 }
 
 // The witnesses and the parents, from `at` to the payload's end: where the parents start.
-fn read_rest(payload: &[u8], schema: u16, counts: Counts, at: usize) -> Table
-    requires { (counts.parents ≤ 262144) × (at ≤ length payload.now) }
-    ensures { table_out result ≡ parents_in (rest_after (span_width schema) (counts_out counts) payload.now at) }
+fn read_rest(payload: &[u8], head: &Head, at: usize) -> Result<usize, Refusal>
+    requires { (head.now.counts.parents ≤ 262144) × (at ≤ length payload.now) }
+    ensures { answer_out (λ n. n) result
+        ≡ parents_in (rest_after (span_width head.now.schema) (counts_out head.now.counts) payload.now at) }
 {
-    let witnesses = crate::tables::read_witnesses(payload, schema, counts, at);
-    let Table::Read { next: parents_at } = witnesses else {
-        return witnesses;
-    };
-    let parents = crate::tables::read_parents(payload, counts.parents, parents_at);
-    let Table::Read { next: end } = parents else {
-        return parents;
-    };
-    if end != payload.len() {
-        return Table::Refused(local_format::refusal::refuse(24, end));
-    }
-    Table::Read { next: parents_at }
+    let parents_at = read_witnesses(payload, head.schema, head.counts, at)?;
+    let end = read_parents(payload, head.counts.parents, parents_at)?;
+    check(end == payload.len(), 24, end)?;
+    Ok(parents_at)
 }
 
-// The four tables from `at` on, with the starts of the propositions and of the proofs, and the polarities that the proofs' rules ask, at the front of the
+// The head and the four tables, with the starts of the propositions and of the proofs, and the polarities that the proofs' rules ask, at the front of the
 // lent tables.
-fn read_four(
-    rules: Rules,
-    table: &[u8],
-    places: &[u64],
-    payload: &[u8],
-    schema: u16,
-    counts: Counts,
-    at: usize,
-    propositions: &mut [u64],
-    proofs: &mut [u64],
-    polarities: &mut [u64],
-) -> Places
-    requires propositions_in_bounds { (counts.propositions ≤ length propositions.old) × (counts.proofs ≤ length proofs.old)
-        × (counts.proofs ≤ length polarities.old) }
-    requires parents_bound { (counts.parents ≤ 262144) × (at ≤ length payload.now) × RulesThere table.now places.now }
-    ensures { Begins (tables_after (rules_in rules table.now places.now) (span_width schema) (counts_out counts)
-        payload.now at) polarities.old propositions.new proofs.new polarities.new (places_out result) }
+fn begin(rules: Rulebook, payload: &[u8], tables: &mut Tables) -> Result<Payload, Refusal>
+    ensures same { SameTables tables.old tables.new }
+    ensures begins { Begins (tables_of (book_rules rules.entry) (room_of (tables_out tables.old)) payload.now)
+        (tables_out tables.old) (tables_out tables.new) (answer_out payload_out result) }
 {
-    let first = crate::tables::read_propositions(payload, counts.propositions, at, propositions);
-    match first {
-        Table::Refused(refusal) => Places::Refused(refusal),
-        Table::Read { next: proofs_at } => {
-            let second = crate::tables::read_proofs(
-                rules, table, places, payload, counts, proofs_at, proofs, polarities,
-            );
-            match second {
-                ProofTable::Refused(refusal) => Places::Refused(refusal),
-                ProofTable::Read {
-                    unowned,
-                    next: witnesses_at,
-                } => {
-                    if !all_owned(unowned, counts) {
-                        return Places::Refused(local_format::refusal::refuse(22, witnesses_at));
-                    }
-                    let rest = read_rest(payload, schema, counts, witnesses_at);
-                    match rest {
-                        Table::Refused(refusal) => Places::Refused(refusal),
-                        Table::Read { next: parents_at } => Places::Read {
-                            witnesses_at,
-                            parents_at,
-                        },
-                    }
-                }
-            }
-        }
-    }
+    let room = Room {
+        propositions: tables.propositions.len(),
+        proofs: tables.proofs.len(),
+        depths: tables.depths.len(),
+    };
+    let head = read_checked_head(payload, room)?;
+    let counts = head.counts;
+    let proofs_at = read_propositions(
+        payload,
+        counts.propositions,
+        head.next,
+        tables.propositions,
+    )?;
+    let Owned {
+        unowned,
+        next: witnesses_at,
+    } = read_proofs(
+        rules,
+        payload,
+        counts,
+        proofs_at,
+        tables.proofs,
+        tables.depths,
+    )?;
+    let owned = (unowned.witness == counts.witnesses) & (unowned.parent == counts.parents);
+    check(owned, 22, witnesses_at)?;
+    let parents_at = read_rest(payload, &head, witnesses_at)?;
+    Ok(Payload {
+        head,
+        witnesses_at,
+        parents_at,
+    })
 }
 
 // The same, with zeros past the starts, and past the polarities what stood there; a refusal leaves zeros in all three tables.
-pub fn read_tables(
-    rules: Rules,
-    table: &[u8],
-    places: &[u64],
+pub fn read_payload(
+    rules: Rulebook,
     payload: &[u8],
-    schema: u16,
-    counts: Counts,
-    at: usize,
-    propositions: &mut [u64],
-    proofs: &mut [u64],
-    polarities: &mut [u64],
-) -> Places
-    requires propositions_in_bounds { (counts.propositions ≤ length propositions.old) × (counts.proofs ≤ length proofs.old)
-        × (counts.proofs ≤ length polarities.old) }
-    requires parents_bound { (counts.parents ≤ 262144) × (at ≤ length payload.now) × RulesThere table.now places.now }
-    ensures { Reads (tables_after (rules_in rules table.now places.now) (span_width schema) (counts_out counts)
-        payload.now at) propositions.old proofs.old polarities.old propositions.new
-        proofs.new polarities.new (places_out result) }
+    tables: &mut Tables,
+) -> Result<Payload, Refusal>
+    ensures same { SameTables tables.old tables.new }
+    ensures reads { Reads (tables_of (book_rules rules.entry) (room_of (tables_out tables.old)) payload.now)
+        (tables_out tables.old) (tables_out tables.new) (answer_out payload_out result) }
 {
-    let read = read_four(
-        rules,
-        table,
-        places,
-        payload,
-        schema,
-        counts,
-        at,
-        propositions,
-        proofs,
-        polarities,
-    );
+    let read = begin(rules, payload, tables);
     match read {
-        Places::Refused(refusal) => {
-            lent_table::clear(polarities);
-            lent_table::clear(propositions);
-            lent_table::clear(proofs);
-            Places::Refused(refusal)
+        Ok(found) => {
+            clear_from(tables.propositions, found.head.counts.propositions);
+            clear_from(tables.proofs, found.head.counts.proofs);
         }
-        Places::Read {
-            witnesses_at,
-            parents_at,
-        } => {
-            lent_table::clear_from(propositions, counts.propositions);
-            lent_table::clear_from(proofs, counts.proofs);
-            Places::Read {
-                witnesses_at,
-                parents_at,
-            }
-        }
+        Err(_) => tables.clear(),
     }
+    read
 }

@@ -1,39 +1,40 @@
 // Whether a proposition of a section, which is decoded anew, is authorised.
 ghost use Rattle.std.specs.Prelude.{◌≡◌};
+ghost use Rattle.local_format.specs.Maps.{answer_out};
 ghost use Rattle.rule_table.specs.ByTable.{table};
 ghost use Rattle.evr0.specs.Answer.{lent_of};
 ghost use Rattle.evr0_marks.specs.Answer.{with_marks};
 ghost use Rattle.evr0_authorised.specs.Authorised.{authorised_told, Authorises, AuthorisesBy};
-ghost use Rattle.evr0_authorised.specs.Maps.{authorised_out};
 ghost use Rattle.falgnust.specs.EntryMaps.{flat_authorised};
 
-use crate::refusal::{Refusal, flat_refusal, no_refusal};
-use evr0_authorised::authorised::{AuthorisedAnswer, authorised, authorised_given};
+use crate::refusal::{Answer, Refusal};
+use evr0_authorised::authorised::authorised;
 use evr0_fields::number::PropositionIndex;
 use evr0_rules::settle::Rules;
 
 #[repr(C)]
-#[derive(Drop)]
+#[derive(Clone, Copy, Debug, Default, PartialEq, Eq)]
 pub struct Authorised {
     pub accepted: bool,
     pub refusal: Refusal,
     pub authorised: bool,
 }
 
-fn flat_authorised(answer: AuthorisedAnswer) -> Authorised
-    ensures { result ≡ flat_authorised (authorised_out answer) }
-{
-    match answer {
-        AuthorisedAnswer::Answer(authorised) => Authorised {
-            accepted: true,
-            refusal: no_refusal(),
-            authorised,
-        },
-        AuthorisedAnswer::Refused(refused) => Authorised {
-            accepted: false,
-            refusal: flat_refusal(refused),
-            authorised: false,
-        },
+impl From<Answer<bool>> for Authorised {
+    ghost from_gives = { λ answer a. a ≡ flat_authorised (answer_out (λ holds. holds) answer) };
+
+    fn from(answer: Answer<bool>) -> Authorised {
+        match answer {
+            Ok(authorised) => Authorised {
+                accepted: true,
+                authorised,
+                ..Authorised::default()
+            },
+            Err(refused) => Authorised {
+                refusal: refused.into(),
+                ..Authorised::default()
+            },
+        }
     }
 }
 
@@ -51,7 +52,8 @@ pub extern "C" fn falgnust_authorised(
         (with_marks (lent_of propositions.old proofs.old depths.old) marks.old)
         (with_marks (lent_of propositions.new proofs.new depths.new) marks.new) result }
 {
-    let answer = authorised(
+    authorised(
+        Rules::Four,
         bytes,
         cursor,
         PropositionIndex(proposition),
@@ -59,8 +61,8 @@ pub extern "C" fn falgnust_authorised(
         proofs,
         depths,
         marks,
-    );
-    flat_authorised(answer)
+    )
+    .into()
 }
 
 // By a table of rules, which is loaded before the section is looked at.
@@ -79,9 +81,8 @@ pub extern "C" fn falgnust_authorised_by_rules(
         (with_marks (lent_of propositions.old proofs.old depths.old) marks.old)
         (with_marks (lent_of propositions.new proofs.new depths.new) marks.new) result }
 {
-    let answer = authorised_given(
-        Rules::Table,
-        rules,
+    authorised(
+        Rules::Table(rules),
         bytes,
         cursor,
         PropositionIndex(proposition),
@@ -89,6 +90,6 @@ pub extern "C" fn falgnust_authorised_by_rules(
         proofs,
         depths,
         marks,
-    );
-    flat_authorised(answer)
+    )
+    .into()
 }

@@ -5,8 +5,8 @@ ghost use Rattle.evr0_marks.specs.Answer.{with_marks};
 ghost use Rattle.authorised_table.specs.Answer.{with_authorised};
 ghost use Rattle.falgnust.specs.SectionMaps.{Tells};
 
-use crate::section::{Section, flat_section};
-use authorised_table::table::{authorised_table, authorised_table_given};
+use crate::section::Section;
+use authorised_table::table::authorised_table;
 use evr0_rules::settle::Rules;
 
 #[unsafe(no_mangle)]
@@ -25,7 +25,8 @@ pub extern "C" fn falgnust_authorised_table(
         (with_authorised (with_marks (lent_of propositions.new proofs.new depths.new) marks.new)
         authorised.new) result }
 {
-    let decoded = authorised_table(
+    authorised_table(
+        Rules::Four,
         bytes,
         cursor,
         propositions,
@@ -33,8 +34,8 @@ pub extern "C" fn falgnust_authorised_table(
         depths,
         marks,
         authorised,
-    );
-    flat_section(decoded)
+    )
+    .into()
 }
 
 // By a table of rules, which is loaded before the section is looked at.
@@ -55,9 +56,8 @@ pub extern "C" fn falgnust_authorised_table_by_rules(
         (with_authorised (with_marks (lent_of propositions.new proofs.new depths.new) marks.new)
         authorised.new) result }
 {
-    let decoded = authorised_table_given(
-        Rules::Table,
-        rules,
+    authorised_table(
+        Rules::Table(rules),
         bytes,
         cursor,
         propositions,
@@ -65,6 +65,6 @@ pub extern "C" fn falgnust_authorised_table_by_rules(
         depths,
         marks,
         authorised,
-    );
-    flat_section(decoded)
+    )
+    .into()
 }

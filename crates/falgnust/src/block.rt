@@ -1,20 +1,21 @@
 // A function's block: its result, with string starts and path starts in two lent tables, the parameters' families in a table of bytes and
 // the debug symbols in a lent list.
 ghost use Rattle.std.specs.Prelude.{◌≡◌};
+ghost use Rattle.local_format.specs.Maps.{answer_out};
 ghost use Rattle.semcode_records.specs.Maps.{symbol_is};
 ghost use Rattle.semcode_decode.specs.Layout.{layout};
-ghost use Rattle.semcode_decode.specs.Maps.{parse_out};
+ghost use Rattle.semcode_decode.specs.Maps.{layout_is};
 ghost use Rattle.semcode_symbols.specs.Symbols.{lists, Fills};
-ghost use Rattle.falgnust.specs.BlockMaps.{no_block, flat_block};
+ghost use Rattle.falgnust.specs.BlockMaps.{flat_block};
 
-use crate::refusal::{Refusal, flat_refusal, no_refusal};
-use semcode_decode::decode::Parse;
+use crate::refusal::{Answer, Refusal};
+use semcode_decode::decode::StringTableDebugOwnershipParse;
 use semcode_records::symbol::DecodedDebugSymbol;
 use semcode_symbols::parse_string_table_debug_and_ownership;
 
 // Counts, whether each tag was found, and places in the block; or a refusal, with zeros beside it.
 #[repr(C)]
-#[derive(Drop)]
+#[derive(Clone, Copy, Debug, Default, PartialEq, Eq)]
 pub struct Block {
     pub accepted: bool,
     pub refusal: Refusal,
@@ -31,47 +32,31 @@ pub struct Block {
     pub instr_start_offset: usize,
 }
 
-// No block: zeros beside a refusal.
-pub fn no_block(refusal: Refusal) -> Block
-    ensures { result ≡ no_block refusal }
-{
-    Block {
-        accepted: false,
-        refusal,
-        has_debug_section: false,
-        has_ownership_section: false,
-        has_signature: false,
-        string_count: 0,
-        string_table_end_offset: 0,
-        debug_symbol_count: 0,
-        debug_symbols_start: 0,
-        path_count: 0,
-        parameter_count: 0,
-        families_start: 0,
-        instr_start_offset: 0,
-    }
-}
+impl From<Answer<StringTableDebugOwnershipParse>> for Block {
+    ghost from_gives = { λ parse b. b ≡ flat_block (answer_out layout_is parse) };
 
-pub fn flat_block(parse: Parse) -> Block
-    ensures { result ≡ flat_block (parse_out parse) }
-{
-    match parse {
-        Parse::Whole(parsed) => Block {
-            accepted: true,
-            refusal: no_refusal(),
-            has_debug_section: parsed.has_debug_section,
-            has_ownership_section: parsed.has_ownership_section,
-            has_signature: parsed.has_signature,
-            string_count: parsed.string_count,
-            string_table_end_offset: parsed.string_table_end_offset,
-            debug_symbol_count: parsed.debug_symbol_count,
-            debug_symbols_start: parsed.debug_symbols_start,
-            path_count: parsed.path_count,
-            parameter_count: parsed.parameter_count,
-            families_start: parsed.families_start,
-            instr_start_offset: parsed.instr_start_offset,
-        },
-        Parse::Refused(refused) => no_block(flat_refusal(refused)),
+    fn from(parse: Answer<StringTableDebugOwnershipParse>) -> Block {
+        match parse {
+            Ok(parsed) => Block {
+                accepted: true,
+                has_debug_section: parsed.has_debug_section,
+                has_ownership_section: parsed.has_ownership_section,
+                has_signature: parsed.has_signature,
+                string_count: parsed.string_count,
+                string_table_end_offset: parsed.string_table_end_offset,
+                debug_symbol_count: parsed.debug_symbol_count,
+                debug_symbols_start: parsed.debug_symbols_start,
+                path_count: parsed.path_count,
+                parameter_count: parsed.parameter_count,
+                families_start: parsed.families_start,
+                instr_start_offset: parsed.instr_start_offset,
+                ..Block::default()
+            },
+            Err(refused) => Block {
+                refusal: refused.into(),
+                ..Block::default()
+            },
+        }
     }
 }
 
@@ -89,7 +74,7 @@ pub extern "C" fn falgnust_parse_string_table_debug_and_ownership(
         (lists symbols.old strings.old paths.old families.old)
         (lists symbols.new strings.new paths.new families.new) result }
 {
-    let parse = parse_string_table_debug_and_ownership(
+    parse_string_table_debug_and_ownership(
         base_offset,
         code,
         header_rev,
@@ -97,6 +82,6 @@ pub extern "C" fn falgnust_parse_string_table_debug_and_ownership(
         strings,
         paths,
         families,
-    );
-    flat_block(parse)
+    )
+    .into()
 }

@@ -1,17 +1,19 @@
 // Depth by rounds: how many proofs are marked, with proposition starts, proof starts and rounds in lent tables.
 ghost use Rattle.std.specs.Prelude.{◌≡◌};
+ghost use Rattle.local_format.specs.Maps.{answer_out};
 ghost use Rattle.rule_table.specs.ByTable.{four, table};
 ghost use Rattle.evr0.specs.Answer.{lent_of};
-ghost use Rattle.evr0_rounds.specs.AnswerMaps.{answer_out};
+ghost use Rattle.evr0_rounds.specs.Steps.{answer_with};
+ghost use Rattle.evr0_rounds.specs.AnswerMaps.{marked_out};
 ghost use Rattle.falgnust.specs.RoundMaps.{flat_rounds, Rounded};
 
-use crate::refusal::{Refusal, flat_refusal, no_refusal};
-use evr0_rounds::section::{DepthByRounds, Outcome, depth_by_rounds, depth_by_rounds_given};
+use crate::refusal::{Answer, Refusal};
+use evr0_rounds::section::{Marked, depth_by_rounds};
 use evr0_rules::settle::Rules;
 
 // The cursor is the one that was brought where the section is refused.
 #[repr(C)]
-#[derive(Drop)]
+#[derive(Clone, Copy, Debug, Default, PartialEq, Eq)]
 pub struct Rounds {
     pub accepted: bool,
     pub refusal: Refusal,
@@ -19,23 +21,20 @@ pub struct Rounds {
     pub cursor: usize,
 }
 
-fn flat_rounds(found: DepthByRounds) -> Rounds
-    ensures { result ≡ flat_rounds (answer_out found) }
+fn flat_rounds(found: Answer<Marked>, cursor: usize) -> Rounds
+    ensures { result ≡ flat_rounds (answer_with cursor (answer_out marked_out found)) }
 {
-    let cursor = found.cursor;
-    let outcome = found.outcome;
-    match outcome {
-        Outcome::Marked(proofs) => Rounds {
+    match found {
+        Ok(marked) => Rounds {
             accepted: true,
-            refusal: no_refusal(),
-            proofs,
-            cursor,
+            proofs: marked.proofs,
+            cursor: marked.cursor,
+            ..Rounds::default()
         },
-        Outcome::Refused(refused) => Rounds {
-            accepted: false,
-            refusal: flat_refusal(refused),
-            proofs: 0,
+        Err(refused) => Rounds {
+            refusal: refused.into(),
             cursor,
+            ..Rounds::default()
         },
     }
 }
@@ -52,8 +51,8 @@ pub extern "C" fn falgnust_depth_by_rounds(
         (lent_of propositions.old proofs.old rounds.old)
         (lent_of propositions.new proofs.new rounds.new) result }
 {
-    let found = depth_by_rounds(bytes, cursor, propositions, proofs, rounds);
-    flat_rounds(found)
+    let found = depth_by_rounds(Rules::Four, bytes, cursor, propositions, proofs, rounds);
+    flat_rounds(found, cursor)
 }
 
 // By a table of rules, which is loaded before the section is looked at.
@@ -70,14 +69,13 @@ pub extern "C" fn falgnust_depth_by_rounds_by_rules(
         (lent_of propositions.old proofs.old rounds.old)
         (lent_of propositions.new proofs.new rounds.new) result }
 {
-    let found = depth_by_rounds_given(
-        Rules::Table,
-        rules,
+    let found = depth_by_rounds(
+        Rules::Table(rules),
         bytes,
         cursor,
         propositions,
         proofs,
         rounds,
     );
-    flat_rounds(found)
+    flat_rounds(found, cursor)
 }

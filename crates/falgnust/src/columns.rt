@@ -6,35 +6,35 @@ ghost use Rattle.columns_answer.specs.Copies.{with_output, WritesAs, TakesBackAs
 ghost use Rattle.columns_answer.specs.Maps.{columns_out};
 ghost use Rattle.falgnust.specs.ColumnMaps.{flat_columns};
 
-use crate::refusal::{Refusal, flat_refusal, no_refusal};
-use columns_answer::ColumnsAnswer;
+use crate::refusal::{Answer, Refusal};
 use columns_take::take::{take_columns, take_columns_given};
 use columns_write::write::{write_columns, write_columns_given};
 use evr0_rules::settle::Rules;
 
 // The length written; or a refusal, with a zero beside it.
 #[repr(C)]
-#[derive(Drop)]
+#[derive(Clone, Copy, Debug, Default, PartialEq, Eq)]
 pub struct Columns {
     pub accepted: bool,
     pub refusal: Refusal,
     pub length: usize,
 }
 
-fn flat_columns(answer: ColumnsAnswer) -> Columns
-    ensures { result ≡ flat_columns (columns_out answer) }
-{
-    match answer {
-        ColumnsAnswer::Written(length) => Columns {
-            accepted: true,
-            refusal: no_refusal(),
-            length,
-        },
-        ColumnsAnswer::Refused(refused) => Columns {
-            accepted: false,
-            refusal: flat_refusal(refused),
-            length: 0,
-        },
+impl From<Answer<usize>> for Columns {
+    ghost from_gives = { λ answer c. c ≡ flat_columns (columns_out answer) };
+
+    fn from(answer: Answer<usize>) -> Columns {
+        match answer {
+            Ok(length) => Columns {
+                accepted: true,
+                length,
+                ..Columns::default()
+            },
+            Err(refused) => Columns {
+                refusal: refused.into(),
+                ..Columns::default()
+            },
+        }
     }
 }
 
@@ -51,8 +51,7 @@ pub extern "C" fn falgnust_write_columns(
         (with_output (lent_of propositions.old proofs.old depths.old) output.old)
         (with_output (lent_of propositions.new proofs.new depths.new) output.new) result }
 {
-    let answer = write_columns(bytes, cursor, propositions, proofs, depths, output);
-    flat_columns(answer)
+    write_columns(bytes, cursor, propositions, proofs, depths, output).into()
 }
 
 // By a table of rules, which is loaded before the section is looked at.
@@ -70,17 +69,16 @@ pub extern "C" fn falgnust_write_columns_by_rules(
         (with_output (lent_of propositions.old proofs.old depths.old) output.old)
         (with_output (lent_of propositions.new proofs.new depths.new) output.new) result }
 {
-    let answer = write_columns_given(
-        Rules::Table,
-        rules,
+    write_columns_given(
+        Rules::Table(rules),
         bytes,
         cursor,
         propositions,
         proofs,
         depths,
         output,
-    );
-    flat_columns(answer)
+    )
+    .into()
 }
 
 #[unsafe(no_mangle)]
@@ -95,8 +93,7 @@ pub extern "C" fn falgnust_take_columns(
         (with_output (lent_of propositions.old proofs.old depths.old) output.old)
         (with_output (lent_of propositions.new proofs.new depths.new) output.new) result }
 {
-    let answer = take_columns(columns, propositions, proofs, depths, output);
-    flat_columns(answer)
+    take_columns(columns, propositions, proofs, depths, output).into()
 }
 
 // By a table of rules, which is loaded before the columns are looked at.
@@ -113,14 +110,13 @@ pub extern "C" fn falgnust_take_columns_by_rules(
         (with_output (lent_of propositions.old proofs.old depths.old) output.old)
         (with_output (lent_of propositions.new proofs.new depths.new) output.new) result }
 {
-    let answer = take_columns_given(
-        Rules::Table,
-        rules,
+    take_columns_given(
+        Rules::Table(rules),
         columns,
         propositions,
         proofs,
         depths,
         output,
-    );
-    flat_columns(answer)
+    )
+    .into()
 }

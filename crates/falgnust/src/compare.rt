@@ -7,14 +7,15 @@ ghost use Rattle.compare_sections.specs.Answer.{tables_of, lent_to, Compares};
 ghost use Rattle.compare_sections.specs.Maps.{comparison_out};
 ghost use Rattle.falgnust.specs.CompareMaps.{refused_by, flat_comparison};
 
-use crate::refusal::{Refusal, flat_refusal, no_refusal};
-use compare_sections::compare::{Comparison, compare_sections, compare_sections_given};
+use crate::refusal::Refusal;
+use compare_sections::compare::{Fault, compare_sections};
 use evr0_rules::settle::Rules;
+use section_pair::totals::Totals;
 
 // The four totals; or a refusal, with zeros beside it. `whose` says whose refusal it is: 0 none, 1 that of the table of rules, 2 of the
 // first section, 3 of the second, 4 of the pair.
 #[repr(C)]
-#[derive(Drop)]
+#[derive(Clone, Copy, Debug, Default, PartialEq, Eq)]
 pub struct Compared {
     pub accepted: bool,
     pub whose: u8,
@@ -29,33 +30,30 @@ fn refused_by(whose: u8, refused: local_format::refusal::Refusal) -> Compared
     ensures { result ≡ refused_by whose (refusal_out refused) }
 {
     Compared {
-        accepted: false,
         whose,
-        refusal: flat_refusal(refused),
-        agreed: 0,
-        contradicted: 0,
-        first_only: 0,
-        second_only: 0,
+        refusal: refused.into(),
+        ..Compared::default()
     }
 }
 
-fn flat_comparison(answer: Comparison) -> Compared
-    ensures { result ≡ flat_comparison (comparison_out answer) }
-{
-    match answer {
-        Comparison::Held(totals) => Compared {
-            accepted: true,
-            whose: 0,
-            refusal: no_refusal(),
-            agreed: totals.agreed,
-            contradicted: totals.contradicted,
-            first_only: totals.first_only,
-            second_only: totals.second_only,
-        },
-        Comparison::RulesRefused(refused) => refused_by(1, refused),
-        Comparison::FirstRefused(refused) => refused_by(2, refused),
-        Comparison::SecondRefused(refused) => refused_by(3, refused),
-        Comparison::PairRefused(refused) => refused_by(4, refused),
+impl From<Result<Totals, Fault>> for Compared {
+    ghost from_gives = { λ answer c. c ≡ flat_comparison (comparison_out answer) };
+
+    fn from(answer: Result<Totals, Fault>) -> Compared {
+        match answer {
+            Ok(totals) => Compared {
+                accepted: true,
+                agreed: totals.agreed,
+                contradicted: totals.contradicted,
+                first_only: totals.first_only,
+                second_only: totals.second_only,
+                ..Compared::default()
+            },
+            Err(Fault::Rules(refused)) => refused_by(1, refused),
+            Err(Fault::First(refused)) => refused_by(2, refused),
+            Err(Fault::Second(refused)) => refused_by(3, refused),
+            Err(Fault::Pair(refused)) => refused_by(4, refused),
+        }
     }
 }
 
@@ -87,7 +85,8 @@ pub extern "C" fn falgnust_compare_sections(
         (tables_of second_propositions.new second_proofs.new second_depths.new second_marks.new
         second_authorised.new) verdicts.new) result }
 {
-    let answer = compare_sections(
+    compare_sections(
+        Rules::Four,
         first,
         first_cursor,
         first_propositions,
@@ -103,8 +102,8 @@ pub extern "C" fn falgnust_compare_sections(
         second_marks,
         second_authorised,
         verdicts,
-    );
-    flat_comparison(answer)
+    )
+    .into()
 }
 
 // By a table of rules, which is loaded before either section is looked at.
@@ -138,9 +137,8 @@ pub extern "C" fn falgnust_compare_sections_by_rules(
         (tables_of second_propositions.new second_proofs.new second_depths.new second_marks.new
         second_authorised.new) verdicts.new) result }
 {
-    let answer = compare_sections_given(
-        Rules::Table,
-        rules,
+    compare_sections(
+        Rules::Table(rules),
         first,
         first_cursor,
         first_propositions,
@@ -156,6 +154,6 @@ pub extern "C" fn falgnust_compare_sections_by_rules(
         second_marks,
         second_authorised,
         verdicts,
-    );
-    flat_comparison(answer)
+    )
+    .into()
 }

@@ -3,67 +3,71 @@ ghost use Rattle.std.specs.Prelude.{◌≡◌};
 ghost use Rattle.local_format.specs.Field.{field_at};
 ghost use Rattle.falgnust.specs.Maps.{flat_field};
 
-use local_format::field::{U8, U16, U32, read_u8, read_u16_le, read_u32_le};
+use local_format::field::{LittleEndian, field_at};
 
-// The value and the place after it, or, where the field is cut, zeros.
+// The value and the place after it, or, where the field is cut, zeros: C has no Option.
 #[repr(C)]
-#[derive(Drop)]
+#[derive(Clone, Copy, Debug, Default, PartialEq, Eq)]
 pub struct Field {
     pub whole: bool,
     pub value: u32,
     pub next: usize,
 }
 
+// Numbers that fit in 32 bits.
+trait Word: LittleEndian {
+    fn word(self) -> u32
+        ensures { result ≡ Self.number self };
+}
+
+impl Word for u8 {
+    fn word(self) -> u32 {
+        self.into()
+    }
+}
+
+impl Word for u16 {
+    fn word(self) -> u32 {
+        self.into()
+    }
+}
+
+impl Word for u32 {
+    fn word(self) -> u32 {
+        self
+    }
+}
+
+fn read<T: Word>(bytes: &[u8], at: usize) -> Field
+    ensures { result ≡ flat_field (field_at T.WIDTH bytes.now at) }
+{
+    match field_at::<T>(bytes, at) {
+        Some(field) => Field {
+            whole: true,
+            value: field.value.word(),
+            next: field.next,
+        },
+        None => Field::default(),
+    }
+}
+
 #[unsafe(no_mangle)]
 pub extern "C" fn falgnust_read_u8(bytes: &[u8], at: usize) -> Field
     ensures { result ≡ flat_field (field_at 1 bytes.now at) }
 {
-    let U8::Value { value, next } = read_u8(bytes, at) else {
-        return Field {
-            whole: false,
-            value: 0,
-            next: 0,
-        };
-    };
-    Field {
-        whole: true,
-        value: value as u32,
-        next,
-    }
+    read::<u8>(bytes, at)
 }
 
 #[unsafe(no_mangle)]
 pub extern "C" fn falgnust_read_u16_le(bytes: &[u8], at: usize) -> Field
     ensures { result ≡ flat_field (field_at 2 bytes.now at) }
 {
-    let U16::Value { value, next } = read_u16_le(bytes, at) else {
-        return Field {
-            whole: false,
-            value: 0,
-            next: 0,
-        };
-    };
-    Field {
-        whole: true,
-        value: value as u32,
-        next,
-    }
+    read::<u16>(bytes, at)
 }
 
 #[unsafe(no_mangle)]
 pub extern "C" fn falgnust_read_u32_le(bytes: &[u8], at: usize) -> Field
     ensures { result ≡ flat_field (field_at 4 bytes.now at) }
 {
-    let U32::Value { value, next } = read_u32_le(bytes, at) else {
-        return Field {
-            whole: false,
-            value: 0,
-            next: 0,
-        };
-    };
-    Field {
-        whole: true,
-        value,
-        next,
-    }
+    read::<u32>(bytes, at)
 }

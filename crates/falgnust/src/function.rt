@@ -1,19 +1,22 @@
 // A function of a file at its start, and by number, for which the file is decoded anew.
 ghost use Rattle.std.specs.Prelude.{◌≡◌};
+ghost use Rattle.local_format.specs.Maps.{answer_out};
+ghost use Rattle.semcode_records.specs.Maps.{taken_out};
 ghost use Rattle.semcode_functions.specs.Function.{head_at};
 ghost use Rattle.semcode_functions.specs.File.{file_tables};
 ghost use Rattle.semcode_functions.specs.Number.{head_in, ReadsFunction};
-ghost use Rattle.semcode_functions.specs.Maps.{function_out};
+ghost use Rattle.semcode_functions.specs.Maps.{head_is};
 ghost use Rattle.falgnust.specs.FunctionMaps.{flat_function};
 
-use crate::refusal::{Refusal, flat_refusal, no_refusal};
+use crate::refusal::{Answer, Refusal};
 use crate::span::Span;
-use semcode_functions::head::read_function;
+use local_format::field::Field;
+use semcode_functions::head::{Head, read_function};
 use semcode_functions::number::function_number;
 
 // The name, where the block starts and how long it is, and the place after it; or a refusal, with zeros beside it.
 #[repr(C)]
-#[derive(Drop)]
+#[derive(Clone, Copy, Debug, Default, PartialEq, Eq)]
 pub struct Function {
     pub accepted: bool,
     pub refusal: Refusal,
@@ -23,36 +26,24 @@ pub struct Function {
     pub next: usize,
 }
 
-fn flat_function(function: semcode_functions::head::Function) -> Function
-    ensures { result ≡ flat_function (function_out function) }
-{
-    match function {
-        semcode_functions::head::Function::Whole { head, next } => Function {
-            accepted: true,
-            refusal: no_refusal(),
-            name: Span {
-                start: head.name_start,
-                len: head.name_len,
-                chars: head.name_chars,
-                next: head.name_end,
+impl From<Answer<Field<Head>>> for Function {
+    ghost from_gives = { λ read f. f ≡ flat_function (answer_out (taken_out head_is) read) };
+
+    fn from(read: Answer<Field<Head>>) -> Function {
+        match read {
+            Ok(Field { value: head, next }) => Function {
+                accepted: true,
+                name: head.name.into(),
+                code_offset: head.code,
+                code_len: head.size,
+                next,
+                ..Function::default()
             },
-            code_offset: head.code,
-            code_len: head.size,
-            next,
-        },
-        semcode_functions::head::Function::Refused(refused) => Function {
-            accepted: false,
-            refusal: flat_refusal(refused),
-            name: Span {
-                start: 0,
-                len: 0,
-                chars: 0,
-                next: 0,
+            Err(refused) => Function {
+                refusal: refused.into(),
+                ..Function::default()
             },
-            code_offset: 0,
-            code_len: 0,
-            next: 0,
-        },
+        }
     }
 }
 
@@ -60,9 +51,10 @@ fn flat_function(function: semcode_functions::head::Function) -> Function
 pub extern "C" fn falgnust_read_function(bytes: &[u8], at: usize) -> Function
     ensures { result ≡ flat_function (head_at bytes.now at) }
 {
-    flat_function(read_function(bytes, at))
+    read_function(bytes, at).into()
 }
 
+#[tactic(auto, using(semcode_functions::proofs::FileLaws::mapped))]
 #[unsafe(no_mangle)]
 pub extern "C" fn falgnust_function_number(
     bytes: &[u8],
@@ -78,8 +70,8 @@ pub extern "C" fn falgnust_function_number(
         (file_tables functions.old strings.old paths.old families.old)
         (file_tables functions.new strings.new paths.new families.new) result }
 {
-    let read = function_number(
+    function_number(
         bytes, cursor, header_rev, number, functions, strings, paths, families,
-    );
-    flat_function(read)
+    )
+    .into()
 }

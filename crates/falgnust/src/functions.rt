@@ -1,22 +1,22 @@
 // All functions of a file: their starts in a lent table, and the last one's block as if it were decoded alone.
 ghost use Rattle.std.specs.Prelude.{◌≡◌};
+ghost use Rattle.local_format.specs.Maps.{answer_out};
 ghost use Rattle.semcode_records.specs.Maps.{symbol_is};
 ghost use Rattle.semcode_functions.specs.File.{file};
-ghost use Rattle.semcode_functions.specs.Maps.{last_is, functions_out};
+ghost use Rattle.semcode_functions.specs.Maps.{last_is, file_is};
 ghost use Rattle.semcode_symbols.specs.FileSymbols.{file_lists, FillsFile};
 ghost use Rattle.falgnust.specs.FunctionMaps.{last_code, flat_last, flat_functions};
 
-use crate::block::{Block, flat_block, no_block};
-use crate::refusal::{Refusal, flat_refusal, no_refusal};
-use semcode_decode::decode::Parse;
-use semcode_functions::functions::Last;
+use crate::block::Block;
+use crate::refusal::{Answer, Refusal};
+use semcode_functions::functions::{File, FunctionBlock};
 use semcode_records::symbol::DecodedDebugSymbol;
 use semcode_symbols::functions::decode_functions;
 
 // How many functions there are, the cursor after them, and where the last one's block starts and what it holds. After a refusal the
 // cursor is the one that was brought; where there is no last block, it is not accepted and has zeros.
 #[repr(C)]
-#[derive(Drop)]
+#[derive(Clone, Copy, Debug, Default, PartialEq, Eq)]
 pub struct Functions {
     pub accepted: bool,
     pub refusal: Refusal,
@@ -26,46 +26,37 @@ pub struct Functions {
     pub last: Block,
 }
 
-fn last_code(last: Last) -> usize
+fn last_code(last: Option<FunctionBlock>) -> usize
     ensures { result ≡ last_code (last_is last) }
 {
-    match last {
-        Last::Nothing => 0,
-        Last::Block { code, parsed: _ } => code,
-    }
+    last.map_or(0, |block| block.code)
 }
 
-fn flat_last(last: Last) -> Block
+fn flat_last(last: Option<FunctionBlock>) -> Block
     ensures { result ≡ flat_last (last_is last) }
 {
     match last {
-        Last::Nothing => no_block(no_refusal()),
-        Last::Block { code: _, parsed } => flat_block(Parse::Whole(parsed)),
+        Some(block) => Ok(block.parsed).into(),
+        None => Block::default(),
     }
 }
 
-fn flat_functions(answer: semcode_functions::functions::Functions, cursor: usize) -> Functions
-    ensures { result ≡ flat_functions cursor (functions_out answer) }
+fn flat_functions(answer: Answer<File>, cursor: usize) -> Functions
+    ensures { result ≡ flat_functions cursor (answer_out file_is answer) }
 {
     match answer {
-        semcode_functions::functions::Functions::Whole(found) => {
-            let last = found.last;
-            Functions {
-                accepted: true,
-                refusal: no_refusal(),
-                functions: found.functions,
-                cursor: found.cursor,
-                last_code: last_code(last),
-                last: flat_last(last),
-            }
-        }
-        semcode_functions::functions::Functions::Refused(refused) => Functions {
-            accepted: false,
-            refusal: flat_refusal(refused),
-            functions: 0,
+        Ok(found) => Functions {
+            accepted: true,
+            functions: found.functions,
+            cursor: found.cursor,
+            last_code: last_code(found.last),
+            last: flat_last(found.last),
+            ..Functions::default()
+        },
+        Err(refused) => Functions {
+            refusal: refused.into(),
             cursor,
-            last_code: 0,
-            last: no_block(no_refusal()),
+            ..Functions::default()
         },
     }
 }

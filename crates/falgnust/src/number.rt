@@ -13,10 +13,11 @@ ghost use Rattle.semcode_decode.specs.Number.{
 ghost use Rattle.falgnust.specs.Maps.{flat_text};
 ghost use Rattle.falgnust.specs.BlockMaps.{flat_symbol, flat_path, flat_component};
 
-use crate::record::{Component, Path, Symbol, flat_component, flat_path, flat_symbol};
-use crate::text::{Text, flat_text};
+use crate::record::{Component, Path, Symbol};
+use crate::text::Text;
 use semcode_read::{component_number, path_number, string_number, symbol_number};
 
+#[tactic(auto, using(semcode_decode::proofs::LentLaws::mapped))]
 #[unsafe(no_mangle)]
 pub extern "C" fn falgnust_string_number(
     base_offset: usize,
@@ -31,7 +32,7 @@ pub extern "C" fn falgnust_string_number(
         (tables strings.old paths.old families.old)
         (tables strings.new paths.new families.new) result }
 {
-    let read = string_number(
+    string_number(
         base_offset,
         code,
         header_rev,
@@ -39,10 +40,11 @@ pub extern "C" fn falgnust_string_number(
         strings,
         paths,
         families,
-    );
-    flat_text(read)
+    )
+    .into()
 }
 
+#[tactic(auto, using(semcode_decode::proofs::LentLaws::mapped))]
 #[unsafe(no_mangle)]
 pub extern "C" fn falgnust_symbol_number(
     base_offset: usize,
@@ -57,7 +59,7 @@ pub extern "C" fn falgnust_symbol_number(
         (tables strings.old paths.old families.old)
         (tables strings.new paths.new families.new) result }
 {
-    let read = symbol_number(
+    symbol_number(
         base_offset,
         code,
         header_rev,
@@ -65,10 +67,11 @@ pub extern "C" fn falgnust_symbol_number(
         strings,
         paths,
         families,
-    );
-    flat_symbol(read)
+    )
+    .into()
 }
 
+#[tactic(auto, using(semcode_decode::proofs::LentLaws::mapped))]
 #[unsafe(no_mangle)]
 pub extern "C" fn falgnust_path_number(
     base_offset: usize,
@@ -83,7 +86,7 @@ pub extern "C" fn falgnust_path_number(
         (tables strings.old paths.old families.old)
         (tables strings.new paths.new families.new) result }
 {
-    let read = path_number(
+    path_number(
         base_offset,
         code,
         header_rev,
@@ -91,10 +94,11 @@ pub extern "C" fn falgnust_path_number(
         strings,
         paths,
         families,
-    );
-    flat_path(read)
+    )
+    .into()
 }
 
+#[tactic(auto, using(semcode_decode::proofs::LentLaws::mapped))]
 #[unsafe(no_mangle)]
 pub extern "C" fn falgnust_component_number(
     base_offset: usize,
@@ -110,7 +114,7 @@ pub extern "C" fn falgnust_component_number(
         (tables strings.old paths.old families.old)
         (tables strings.new paths.new families.new) result }
 {
-    let read = component_number(
+    component_number(
         base_offset,
         code,
         header_rev,
@@ -119,6 +123,6 @@ pub extern "C" fn falgnust_component_number(
         strings,
         paths,
         families,
-    );
-    flat_component(read)
+    )
+    .into()
 }

@@ -1,5 +1,6 @@
 // A parent cell of a section by number, for which the section is decoded anew, and at a place of its payload.
 ghost use Rattle.std.specs.Prelude.{◌≡◌};
+ghost use Rattle.local_format.specs.Maps.{answer_out};
 ghost use Rattle.evr0_section.specs.Witness.{parent_row};
 ghost use Rattle.rule_table.specs.ByTable.{table};
 ghost use Rattle.evr0.specs.Answer.{lent_of};
@@ -7,18 +8,21 @@ ghost use Rattle.evr0_read.specs.Asked.{Answers, AnswersBy};
 ghost use Rattle.evr0_read.specs.Ask.{parent_number, entry_told};
 ghost use Rattle.evr0_read.specs.Entry.{placed_parent, record_at};
 ghost use Rattle.evr0_read.specs.Place.{parent_place};
-ghost use Rattle.evr0_read.specs.Maps.{parent_entry_out};
+ghost use Rattle.evr0_read.specs.Maps as maps;
+ghost use Rattle.evr0_read.specs.Maps.{entry_out};
 ghost use Rattle.falgnust.specs.EntryMaps.{flat_parent};
 
-use crate::refusal::{Refusal, flat_refusal, no_refusal};
+use crate::refusal::{Answer, Refusal};
+use evr0_fields::number::ProofNumber;
 use evr0_head::counts::Counts;
-use evr0_read::ask::{parent_number, parent_number_given};
-use evr0_read::cell::{ParentEntry, parent_at, parent_place};
+use evr0_read::ask::by_number;
+use evr0_read::cell::{ParentNumber, parent_at, parent_place};
+use evr0_read::entry::Entry;
 use evr0_rules::settle::Rules;
 
 // Where the cell starts in the payload, and the proof's number in it; or a refusal, with zeros beside it.
 #[repr(C)]
-#[derive(Drop)]
+#[derive(Clone, Copy, Debug, Default, PartialEq, Eq)]
 pub struct Parent {
     pub accepted: bool,
     pub refusal: Refusal,
@@ -26,22 +30,22 @@ pub struct Parent {
     pub proof_id: u32,
 }
 
-fn flat_parent(entry: ParentEntry) -> Parent
-    ensures { result ≡ flat_parent (parent_entry_out entry) }
-{
-    match entry {
-        ParentEntry::Found { start, proof } => Parent {
-            accepted: true,
-            refusal: no_refusal(),
-            start,
-            proof_id: proof.0,
-        },
-        ParentEntry::Refused(refused) => Parent {
-            accepted: false,
-            refusal: flat_refusal(refused),
-            start: 0,
-            proof_id: 0,
-        },
+impl From<Answer<Entry<ProofNumber>>> for Parent {
+    ghost from_gives = { λ entry x. x ≡ flat_parent (answer_out (entry_out maps.parent_number) entry) };
+
+    fn from(entry: Answer<Entry<ProofNumber>>) -> Parent {
+        match entry {
+            Ok(Entry { start, item }) => Parent {
+                accepted: true,
+                start,
+                proof_id: item.0,
+                ..Parent::default()
+            },
+            Err(refused) => Parent {
+                refusal: refused.into(),
+                ..Parent::default()
+            },
+        }
     }
 }
 
@@ -58,8 +62,16 @@ pub extern "C" fn falgnust_parent_number(
         (lent_of propositions.old proofs.old depths.old)
         (lent_of propositions.new proofs.new depths.new) result }
 {
-    let entry = parent_number(bytes, cursor, number, propositions, proofs, depths);
-    flat_parent(entry)
+    by_number(
+        Rules::Four,
+        bytes,
+        cursor,
+        ParentNumber(number),
+        propositions,
+        proofs,
+        depths,
+    )
+    .into()
 }
 
 // By a table of rules, which is loaded before the section is looked at.
@@ -77,24 +89,23 @@ pub extern "C" fn falgnust_parent_number_by_rules(
         (lent_of propositions.old proofs.old depths.old)
         (lent_of propositions.new proofs.new depths.new) result }
 {
-    let entry = parent_number_given(
-        Rules::Table,
-        rules,
+    by_number(
+        Rules::Table(rules),
         bytes,
         cursor,
-        number,
+        ParentNumber(number),
         propositions,
         proofs,
         depths,
-    );
-    flat_parent(entry)
+    )
+    .into()
 }
 
 #[unsafe(no_mangle)]
 pub extern "C" fn falgnust_read_parent(payload: &[u8], at: usize) -> Parent
     ensures { result ≡ flat_parent (record_at (parent_row tt) placed_parent payload.now at) }
 {
-    flat_parent(parent_at(payload, at))
+    parent_at(payload, at).into()
 }
 
 // Where the parent cell with a number starts in the payload, of `len` bytes, of an accepted section with so many parents.
@@ -108,5 +119,5 @@ pub extern "C" fn falgnust_parent_place(len: usize, parents: usize, number: u32)
         witnesses: 0,
         parents,
     };
-    parent_place(len, counts, number)
+    parent_place(len, counts, ParentNumber(number))
 }

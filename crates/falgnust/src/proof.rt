@@ -1,24 +1,26 @@
 // A proof of a section by number, for which the section is decoded anew, and at a place of its payload.
 ghost use Rattle.std.specs.Prelude.{◌≡◌};
+ghost use Rattle.local_format.specs.Maps.{answer_out};
 ghost use Rattle.evr0_section.specs.Proof.{proof_of};
 ghost use Rattle.rule_table.specs.ByTable.{table};
 ghost use Rattle.evr0.specs.Answer.{lent_of};
 ghost use Rattle.evr0_read.specs.Asked.{Answers, AnswersBy};
 ghost use Rattle.evr0_read.specs.Ask.{proof_number, proof_told};
 ghost use Rattle.evr0_read.specs.Entry.{placed_proof, record_at};
-ghost use Rattle.evr0_read.specs.Maps.{proof_entry_out};
+ghost use Rattle.evr0_records.specs.Maps.{proof_record};
+ghost use Rattle.evr0_read.specs.Maps.{entry_out};
 ghost use Rattle.falgnust.specs.EntryMaps.{flat_proof};
 
-use crate::refusal::{Refusal, flat_refusal, no_refusal};
-use crate::span::{Span, flat_span};
+use crate::refusal::{Answer, Refusal};
+use crate::span::Span;
 use evr0_fields::number::ProofNumber;
-use evr0_read::ask::{proof_number, proof_number_given};
-use evr0_read::entry::{ProofEntry, proof_at};
+use evr0_read::ask::by_number;
+use evr0_read::entry::{Entry, proof_at};
 use evr0_rules::settle::Rules;
 
 // Where the record starts in the payload, and its fields; or a refusal, with zeros beside it.
 #[repr(C)]
-#[derive(Drop)]
+#[derive(Clone, Copy, Debug, Default, PartialEq, Eq)]
 pub struct Proof {
     pub accepted: bool,
     pub refusal: Refusal,
@@ -34,46 +36,30 @@ pub struct Proof {
     pub authorized_operation: u8,
 }
 
-fn flat_proof(entry: ProofEntry) -> Proof
-    ensures { result ≡ flat_proof (proof_entry_out entry) }
-{
-    match entry {
-        ProofEntry::Found { start, proof } => {
-            let rule_id = proof.rule_id;
-            Proof {
+impl From<Answer<Entry<evr0_records::proof::Proof>>> for Proof {
+    ghost from_gives = { λ entry x. x ≡ flat_proof (answer_out (entry_out proof_record) entry) };
+
+    fn from(entry: Answer<Entry<evr0_records::proof::Proof>>) -> Proof {
+        match entry {
+            Ok(Entry { start, item }) => Proof {
                 accepted: true,
-                refusal: no_refusal(),
                 start,
-                proof_id: proof.proof_id.0,
-                proposition_index: proof.proposition_index.0,
-                rule_id: flat_span(rule_id),
-                authority_context: proof.authority_context,
-                witness_first: proof.witness_first.0,
-                witness_count: proof.witness_count,
-                parent_first: proof.parent_first,
-                parent_count: proof.parent_count,
-                authorized_operation: proof.authorized_operation,
-            }
-        }
-        ProofEntry::Refused(refused) => Proof {
-            accepted: false,
-            refusal: flat_refusal(refused),
-            start: 0,
-            proof_id: 0,
-            proposition_index: 0,
-            rule_id: Span {
-                start: 0,
-                len: 0,
-                chars: 0,
-                next: 0,
+                proof_id: item.proof_id.0,
+                proposition_index: item.proposition_index.0,
+                rule_id: item.rule_id.into(),
+                authority_context: item.authority_context,
+                witness_first: item.witness_first.0,
+                witness_count: item.witness_count,
+                parent_first: item.parent_first,
+                parent_count: item.parent_count,
+                authorized_operation: item.authorized_operation,
+                ..Proof::default()
             },
-            authority_context: 0,
-            witness_first: 0,
-            witness_count: 0,
-            parent_first: 0,
-            parent_count: 0,
-            authorized_operation: 0,
-        },
+            Err(refused) => Proof {
+                refusal: refused.into(),
+                ..Proof::default()
+            },
+        }
     }
 }
 
@@ -90,15 +76,16 @@ pub extern "C" fn falgnust_proof_number(
         (lent_of propositions.old proofs.old depths.old)
         (lent_of propositions.new proofs.new depths.new) result }
 {
-    let entry = proof_number(
+    by_number(
+        Rules::Four,
         bytes,
         cursor,
         ProofNumber(number),
         propositions,
         proofs,
         depths,
-    );
-    flat_proof(entry)
+    )
+    .into()
 }
 
 // By a table of rules, which is loaded before the section is looked at.
@@ -116,22 +103,21 @@ pub extern "C" fn falgnust_proof_number_by_rules(
         (lent_of propositions.old proofs.old depths.old)
         (lent_of propositions.new proofs.new depths.new) result }
 {
-    let entry = proof_number_given(
-        Rules::Table,
-        rules,
+    by_number(
+        Rules::Table(rules),
         bytes,
         cursor,
         ProofNumber(number),
         propositions,
         proofs,
         depths,
-    );
-    flat_proof(entry)
+    )
+    .into()
 }
 
 #[unsafe(no_mangle)]
 pub extern "C" fn falgnust_read_proof(payload: &[u8], at: usize) -> Proof
     ensures { result ≡ flat_proof (record_at proof_of placed_proof payload.now at) }
 {
-    flat_proof(proof_at(payload, at))
+    proof_at(payload, at).into()
 }

@@ -1,22 +1,24 @@
 // The records of a block, each at a place.
 ghost use Rattle.std.specs.Prelude.{◌≡◌};
+ghost use Rattle.local_format.specs.Maps.{answer_out};
 ghost use Rattle.semcode_records.specs.Symbol.{symbol_at};
 ghost use Rattle.semcode_records.specs.Path.{head_at};
 ghost use Rattle.semcode_records.specs.Component.{component_at};
-ghost use Rattle.semcode_records.specs.Maps.{symbol_out, path_out, component_out, event_is, component_is};
+ghost use Rattle.semcode_records.specs.Maps.{taken_out, symbol_is, head_is, event_is, component_is};
 ghost use Rattle.falgnust.specs.BlockMaps.{flat_symbol, flat_event, flat_path, flat_parts, flat_component};
 
-use crate::refusal::{Refusal, flat_refusal, no_refusal};
+use crate::refusal::{Answer, Refusal};
+use local_format::field::Field;
 use semcode_records::component::{DecodedAccessPathComponent, read_component};
 use semcode_records::path::{
-    DecodedBorrowActivation, DecodedEvent, DecodedWriteExecution, read_path,
+    DecodedAccessPath, DecodedBorrowActivation, DecodedEvent, DecodedWriteExecution, read_path,
 };
-use semcode_records::symbol::read_debug_symbol;
+use semcode_records::symbol::{DecodedDebugSymbol, read_debug_symbol};
 
 // ---- Debug symbols
 
 #[repr(C)]
-#[derive(Drop)]
+#[derive(Clone, Copy, Debug, Default, PartialEq, Eq)]
 pub struct Symbol {
     pub accepted: bool,
     pub refusal: Refusal,
@@ -26,26 +28,29 @@ pub struct Symbol {
     pub next: usize,
 }
 
-pub fn flat_symbol(read: semcode_records::symbol::Symbol) -> Symbol
-    ensures { result ≡ flat_symbol (symbol_out read) }
-{
-    match read {
-        semcode_records::symbol::Symbol::Whole { symbol, next } => Symbol {
-            accepted: true,
-            refusal: no_refusal(),
-            pc: symbol.pc,
-            line: symbol.line,
-            col: symbol.col,
-            next,
-        },
-        semcode_records::symbol::Symbol::Refused(refused) => Symbol {
-            accepted: false,
-            refusal: flat_refusal(refused),
-            pc: 0,
-            line: 0,
-            col: 0,
-            next: 0,
-        },
+impl From<Answer<Field<DecodedDebugSymbol>>> for Symbol {
+    ghost from_gives = { λ read s. s ≡ flat_symbol (answer_out (taken_out symbol_is) read) };
+
+    fn from(read: Answer<Field<DecodedDebugSymbol>>) -> Symbol {
+        match read {
+            Ok(
+                Field {
+                    value: symbol,
+                    next,
+                },
+            ) => Symbol {
+                accepted: true,
+                pc: symbol.pc,
+                line: symbol.line,
+                col: symbol.col,
+                next,
+                ..Symbol::default()
+            },
+            Err(refused) => Symbol {
+                refusal: refused.into(),
+                ..Symbol::default()
+            },
+        }
     }
 }
 
@@ -53,39 +58,38 @@ pub fn flat_symbol(read: semcode_records::symbol::Symbol) -> Symbol
 pub extern "C" fn falgnust_read_debug_symbol(code: &[u8], at: usize) -> Symbol
     ensures { result ≡ flat_symbol (symbol_at code.now at) }
 {
-    flat_symbol(read_debug_symbol(code, at))
+    read_debug_symbol(code, at).into()
 }
 
 // ---- Paths
 
 // 0: a borrow without activation; 1: on frame entry; 2: at a store site; 3: a write without execution; 4: at a store site; 5: at a record
-// site. The site is 0 where there is none.
+// site. The site is 0 where there is none. C has no enum with a value.
 #[repr(C)]
-#[derive(Drop)]
+#[derive(Clone, Copy, Debug, Default, PartialEq, Eq)]
 pub struct Event {
     pub event: u8,
     pub site: u32,
 }
 
-fn flat_event(event: DecodedEvent) -> Event
-    ensures { result ≡ flat_event (event_is event) }
-{
-    match event {
-        DecodedEvent::Borrow(activation) => match activation {
-            DecodedBorrowActivation::None => Event { event: 0, site: 0 },
-            DecodedBorrowActivation::FrameEntry => Event { event: 1, site: 0 },
-            DecodedBorrowActivation::StoreVarSite(site) => Event { event: 2, site },
-        },
-        DecodedEvent::Write(execution) => match execution {
-            DecodedWriteExecution::None => Event { event: 3, site: 0 },
-            DecodedWriteExecution::StoreVarSite(site) => Event { event: 4, site },
-            DecodedWriteExecution::MakeRecordSite(site) => Event { event: 5, site },
-        },
+impl From<DecodedEvent> for Event {
+    ghost from_gives = { λ event e. e ≡ flat_event (event_is event) };
+
+    fn from(event: DecodedEvent) -> Event {
+        let (event, site) = match event {
+            DecodedEvent::Borrow(DecodedBorrowActivation::None) => (0, 0),
+            DecodedEvent::Borrow(DecodedBorrowActivation::FrameEntry) => (1, 0),
+            DecodedEvent::Borrow(DecodedBorrowActivation::StoreVarSite(site)) => (2, site),
+            DecodedEvent::Write(DecodedWriteExecution::None) => (3, 0),
+            DecodedEvent::Write(DecodedWriteExecution::StoreVarSite(site)) => (4, site),
+            DecodedEvent::Write(DecodedWriteExecution::MakeRecordSite(site)) => (5, site),
+        };
+        Event { event, site }
     }
 }
 
 #[repr(C)]
-#[derive(Drop)]
+#[derive(Clone, Copy, Debug, Default, PartialEq, Eq)]
 pub struct Path {
     pub accepted: bool,
     pub refusal: Refusal,
@@ -96,31 +100,25 @@ pub struct Path {
     pub next: usize,
 }
 
-pub fn flat_path(read: semcode_records::path::Path) -> Path
-    ensures { result ≡ flat_path (path_out read) }
-{
-    match read {
-        semcode_records::path::Path::Whole { path, next } => {
-            let event = path.event;
-            Path {
+impl From<Answer<Field<DecodedAccessPath>>> for Path {
+    ghost from_gives = { λ read p. p ≡ flat_path (answer_out (taken_out head_is) read) };
+
+    fn from(read: Answer<Field<DecodedAccessPath>>) -> Path {
+        match read {
+            Ok(Field { value: path, next }) => Path {
                 accepted: true,
-                refusal: no_refusal(),
-                event: flat_event(event),
+                event: path.event.into(),
                 root_symbol_id: path.root_symbol_id,
                 component_count: path.component_count,
                 components_start: path.components_start,
                 next,
-            }
+                ..Path::default()
+            },
+            Err(refused) => Path {
+                refusal: refused.into(),
+                ..Path::default()
+            },
         }
-        semcode_records::path::Path::Refused(refused) => Path {
-            accepted: false,
-            refusal: flat_refusal(refused),
-            event: Event { event: 0, site: 0 },
-            root_symbol_id: 0,
-            component_count: 0,
-            components_start: 0,
-            next: 0,
-        },
     }
 }
 
@@ -128,49 +126,40 @@ pub fn flat_path(read: semcode_records::path::Path) -> Path
 pub extern "C" fn falgnust_read_path(code: &[u8], at: usize, header_rev: u16) -> Path
     ensures { result ≡ flat_path (head_at header_rev code.now at) }
 {
-    flat_path(read_path(code, at, header_rev))
+    read_path(code, at, header_rev).into()
 }
 
 // ---- Components
 
 // The kind is the byte of the format; a variant's index is the second number.
 #[repr(C)]
-#[derive(Drop)]
+#[derive(Clone, Copy, Debug, Default, PartialEq, Eq)]
 pub struct Parts {
     pub kind: u8,
     pub first: u32,
     pub second: u16,
 }
 
-fn parts_of(component: DecodedAccessPathComponent) -> Parts
-    ensures { result ≡ flat_parts (component_is component) }
-{
-    match component {
-        DecodedAccessPathComponent::TupleIndex(index) => Parts {
-            kind: 0,
-            first: index as u32,
-            second: 0,
-        },
-        DecodedAccessPathComponent::FieldSymbol(field) => Parts {
-            kind: 1,
-            first: field,
-            second: 0,
-        },
-        DecodedAccessPathComponent::AdtPayload { variant, index } => Parts {
-            kind: 2,
-            first: variant,
-            second: index,
-        },
-        DecodedAccessPathComponent::SequenceIndexStatic(index) => Parts {
-            kind: 3,
-            first: index,
-            second: 0,
-        },
+impl From<DecodedAccessPathComponent> for Parts {
+    ghost from_gives = { λ component p. p ≡ flat_parts (component_is component) };
+
+    fn from(component: DecodedAccessPathComponent) -> Parts {
+        let (kind, first, second) = match component {
+            DecodedAccessPathComponent::TupleIndex(index) => (0, index.into(), 0),
+            DecodedAccessPathComponent::FieldSymbol(field) => (1, field, 0),
+            DecodedAccessPathComponent::AdtPayload { variant, index } => (2, variant, index),
+            DecodedAccessPathComponent::SequenceIndexStatic(index) => (3, index, 0),
+        };
+        Parts {
+            kind,
+            first,
+            second,
+        }
     }
 }
 
 #[repr(C)]
-#[derive(Drop)]
+#[derive(Clone, Copy, Debug, Default, PartialEq, Eq)]
 pub struct Component {
     pub accepted: bool,
     pub refusal: Refusal,
@@ -178,26 +167,27 @@ pub struct Component {
     pub next: usize,
 }
 
-pub fn flat_component(read: semcode_records::component::Component) -> Component
-    ensures { result ≡ flat_component (component_out read) }
-{
-    match read {
-        semcode_records::component::Component::Whole { component, next } => Component {
-            accepted: true,
-            refusal: no_refusal(),
-            component: parts_of(component),
-            next,
-        },
-        semcode_records::component::Component::Refused(refused) => Component {
-            accepted: false,
-            refusal: flat_refusal(refused),
-            component: Parts {
-                kind: 0,
-                first: 0,
-                second: 0,
+impl From<Answer<Field<DecodedAccessPathComponent>>> for Component {
+    ghost from_gives = { λ read c. c ≡ flat_component (answer_out (taken_out component_is) read) };
+
+    fn from(read: Answer<Field<DecodedAccessPathComponent>>) -> Component {
+        match read {
+            Ok(
+                Field {
+                    value: component,
+                    next,
+                },
+            ) => Component {
+                accepted: true,
+                component: component.into(),
+                next,
+                ..Component::default()
             },
-            next: 0,
-        },
+            Err(refused) => Component {
+                refusal: refused.into(),
+                ..Component::default()
+            },
+        }
     }
 }
 
@@ -210,5 +200,5 @@ pub extern "C" fn falgnust_read_component(
 ) -> Component
     ensures { result ≡ flat_component (component_at header_rev kind code.now at) }
 {
-    flat_component(read_component(code, at, header_rev, kind))
+    read_component(code, at, header_rev, kind).into()
 }

@@ -1,49 +1,53 @@
 // Locks with owners, in a register that the caller lends.
 ghost use Rattle.std.specs.Prelude.{◌≡◌, length};
+ghost use Rattle.local_format.specs.Maps.{answer_out};
 ghost use Rattle.semcode_decode.specs.Layout.{tables};
 ghost use Rattle.lock_words.specs.Words.{locks_in};
+ghost use Rattle.lock_words.specs.Maps.{part_is};
 ghost use Rattle.lock_register.specs.Release.{Releases};
-ghost use Rattle.locks.specs.Claim.{Claims};
 ghost use Rattle.lock_register.specs.Read.{lock_number, part_number};
-ghost use Rattle.lock_register.specs.Maps.{lock_out, part_out};
-ghost use Rattle.locks.specs.Maps.{claim_out};
+ghost use Rattle.lock_register.specs.Maps.{head_is};
+ghost use Rattle.locks.specs.Claim.{Claims};
 ghost use Rattle.falgnust.specs.LockMaps.{flat_claim, flat_lock, flat_lock_part};
 
 use crate::record::Parts;
-use crate::refusal::{Refusal, flat_refusal, no_refusal};
-use lock_register::read::{LockRead, PartRead, held, lock_number, lock_part};
+use crate::refusal::{Answer, Refusal};
+use lock_register::read::{held, lock_number, lock_part};
 use lock_register::release::release;
 use lock_words::source::source_bytes;
-use locks::claim::{Answer, claim};
+use lock_words::words::Part;
+use locks::claim::claim;
 
 // ---- Claims and releases
 
 // How many locks are held afterwards; or a refusal, with a zero beside it.
 #[repr(C)]
-#[derive(Drop)]
+#[derive(Clone, Copy, Debug, Default, PartialEq, Eq)]
 pub struct Claimed {
     pub accepted: bool,
     pub refusal: Refusal,
     pub held: usize,
 }
 
-fn flat_claim(answer: Answer) -> Claimed
-    ensures { result ≡ flat_claim (claim_out answer) }
-{
-    match answer {
-        Answer::Held(held) => Claimed {
-            accepted: true,
-            refusal: no_refusal(),
-            held,
-        },
-        Answer::Refused(refused) => Claimed {
-            accepted: false,
-            refusal: flat_refusal(refused),
-            held: 0,
-        },
+impl From<Answer<usize>> for Claimed {
+    ghost from_gives = { λ answer c. c ≡ flat_claim (answer_out (λ n. n) answer) };
+
+    fn from(answer: Answer<usize>) -> Claimed {
+        match answer {
+            Ok(held) => Claimed {
+                accepted: true,
+                held,
+                ..Claimed::default()
+            },
+            Err(refused) => Claimed {
+                refusal: refused.into(),
+                ..Claimed::default()
+            },
+        }
     }
 }
 
+#[tactic(auto, using(locks::proofs::CallLaws::claims_mapped))]
 #[unsafe(no_mangle)]
 pub extern "C" fn falgnust_claim(
     register: &mut [u64; 6145],
@@ -60,7 +64,7 @@ pub extern "C" fn falgnust_claim(
         (tables strings.old paths.old families.old)
         (tables strings.new paths.new families.new) result }
 {
-    let answer = claim(
+    claim(
         register,
         owner,
         base_offset,
@@ -70,8 +74,8 @@ pub extern "C" fn falgnust_claim(
         strings,
         paths,
         families,
-    );
-    flat_claim(answer)
+    )
+    .into()
 }
 
 #[unsafe(no_mangle)]
@@ -91,7 +95,7 @@ pub extern "C" fn falgnust_held(register: &[u64; 6145]) -> usize
 }
 
 #[repr(C)]
-#[derive(Drop)]
+#[derive(Clone, Copy, Debug, Default, PartialEq, Eq)]
 pub struct Lock {
     pub accepted: bool,
     pub refusal: Refusal,
@@ -102,28 +106,26 @@ pub struct Lock {
     pub source: [u8; 32],
 }
 
-fn flat_lock(read: LockRead) -> Lock
-    ensures { result ≡ flat_lock (lock_out read) }
-{
-    match read {
-        LockRead::Whole(lock) => Lock {
-            accepted: true,
-            refusal: no_refusal(),
-            owner: lock.owner,
-            write: lock.write,
-            root_symbol_id: lock.symbol,
-            component_count: lock.parts,
-            source: source_bytes(lock.source),
-        },
-        LockRead::Refused(refused) => Lock {
-            accepted: false,
-            refusal: flat_refusal(refused),
-            owner: 0,
-            write: false,
-            root_symbol_id: 0,
-            component_count: 0,
-            source: [0; 32],
-        },
+impl From<Answer<lock_register::read::Lock>> for Lock {
+    ghost from_gives = { λ read l. l ≡ flat_lock (answer_out head_is read) };
+
+    fn from(read: Answer<lock_register::read::Lock>) -> Lock {
+        match read {
+            Ok(lock) => Lock {
+                accepted: true,
+                owner: lock.owner,
+                write: lock.write,
+                root_symbol_id: lock.symbol,
+                component_count: lock.parts,
+                source: source_bytes(lock.source),
+                ..Lock::default()
+            },
+            Err(refused) => Lock {
+                refusal: refused.into(),
+                source: [0; 32],
+                ..Lock::default()
+            },
+        }
     }
 }
 
@@ -131,40 +133,37 @@ fn flat_lock(read: LockRead) -> Lock
 pub extern "C" fn falgnust_lock_number(register: &[u64; 6145], number: usize) -> Lock
     ensures { result ≡ flat_lock (lock_number number (locks_in register.now)) }
 {
-    flat_lock(lock_number(register, number))
+    lock_number(register, number).into()
 }
 
 // The component as in a path's.
 #[repr(C)]
-#[derive(Drop)]
+#[derive(Clone, Copy, Debug, Default, PartialEq, Eq)]
 pub struct LockPart {
     pub accepted: bool,
     pub refusal: Refusal,
     pub component: Parts,
 }
 
-fn flat_lock_part(read: PartRead) -> LockPart
-    ensures { result ≡ flat_lock_part (part_out read) }
-{
-    match read {
-        PartRead::Whole(part) => LockPart {
-            accepted: true,
-            refusal: no_refusal(),
-            component: Parts {
-                kind: part.kind,
-                first: part.first,
-                second: part.second,
+impl From<Answer<Part>> for LockPart {
+    ghost from_gives = { λ read p. p ≡ flat_lock_part (answer_out part_is read) };
+
+    fn from(read: Answer<Part>) -> LockPart {
+        match read {
+            Ok(part) => LockPart {
+                accepted: true,
+                component: Parts {
+                    kind: part.kind,
+                    first: part.first,
+                    second: part.second,
+                },
+                ..LockPart::default()
             },
-        },
-        PartRead::Refused(refused) => LockPart {
-            accepted: false,
-            refusal: flat_refusal(refused),
-            component: Parts {
-                kind: 0,
-                first: 0,
-                second: 0,
+            Err(refused) => LockPart {
+                refusal: refused.into(),
+                ..LockPart::default()
             },
-        },
+        }
     }
 }
 
@@ -172,5 +171,5 @@ fn flat_lock_part(read: PartRead) -> LockPart
 pub extern "C" fn falgnust_lock_part(register: &[u64; 6145], number: usize, part: usize) -> LockPart
     ensures { result ≡ flat_lock_part (part_number number part (locks_in register.now)) }
 {
-    flat_lock_part(lock_part(register, number, part))
+    lock_part(register, number, part).into()
 }

@@ -2,41 +2,43 @@
 ghost use Rattle.std.specs.Prelude.{◌≡◌};
 ghost use Rattle.utf8.specs.Utf8.{decode};
 ghost use Rattle.utf8.specs.Scan.{scan_of, utf8_at};
+ghost use Rattle.utf8.specs.Maps.{scanned_out, utf8_out};
 ghost use Rattle.falgnust.specs.Maps.{flat_scan, flat_utf8};
 
-use utf8::{read_utf8, scan};
+use utf8::{Utf8Error, read_utf8, scan};
 
-// 0: not UTF-8; 1: UTF-8 without control characters; 2: UTF-8 with one. And the number of characters.
+// C has no Option: 0: not UTF-8; 1: UTF-8 without control characters; 2: UTF-8 with one. And the number of characters.
 #[repr(C)]
-#[derive(Drop)]
+#[derive(Clone, Copy, Debug, Default, PartialEq, Eq)]
 pub struct Scanned {
     pub answer: u8,
     pub chars: usize,
+}
+
+impl From<Option<utf8::Scanned>> for Scanned {
+    ghost from_gives = { λ scanned s. s ≡ flat_scan (scanned_out scanned) };
+
+    fn from(scanned: Option<utf8::Scanned>) -> Scanned {
+        match scanned {
+            Some(utf8::Scanned { chars, control }) => Scanned {
+                answer: if control { 2 } else { 1 },
+                chars,
+            },
+            None => Scanned::default(),
+        }
+    }
 }
 
 #[unsafe(no_mangle)]
 pub extern "C" fn falgnust_scan(bytes: &[u8]) -> Scanned
     ensures { result ≡ flat_scan (scan_of (decode bytes.now)) }
 {
-    let scanned = scan(bytes);
-    match scanned {
-        utf8::Scanned::Text { chars, control } => {
-            if control {
-                Scanned { answer: 2, chars }
-            } else {
-                Scanned { answer: 1, chars }
-            }
-        }
-        utf8::Scanned::NotUtf8 => Scanned {
-            answer: 0,
-            chars: 0,
-        },
-    }
+    scan(bytes).into()
 }
 
 // What the bytes are and the place after them; all is zero where they pass the end.
 #[repr(C)]
-#[derive(Drop)]
+#[derive(Clone, Copy, Debug, Default, PartialEq, Eq)]
 pub struct Utf8 {
     pub whole: bool,
     pub text: bool,
@@ -45,36 +47,31 @@ pub struct Utf8 {
     pub next: usize,
 }
 
+impl From<Result<utf8::Utf8, Utf8Error>> for Utf8 {
+    ghost from_gives = { λ read u. u ≡ flat_utf8 (utf8_out read) };
+
+    fn from(read: Result<utf8::Utf8, Utf8Error>) -> Utf8 {
+        match read {
+            Ok(text) => Utf8 {
+                whole: true,
+                text: true,
+                control: text.control,
+                chars: text.chars,
+                next: text.next,
+            },
+            Err(Utf8Error::NotUtf8 { next }) => Utf8 {
+                whole: true,
+                next,
+                ..Utf8::default()
+            },
+            Err(Utf8Error::Cut) => Utf8::default(),
+        }
+    }
+}
+
 #[unsafe(no_mangle)]
 pub extern "C" fn falgnust_read_utf8(bytes: &[u8], at: usize, len: usize) -> Utf8
     ensures { result ≡ flat_utf8 (utf8_at bytes.now at len) }
 {
-    let read = read_utf8(bytes, at, len);
-    match read {
-        utf8::Utf8::Text {
-            chars,
-            control,
-            next,
-        } => Utf8 {
-            whole: true,
-            text: true,
-            control,
-            chars,
-            next,
-        },
-        utf8::Utf8::NotUtf8 { next } => Utf8 {
-            whole: true,
-            text: false,
-            control: false,
-            chars: 0,
-            next,
-        },
-        utf8::Utf8::Cut => Utf8 {
-            whole: false,
-            text: false,
-            control: false,
-            chars: 0,
-            next: 0,
-        },
-    }
+    read_utf8(bytes, at, len).into()
 }

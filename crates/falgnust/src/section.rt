@@ -5,15 +5,15 @@ ghost use Rattle.evr0.specs.AnswerMaps.{answer_out};
 ghost use Rattle.evr0_marks.specs.Answer.{with_marks};
 ghost use Rattle.falgnust.specs.SectionMaps.{flat_section, Decodes, DecodesUnmarked, DecodesBy, DecodesUnmarkedBy};
 
-use crate::refusal::{Refusal, flat_refusal, no_refusal};
-use evr0::section::{DecodedEvr0, Outcome, decode_evr0_by, decode_evr0_unmarked};
+use crate::refusal::Refusal;
+use evr0::section::{DecodedEvr0, decode_evr0_by, decode_evr0_unmarked};
 use evr0_marks::section::{decode_evr0_section, decode_evr0_section_by};
 use evr0_rules::settle::Rules;
 
 // The digests, the epoch, the schema, the places in the payload of both namespaces' lengths, how many characters each has, and the counts;
 // or a refusal, with zeros beside it. The cursor is the one that was brought where the section is refused.
 #[repr(C)]
-#[derive(Drop)]
+#[derive(Clone, Copy, Debug, Default, PartialEq, Eq)]
 pub struct Section {
     pub accepted: bool,
     pub refusal: Refusal,
@@ -32,48 +32,42 @@ pub struct Section {
     pub cursor: usize,
 }
 
-pub fn flat_section(decoded: DecodedEvr0) -> Section
-    ensures { result ≡ flat_section (answer_out decoded) }
-{
-    let source_set = decoded.source_set;
-    let compiler_contract = decoded.compiler_contract;
-    let cursor = decoded.cursor;
-    let outcome = decoded.outcome;
-    match outcome {
-        Outcome::Accepted(given) => Section {
-            accepted: true,
-            refusal: no_refusal(),
+impl From<DecodedEvr0> for Section {
+    ghost from_gives = { λ decoded s. s ≡ flat_section (answer_out decoded) };
+
+    fn from(decoded: DecodedEvr0) -> Section {
+        let DecodedEvr0 {
             source_set,
             compiler_contract,
-            epoch: given.epoch,
-            schema: given.schema,
-            policy_at: given.policy_namespace,
-            issuer_at: given.issuer_namespace,
-            policy_chars: given.policy_chars,
-            issuer_chars: given.issuer_chars,
-            propositions: given.counts.propositions,
-            proofs: given.counts.proofs,
-            witnesses: given.counts.witnesses,
-            parents: given.counts.parents,
             cursor,
-        },
-        Outcome::Refused(refused) => Section {
-            accepted: false,
-            refusal: flat_refusal(refused),
+            outcome,
+        } = decoded;
+        let beside = Section {
             source_set,
             compiler_contract,
-            epoch: 0,
-            schema: 0,
-            policy_at: 0,
-            issuer_at: 0,
-            policy_chars: 0,
-            issuer_chars: 0,
-            propositions: 0,
-            proofs: 0,
-            witnesses: 0,
-            parents: 0,
             cursor,
-        },
+            ..Section::default()
+        };
+        match outcome {
+            Ok(given) => Section {
+                accepted: true,
+                epoch: given.epoch,
+                schema: given.schema,
+                policy_at: given.policy_namespace,
+                issuer_at: given.issuer_namespace,
+                policy_chars: given.policy_chars,
+                issuer_chars: given.issuer_chars,
+                propositions: given.counts.propositions,
+                proofs: given.counts.proofs,
+                witnesses: given.counts.witnesses,
+                parents: given.counts.parents,
+                ..beside
+            },
+            Err(refused) => Section {
+                refusal: refused.into(),
+                ..beside
+            },
+        }
     }
 }
 
@@ -90,8 +84,7 @@ pub extern "C" fn falgnust_decode_evr0_section(
         (with_marks (lent_of propositions.old proofs.old depths.old) marks.old)
         (with_marks (lent_of propositions.new proofs.new depths.new) marks.new) result }
 {
-    let decoded = decode_evr0_section(bytes, cursor, propositions, proofs, depths, marks);
-    flat_section(decoded)
+    decode_evr0_section(bytes, cursor, propositions, proofs, depths, marks).into()
 }
 
 // Without marks.
@@ -107,8 +100,7 @@ pub extern "C" fn falgnust_decode_evr0_unmarked(
         (lent_of propositions.old proofs.old depths.old)
         (lent_of propositions.new proofs.new depths.new) result }
 {
-    let decoded = decode_evr0_unmarked(bytes, cursor, propositions, proofs, depths);
-    flat_section(decoded)
+    decode_evr0_unmarked(bytes, cursor, propositions, proofs, depths).into()
 }
 
 // Both by a table of rules, which is loaded before the section is looked at.
@@ -126,17 +118,16 @@ pub extern "C" fn falgnust_decode_evr0_section_by_rules(
         (with_marks (lent_of propositions.old proofs.old depths.old) marks.old)
         (with_marks (lent_of propositions.new proofs.new depths.new) marks.new) result }
 {
-    let decoded = decode_evr0_section_by(
-        Rules::Table,
-        rules,
+    decode_evr0_section_by(
+        Rules::Table(rules),
         bytes,
         cursor,
         propositions,
         proofs,
         depths,
         marks,
-    );
-    flat_section(decoded)
+    )
+    .into()
 }
 
 #[unsafe(no_mangle)]
@@ -152,14 +143,13 @@ pub extern "C" fn falgnust_decode_evr0_unmarked_by_rules(
         (lent_of propositions.old proofs.old depths.old)
         (lent_of propositions.new proofs.new depths.new) result }
 {
-    let decoded = decode_evr0_by(
-        Rules::Table,
-        rules,
+    decode_evr0_by(
+        Rules::Table(rules),
         bytes,
         cursor,
         propositions,
         proofs,
         depths,
-    );
-    flat_section(decoded)
+    )
+    .into()
 }

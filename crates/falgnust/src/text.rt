@@ -1,15 +1,15 @@
 // Texts at a place.
 ghost use Rattle.std.specs.Prelude.{◌≡◌};
 ghost use Rattle.local_format.specs.Text.{text_at, string_at};
-ghost use Rattle.local_format.specs.Maps.{text_out};
+ghost use Rattle.local_format.specs.Maps.{answer_out, span_out};
 ghost use Rattle.falgnust.specs.Maps.{flat_text};
 
-use crate::refusal::{Refusal, flat_refusal, no_refusal};
-use local_format::text::{read_string, read_text};
+use crate::refusal::{Answer, Refusal};
+use local_format::text::{Span, string_at, text_at};
 
 // Where the bytes start, how many they are, the number of characters and the place after them; or a refusal, with zeros beside it.
 #[repr(C)]
-#[derive(Drop)]
+#[derive(Clone, Copy, Debug, Default, PartialEq, Eq)]
 pub struct Text {
     pub accepted: bool,
     pub refusal: Refusal,
@@ -19,31 +19,24 @@ pub struct Text {
     pub next: usize,
 }
 
-pub fn flat_text(text: local_format::text::Text) -> Text
-    ensures { result ≡ flat_text (text_out text) }
-{
-    match text {
-        local_format::text::Text::Whole {
-            start,
-            len,
-            chars,
-            next,
-        } => Text {
-            accepted: true,
-            refusal: no_refusal(),
-            start,
-            len,
-            chars,
-            next,
-        },
-        local_format::text::Text::Refused(refused) => Text {
-            accepted: false,
-            refusal: flat_refusal(refused),
-            start: 0,
-            len: 0,
-            chars: 0,
-            next: 0,
-        },
+impl From<Answer<Span>> for Text {
+    ghost from_gives = { λ read t. t ≡ flat_text (answer_out span_out read) };
+
+    fn from(read: Answer<Span>) -> Text {
+        match read {
+            Ok(span) => Text {
+                accepted: true,
+                start: span.start,
+                len: span.len,
+                chars: span.chars,
+                next: span.next,
+                ..Text::default()
+            },
+            Err(refused) => Text {
+                refusal: refused.into(),
+                ..Text::default()
+            },
+        }
     }
 }
 
@@ -51,12 +44,12 @@ pub fn flat_text(text: local_format::text::Text) -> Text
 pub extern "C" fn falgnust_read_text(bytes: &[u8], at: usize) -> Text
     ensures { result ≡ flat_text (text_at bytes.now at) }
 {
-    flat_text(read_text(bytes, at))
+    text_at(bytes, at).into()
 }
 
 #[unsafe(no_mangle)]
 pub extern "C" fn falgnust_read_string(bytes: &[u8], at: usize) -> Text
     ensures { result ≡ flat_text (string_at bytes.now at) }
 {
-    flat_text(read_string(bytes, at))
+    string_at(bytes, at).into()
 }

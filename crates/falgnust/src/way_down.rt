@@ -1,21 +1,22 @@
 // The way down from a proof of a section, which is decoded anew: always the first parent.
 ghost use Rattle.std.specs.Prelude.{◌≡◌};
+ghost use Rattle.local_format.specs.Maps.{answer_out};
 ghost use Rattle.rule_table.specs.ByTable.{table};
 ghost use Rattle.evr0.specs.Answer.{lent_of};
 ghost use Rattle.evr0_read.specs.Asked.{Answers, AnswersBy};
 ghost use Rattle.evr0_read.specs.Ask.{proof_number};
 ghost use Rattle.evr0_rulings.specs.Told.{way_down_told};
-ghost use Rattle.evr0_rulings.specs.Maps.{way_down_out};
+ghost use Rattle.evr0_rulings.specs.Maps.{down_out};
 ghost use Rattle.falgnust.specs.EntryMaps.{flat_way};
 
-use crate::refusal::{Refusal, flat_refusal, no_refusal};
+use crate::refusal::{Answer, Refusal};
 use evr0_fields::number::ProofNumber;
 use evr0_rules::settle::Rules;
-use evr0_rulings::down::{Down, way_down, way_down_given};
+use evr0_rulings::down::{Down, way_down};
 
 // The witness and the moves made; or, where the limit was spent, the proof reached; or a refusal. The other numbers are zeros.
 #[repr(C)]
-#[derive(Drop)]
+#[derive(Clone, Copy, Debug, Default, PartialEq, Eq)]
 pub struct WayDown {
     pub accepted: bool,
     pub refusal: Refusal,
@@ -25,36 +26,28 @@ pub struct WayDown {
     pub proof: u32,
 }
 
-fn flat_way_down(way: evr0_rulings::down::WayDown) -> WayDown
-    ensures { result ≡ flat_way (way_down_out way) }
-{
-    match way {
-        evr0_rulings::down::WayDown::Answer(down) => match down {
-            Down::Witness { witness, moves } => WayDown {
+impl From<Answer<Down>> for WayDown {
+    ghost from_gives = { λ way w. w ≡ flat_way (answer_out down_out way) };
+
+    fn from(way: Answer<Down>) -> WayDown {
+        match way {
+            Ok(Down::Witness { witness, moves }) => WayDown {
                 accepted: true,
-                refusal: no_refusal(),
-                spent: false,
                 witness: witness.0,
                 moves,
-                proof: 0,
+                ..WayDown::default()
             },
-            Down::Spent(proof) => WayDown {
+            Ok(Down::Spent(proof)) => WayDown {
                 accepted: true,
-                refusal: no_refusal(),
                 spent: true,
-                witness: 0,
-                moves: 0,
                 proof: proof.0,
+                ..WayDown::default()
             },
-        },
-        evr0_rulings::down::WayDown::Refused(refused) => WayDown {
-            accepted: false,
-            refusal: flat_refusal(refused),
-            spent: false,
-            witness: 0,
-            moves: 0,
-            proof: 0,
-        },
+            Err(refused) => WayDown {
+                refusal: refused.into(),
+                ..WayDown::default()
+            },
+        }
     }
 }
 
@@ -72,7 +65,8 @@ pub extern "C" fn falgnust_way_down(
         (lent_of propositions.old proofs.old depths.old)
         (lent_of propositions.new proofs.new depths.new) result }
 {
-    let way = way_down(
+    way_down(
+        Rules::Four,
         bytes,
         cursor,
         ProofNumber(from),
@@ -80,8 +74,8 @@ pub extern "C" fn falgnust_way_down(
         propositions,
         proofs,
         depths,
-    );
-    flat_way_down(way)
+    )
+    .into()
 }
 
 // By a table of rules, which is loaded before the section is looked at.
@@ -100,9 +94,8 @@ pub extern "C" fn falgnust_way_down_by_rules(
         (lent_of propositions.old proofs.old depths.old)
         (lent_of propositions.new proofs.new depths.new) result }
 {
-    let way = way_down_given(
-        Rules::Table,
-        rules,
+    way_down(
+        Rules::Table(rules),
         bytes,
         cursor,
         ProofNumber(from),
@@ -110,6 +103,6 @@ pub extern "C" fn falgnust_way_down_by_rules(
         propositions,
         proofs,
         depths,
-    );
-    flat_way_down(way)
+    )
+    .into()
 }

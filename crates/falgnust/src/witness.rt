@@ -1,5 +1,6 @@
 // A witness of a section by number, for which the section is decoded anew, and at a place of its payload.
 ghost use Rattle.std.specs.Prelude.{◌≡◌};
+ghost use Rattle.local_format.specs.Maps.{answer_out};
 ghost use Rattle.evr0_section.specs.Head.{span_width};
 ghost use Rattle.evr0_section.specs.Witness.{witness_of};
 ghost use Rattle.rule_table.specs.ByTable.{table};
@@ -8,19 +9,21 @@ ghost use Rattle.evr0_read.specs.Asked.{Answers, AnswersBy};
 ghost use Rattle.evr0_read.specs.Ask.{witness_number};
 ghost use Rattle.evr0_read.specs.Entry.{placed_witness, record_at};
 ghost use Rattle.evr0_read.specs.Place.{witness_place};
-ghost use Rattle.evr0_read.specs.Maps.{witness_entry_out, witness_beside, witness_told};
+ghost use Rattle.evr0_records.specs.Maps.{witness_record};
+ghost use Rattle.evr0_read.specs.Maps.{entry_out, witness_beside, witness_told};
 ghost use Rattle.falgnust.specs.EntryMaps.{flat_witness};
 
-use crate::refusal::{Refusal, flat_refusal, no_refusal};
+use crate::refusal::{Answer, Refusal};
 use evr0_fields::number::WitnessNumber;
 use evr0_head::counts::Counts;
-use evr0_read::ask::{witness_number, witness_number_given};
-use evr0_read::cell::{WitnessEntry, WitnessFound, witness_at, witness_place};
+use evr0_read::ask::by_number;
+use evr0_read::cell::{witness_at, witness_place};
+use evr0_read::entry::Entry;
 use evr0_rules::settle::Rules;
 
 // Where the record starts in the payload, and its fields; or a refusal, with zeros beside it.
 #[repr(C)]
-#[derive(Drop)]
+#[derive(Clone, Copy, Debug, Default, PartialEq, Eq)]
 pub struct Witness {
     pub accepted: bool,
     pub refusal: Refusal,
@@ -34,37 +37,34 @@ pub struct Witness {
     pub source_end: u64,
 }
 
-fn flat_witness(entry: WitnessEntry) -> Witness
-    ensures { result ≡ flat_witness (witness_entry_out entry) }
-{
-    let file_digest = entry.file_digest;
-    let origin_digest = entry.origin_digest;
-    let answer = entry.answer;
-    match answer {
-        WitnessFound::Found { start, witness } => Witness {
-            accepted: true,
-            refusal: no_refusal(),
-            start,
-            file_digest,
-            origin_digest,
-            witness_id: witness.witness_id.0,
-            proposition_index: witness.proposition_index.0,
-            polarity: witness.polarity,
-            source_start: witness.source_start,
-            source_end: witness.source_end,
-        },
-        WitnessFound::Refused(refused) => Witness {
-            accepted: false,
-            refusal: flat_refusal(refused),
-            start: 0,
-            file_digest,
-            origin_digest,
-            witness_id: 0,
-            proposition_index: 0,
-            polarity: 0,
-            source_start: 0,
-            source_end: 0,
-        },
+impl From<Answer<Entry<evr0_records::witness::Witness>>> for Witness {
+    ghost from_gives = { λ entry x. x ≡ flat_witness (witness_beside (answer_out (entry_out witness_record) entry)) };
+
+    fn from(entry: Answer<Entry<evr0_records::witness::Witness>>) -> Witness {
+        match entry {
+            Ok(Entry { start, item }) => {
+                let file_digest = item.file_digest;
+                let origin_digest = item.origin_digest;
+                Witness {
+                    accepted: true,
+                    start,
+                    file_digest,
+                    origin_digest,
+                    witness_id: item.witness_id.0,
+                    proposition_index: item.proposition_index.0,
+                    polarity: item.polarity,
+                    source_start: item.source_start,
+                    source_end: item.source_end,
+                    ..Witness::default()
+                }
+            }
+            Err(refused) => Witness {
+                refusal: refused.into(),
+                file_digest: [0; 32],
+                origin_digest: [0; 32],
+                ..Witness::default()
+            },
+        }
     }
 }
 
@@ -81,15 +81,16 @@ pub extern "C" fn falgnust_witness_number(
         (lent_of propositions.old proofs.old depths.old)
         (lent_of propositions.new proofs.new depths.new) result }
 {
-    let entry = witness_number(
+    by_number(
+        Rules::Four,
         bytes,
         cursor,
         WitnessNumber(number),
         propositions,
         proofs,
         depths,
-    );
-    flat_witness(entry)
+    )
+    .into()
 }
 
 // By a table of rules, which is loaded before the section is looked at.
@@ -107,17 +108,16 @@ pub extern "C" fn falgnust_witness_number_by_rules(
         (lent_of propositions.old proofs.old depths.old)
         (lent_of propositions.new proofs.new depths.new) result }
 {
-    let entry = witness_number_given(
-        Rules::Table,
-        rules,
+    by_number(
+        Rules::Table(rules),
         bytes,
         cursor,
         WitnessNumber(number),
         propositions,
         proofs,
         depths,
-    );
-    flat_witness(entry)
+    )
+    .into()
 }
 
 // The witness at a place of a payload of this schema. A schema other than 2 means spans whose ends have 4 bytes.
@@ -125,7 +125,7 @@ pub extern "C" fn falgnust_witness_number_by_rules(
 pub extern "C" fn falgnust_read_witness(payload: &[u8], schema: u16, at: usize) -> Witness
     ensures { result ≡ flat_witness (witness_beside (record_at (witness_of (span_width schema)) placed_witness payload.now at)) }
 {
-    flat_witness(witness_at(payload, schema, at))
+    witness_at(payload, schema, at).into()
 }
 
 // Where the witness with a number starts in the payload, of `len` bytes, of an accepted section with this schema and these counts.

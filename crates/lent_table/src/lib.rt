@@ -1,117 +1,60 @@
 // Zeros in a lent table, of 64-bit numbers or of bytes, and bytes copied into one.
 #![tactic(auto)]
 
-ghost use Rattle.std.specs.Prelude.{◌≤◌, min, ◌≡◌, [], length, take, drop};
-ghost use Rattle.lent_table.specs.Lent.{lent};
+ghost use Rattle.std.specs.Prelude.{◌≡◌, [], length, take, drop};
+ghost use Rattle.lent_table.specs.Lent.{lent, lent_by};
 
-// Zeros in a table of at most four entries, one by one: less work than a loop where a section or a block is small.
-fn clear_few(table: &mut [u64])
-    requires { length table.old ≤ 4 }
-    ensures { table.new ≡ lent (length table.old) [] }
-{
-    if table.len() < 1 {
-        return;
-    }
-    table[0] = 0;
-    if table.len() < 2 {
-        return;
-    }
-    table[1] = 0;
-    if table.len() < 3 {
-        return;
-    }
-    table[2] = 0;
-    if table.len() < 4 {
-        return;
-    }
-    table[3] = 0;
+// A type of entries, with its zero.
+pub trait Zero: Copy {
+    ghost ZERO: { Self };
+
+    const ZERO: Self;
 }
 
-// Zeros in the whole table, by a loop.
-pub fn clear_many(table: &mut [u64])
-    ensures { table.new ≡ lent (length table.old) [] }
+impl Zero for u8 {
+    ghost ZERO = { 0 };
+
+    const ZERO: u8 = 0;
+}
+
+impl Zero for u64 {
+    ghost ZERO = { 0 };
+
+    const ZERO: u64 = 0;
+}
+
+// Zeros in the whole table, by a loop alone: less code where a reader is to be compiled into its caller.
+pub fn clear_many<T: Zero>(table: &mut [T])
+    ensures { table.new ≡ lent_by T.ZERO (length table.old) [] }
 {
-    let mut i = 0;
-    while i < table.len() {
-        table[i] = 0;
-        i += 1;
+    for entry in table {
+        *entry = T::ZERO;
     }
 }
 
-// Zeros in the whole table.
-pub fn clear(table: &mut [u64])
-    ensures { table.new ≡ lent (length table.old) [] }
+// Zeros in the whole table. At most four entries are cleared by four steps, which are compiled without a loop: it would become a call of
+// memset, which costs more where a section or a block is small.
+pub fn clear<T: Zero>(table: &mut [T])
+    ensures { table.new ≡ lent_by T.ZERO (length table.old) [] }
 {
-    if table.len() <= 4 {
-        clear_few(table);
+    if table.len() > 4 {
+        clear_many(table);
         return;
     }
-    clear_many(table);
+    for i in 0..4 {
+        if i < table.len() {
+            table[i] = T::ZERO;
+        }
+    }
 }
 
 // Zeros from an index on, which may be any number.
-pub fn clear_from(table: &mut [u64], from: usize)
-    ensures { table.new ≡ lent (length table.old) (take from table.old) }
+pub fn clear_from<T: Zero>(table: &mut [T], from: usize)
+    ensures { table.new ≡ lent_by T.ZERO (length table.old) (take from table.old) }
 {
     if from < table.len() {
         clear(&mut table[from..]);
     }
-}
-
-// ---- Tables of bytes
-
-fn clear_few_bytes(table: &mut [u8])
-    requires { length table.old ≤ 4 }
-    ensures { table.new ≡ lent (length table.old) [] }
-{
-    if table.len() < 1 {
-        return;
-    }
-    table[0] = 0;
-    if table.len() < 2 {
-        return;
-    }
-    table[1] = 0;
-    if table.len() < 3 {
-        return;
-    }
-    table[2] = 0;
-    if table.len() < 4 {
-        return;
-    }
-    table[3] = 0;
-}
-
-pub fn clear_bytes(table: &mut [u8])
-    ensures { table.new ≡ lent (length table.old) [] }
-{
-    if table.len() <= 4 {
-        clear_few_bytes(table);
-        return;
-    }
-    let mut k = 0;
-    while k < table.len() {
-        table[k] = 0;
-        k += 1;
-    }
-}
-
-pub fn clear_bytes_from(table: &mut [u8], from: usize)
-    ensures { table.new ≡ lent (length table.old) (take from table.old) }
-{
-    if from < table.len() {
-        clear_bytes(&mut table[from..]);
-    }
-}
-
-// The lesser of two lengths.
-pub fn least(a: usize, b: usize) -> usize
-    ensures { result ≡ min a b }
-{
-    if a < b {
-        return a;
-    }
-    b
 }
 
 // The table becomes as many bytes as `count` from a place on, and zeros past them. Bytes that are not there, and those for which the table
@@ -120,17 +63,8 @@ pub fn copy_bytes(table: &mut [u8], bytes: &[u8], at: usize, count: usize)
     ensures { table.new
         ≡ lent (length table.old) (take (length table.old) (take count (drop at bytes.now))) }
 {
-    if bytes.len() < at {
-        clear_bytes(table);
-        return;
-    }
-    let part = &bytes[at..];
-    let room = least(part.len(), table.len());
-    let total = least(count, room);
-    let mut done = 0;
-    while done < total {
-        table[done] = part[done];
-        done += 1;
-    }
-    clear_bytes_from(table, total);
+    let part = &bytes[at.min(bytes.len())..];
+    let total = count.min(part.len()).min(table.len());
+    table[..total].copy_from_slice(&part[..total]);
+    clear_from(table, total);
 }

@@ -7,8 +7,9 @@ use mathlib.Core.List.{List, [], ◌∷◌}
 use mathlib.Core.Bool.{Bool, true, false, ◌&&◌, and-false}
 use lib.Dec.{eqb, leb}
 use borrow.Author.Tests.{eq-eqb, ne_eqb, eqb-true, eqb-false, le-leb, lt-leb, leb-true}
-use lib.ListN.{length, get_or, take, drop, drop_of_length-le}
+use lib.ListN.{length, get_or, take, drop}
 use lib.Seq.{drop-cons}
+use lib.Pointwise.{pointwise}
 use Rattle.local_format.specs.Field.{le}
 use Rattle.local_format.specs.Tag.{equal, tag_at}
 use Rattle.utf8.proofs.BoolLaws.{both}
@@ -33,15 +34,19 @@ equal_is (x ∷ xs) (y ∷ ys) h = go (eqb x y) refl (equal_is xs ys) h
     go true e ih k = ap₂ (λ (z : ℕ) (zs : List ℕ). z ∷ zs) (eqb-true x y e) (ih k)
     go false e ih k = let z : x ∷ xs ≡ y ∷ ys = cc in z
 
+-- what `==` answers of two slices
+pub equal_pointwise : (a b : List ℕ) → pointwise eqb a b ≡ equal a b
+unfolding equal
+equal_pointwise [] [] = refl
+equal_pointwise [] (y ∷ ys) = refl
+equal_pointwise (x ∷ xs) [] = refl
+equal_pointwise (x ∷ xs) (y ∷ ys) = ap (λ (t : Bool). eqb x y && t) (equal_pointwise xs ys)
+
 module _ (a b : List ℕ) (i : ℕ) where
   pub turn : i < length a → i < length b
       → equal (drop i a) (drop i b) ≡ (eqb (get_or a i 0) (get_or b i 0) && equal (drop (i + 1) a) (drop (i + 1) b))
   unfolding equal
   turn h k = rw (add-one, drop-cons a i 0 h, drop-cons b i 0 k)
-
-  pub ended : length a ≤ i → length b ≤ i → equal (drop i a) (drop i b) ≡ true
-  unfolding equal
-  ended h k = rw (drop_of_length-le a h, drop_of_length-le b k)
 
 -- ---- Fields of the same width
 -- a byte and the number of those after it

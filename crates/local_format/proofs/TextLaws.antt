@@ -66,6 +66,25 @@ module _ (s : List ℕ) (at : ℕ) where
         go true ill = refl
         go false d = refl
 
+    pub text_goes_on : {done : Unit {0}} → ok done ≡ check (leb 1 len && leb len 4096) 6 start → (x : Utf8) → x ≡ utf8_at s start len → text_from start len x ≡ text_at s at
+    unfolding text_at utf8_at field_at
+    text_goes_on c x u = rw (u, ← e, ← c) (go (leb (start + len) (length s)) (decode (bytes_at s start len)))
+      where
+        marked : (c : Bool) (n : ℕ)
+            → text_from start len (scan.whole (text n c) (start + len))
+            ≡ (check (not c) 8 (start + len) >> ok (record { start = start; len = len; chars = n; next = start + len }))
+        marked true n = refl
+        marked false n = refl
+
+        go : (t : Bool) (d : Decoded)
+            → text_from start len (cond t (scan.whole (scan_of d) (start + len)) scan.cut)
+            ≡ (or_cut 5 start (cond t (whole (record { value = le len s start; next = start + len })) cut) >>= λ body.
+            or_ill 7 body.next d >>= λ cs.
+            (check (not (any_control cs)) 8 body.next >> ok (record { start = start; len = len; chars = length cs; next = body.next })))
+        go true (points cs) = marked (any_control cs) (length cs)
+        go true ill = refl
+        go false d = refl
+
     pub string_long : 1024 < len → refuse 33 start ≡ string_at s at
     unfolding string_at
     string_long h = rw (← e, lt-leb len 1024 h)
@@ -73,6 +92,17 @@ module _ (s : List ℕ) (at : ℕ) where
     pub string_is : len ≤ 1024 → (x : Utf8) → x ≡ utf8_at s start len → string_from start len x ≡ string_at s at
     unfolding string_at utf8_at decode_at
     string_is q x u = rw (u, ← e, le-leb len 1024 q) (go (leb (start + len) (length s)) (decode (bytes_at s start len)))
+      where
+        go : (t : Bool) (d : Decoded)
+            → string_from start len (cond t (scan.whole (scan_of d) (start + len)) scan.cut)
+            ≡ (or_ill 34 start (cond t d ill) >>= λ cs. ok (record { start = start; len = len; chars = length cs; next = start + len }))
+        go true (points cs) = refl
+        go true ill = refl
+        go false d = refl
+
+    pub string_goes_on : {done : Unit {0}} → ok done ≡ check (leb len 1024) 33 start → (x : Utf8) → x ≡ utf8_at s start len → string_from start len x ≡ string_at s at
+    unfolding string_at utf8_at decode_at
+    string_goes_on c x u = rw (u, ← e, ← c) (go (leb (start + len) (length s)) (decode (bytes_at s start len)))
       where
         go : (t : Bool) (d : Decoded)
             → string_from start len (cond t (scan.whole (scan_of d) (start + len)) scan.cut)

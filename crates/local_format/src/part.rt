@@ -5,9 +5,5 @@ ghost use Rattle.std.specs.Prelude.{◌≡◌, drop};
 pub fn tail(bytes: &[u8], at: usize) -> &[u8]
     ensures { result.now ≡ drop at bytes.now }
 {
-    if at <= bytes.len() {
-        &bytes[at..]
-    } else {
-        &bytes[..0]
-    }
+    bytes.get(at..).unwrap_or_default()
 }

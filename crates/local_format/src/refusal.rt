@@ -1,10 +1,10 @@
 // A refusal: its kind, number and offset.
 ghost use Rattle.std.specs.Prelude.{◌≡◌};
-ghost use Rattle.local_format.specs.Refusal.{among, limits, kind_of, refusal};
-ghost use Rattle.local_format.specs.Out.{held, at_offset};
-ghost use Rattle.local_format.specs.Maps.{kind_out, refusal_out};
+ghost use Rattle.local_format.specs.Refusal.{kind_of, refusal};
+ghost use Rattle.local_format.specs.Out.{check, held, at_offset};
+ghost use Rattle.local_format.specs.Maps.{kind_out, refusal_out, answer_out};
 
-#[derive(Clone, Copy)]
+#[derive(Clone, Copy, Debug, PartialEq, Eq)]
 pub enum Kind {
     Invalid,
     Limit,
@@ -17,58 +17,31 @@ pub enum Kind {
     Signature,
 }
 
-#[derive(Clone, Copy)]
+#[derive(Clone, Copy, Debug, PartialEq, Eq)]
 pub struct Refusal {
     pub kind: Kind,
     pub number: u8,
     pub offset: usize,
 }
 
-// Whether a number is that of a limit.
-fn is_limit(number: u8) -> bool
-    ensures { result ≡ among limits number }
-{
-    match number {
-        3 | 12 | 14 | 15 | 27 | 31 | 36 | 65 | 73 => true,
-        _ => false,
-    }
-}
-
 // The kind of each number.
+#[tactic(auto, unfolding(crate::specs::Refusal::kind_of, crate::specs::Refusal::among))]
 pub fn kind_of(number: u8) -> Kind
     ensures { kind_out result ≡ kind_of number }
 {
-    if is_limit(number) {
-        return Kind::Limit;
+    match number {
+        3 | 12 | 14 | 15 | 27 | 31 | 36 | 65 | 73 => Kind::Limit,
+        0..=29 => Kind::Invalid,
+        30..=34 => Kind::Strings,
+        35..=39 => Kind::Debug,
+        40..=60 => Kind::Ownership,
+        61 | 62 => Kind::Added,
+        63 => Kind::Truncated,
+        64 => Kind::Name,
+        65..=70 => Kind::Added,
+        71 | 72 => Kind::Signature,
+        _ => Kind::Added,
     }
-    if number <= 29 {
-        return Kind::Invalid;
-    }
-    if number <= 34 {
-        return Kind::Strings;
-    }
-    if number <= 39 {
-        return Kind::Debug;
-    }
-    if number <= 60 {
-        return Kind::Ownership;
-    }
-    if number <= 62 {
-        return Kind::Added;
-    }
-    if number <= 63 {
-        return Kind::Truncated;
-    }
-    if number <= 64 {
-        return Kind::Name;
-    }
-    if number <= 70 {
-        return Kind::Added;
-    }
-    if number <= 72 {
-        return Kind::Signature;
-    }
-    Kind::Added
 }
 
 pub fn refuse(number: u8, offset: usize) -> Refusal
@@ -78,6 +51,17 @@ pub fn refuse(number: u8, offset: usize) -> Refusal
         kind: kind_of(number),
         number,
         offset,
+    }
+}
+
+// On where the test holds; else the refusal with this number at this offset.
+pub fn check(holds: bool, number: u8, offset: usize) -> Result<(), Refusal>
+    ensures { answer_out (λ done. done) result ≡ check holds number offset }
+{
+    if holds {
+        Ok(())
+    } else {
+        Err(refuse(number, offset))
     }
 }
 
@@ -93,24 +77,19 @@ pub fn refuse_as(kind: Kind, number: u8, offset: usize) -> Refusal
 }
 
 // The sum of base and place, held at the largest 64-bit number.
+#[tactic(auto, unfolding(crate::specs::Out::held))]
 pub fn diag_offset(base_offset: usize, cursor: usize) -> usize
     ensures { result ≡ held base_offset cursor }
 {
-    if cursor <= 18446744073709551615 - base_offset {
-        base_offset + cursor
-    } else {
-        18446744073709551615
-    }
+    base_offset.saturating_add(cursor)
 }
 
 // A refusal of a block that lies at a base.
 pub fn based(refused: Refusal, base: usize) -> Refusal
     ensures { refusal_out result ≡ at_offset (refusal_out refused) (held base refused.offset) }
 {
-    let kind = refused.kind;
     Refusal {
-        kind,
-        number: refused.number,
         offset: diag_offset(base, refused.offset),
+        ..refused
     }
 }

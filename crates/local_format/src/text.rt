@@ -2,107 +2,69 @@
 ghost use Rattle.std.specs.Prelude.{◌≡◌};
 ghost use Rattle.local_format.specs.Out.{refuse};
 ghost use Rattle.local_format.specs.Text.{text_at, string_at};
-ghost use Rattle.local_format.specs.Maps.{text_out, refusal_out, refusal_of};
+ghost use Rattle.local_format.specs.Maps.{span_out, answer_out};
 
-use crate::field::U16;
-use crate::refusal::Refusal;
-use utf8::Utf8;
+use crate::field::{Field, field_at};
+use crate::refusal::{Refusal, check, refuse};
+use utf8::{Utf8, Utf8Error};
 
-#[derive(Drop)]
-pub enum Text {
-    Whole {
-        start: usize,
-        len: usize,
-        chars: usize,
-        next: usize,
-    },
-    Refused(Refusal),
+// Where a text's bytes start, how many they are, its number of characters, and the place after it.
+#[derive(Clone, Copy, Debug, PartialEq, Eq)]
+pub struct Span {
+    pub start: usize,
+    pub len: usize,
+    pub chars: usize,
+    pub next: usize,
 }
 
-fn refused(number: u8, offset: usize) -> Text
-    ensures { text_out result ≡ refuse number offset }
+// The bytes of a text from a place on, which were read.
+fn spanned(start: usize, len: usize, text: Utf8) -> Span
+    ensures { span_out result ≡ record { start = start; len = len; chars = text.chars; next = text.next } }
 {
-    Text::Refused(crate::refusal::refuse(number, offset))
+    Span {
+        start,
+        len,
+        chars: text.chars,
+        next: text.next,
+    }
 }
 
 // A text of a section: 1 to 4,096 bytes, without control characters.
-pub fn read_text(bytes: &[u8], at: usize) -> Text
-    ensures { text_out result ≡ text_at bytes.now at }
+#[tactic(auto, unfolding(crate::specs::Text::text_at))]
+pub fn text_at(bytes: &[u8], at: usize) -> Result<Span, Refusal>
+    ensures { answer_out span_out result ≡ text_at bytes.now at }
 {
-    let size = crate::field::read_u16_le(bytes, at);
-    let U16::Value { value, next: start } = size else {
-        return refused(5, at);
+    let Some(Field { value, next: start }) = field_at::<u16>(bytes, at) else {
+        return Err(refuse(5, at));
     };
     let len = value as usize;
-    if len < 1 {
-        return refused(6, start);
-    }
-    if 4096 < len {
-        return refused(6, start);
-    }
-    let body = utf8::read_utf8(bytes, start, len);
-    match body {
-        Utf8::Text {
-            chars,
-            control,
-            next,
-        } => {
-            if control {
-                refused(8, next)
-            } else {
-                Text::Whole {
-                    start,
-                    len,
-                    chars,
-                    next,
-                }
-            }
+    check((1 <= len) & (len <= 4096), 6, start)?;
+    let read = utf8::read_utf8(bytes, start, len);
+    match read {
+        Ok(text) => {
+            check(!text.control, 8, text.next)?;
+            Ok(spanned(start, len, text))
         }
-        Utf8::NotUtf8 { next } => refused(7, next),
-        Utf8::Cut => refused(5, start),
+        Err(error) => match error {
+            Utf8Error::NotUtf8 { next } => Err(refuse(7, next)),
+            Utf8Error::Cut => Err(refuse(5, start)),
+        },
     }
 }
 
 // A string of a function: up to 1,024 bytes, also none; control characters pass.
-pub fn read_string(bytes: &[u8], at: usize) -> Text
-    ensures { text_out result ≡ string_at bytes.now at }
+#[tactic(auto, unfolding(crate::specs::Text::string_at))]
+pub fn string_at(bytes: &[u8], at: usize) -> Result<Span, Refusal>
+    ensures { answer_out span_out result ≡ string_at bytes.now at }
 {
-    let size = crate::field::read_u16_le(bytes, at);
-    let U16::Value { value, next: start } = size else {
-        return refused(32, at);
+    let Some(Field { value, next: start }) = field_at::<u16>(bytes, at) else {
+        return Err(refuse(32, at));
     };
     let len = value as usize;
-    if 1024 < len {
-        return refused(33, start);
-    }
-    let body = utf8::read_utf8(bytes, start, len);
-    match body {
-        Utf8::Text {
-            chars,
-            control: _,
-            next,
-        } => Text::Whole {
-            start,
-            len,
-            chars,
-            next,
-        },
-        Utf8::NotUtf8 { next: _ } => refused(34, start),
-        Utf8::Cut => refused(34, start),
-    }
-}
-
-// The refusal that a text's answer holds.
-pub fn text_refusal(text: Text) -> Refusal
-    ensures { refusal_out result ≡ refusal_of (text_out text) }
-{
-    match text {
-        Text::Refused(refusal) => refusal,
-        Text::Whole {
-            start: _,
-            len: _,
-            chars: _,
-            next: _,
-        } => crate::refusal::refuse(0, 0),
+    check(len <= 1024, 33, start)?;
+    let read = utf8::read_utf8(bytes, start, len);
+    match read {
+        Ok(text) => Ok(spanned(start, len, text)),
+        Err(_) => Err(refuse(34, start)),
     }
 }

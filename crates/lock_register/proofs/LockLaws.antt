@@ -6,7 +6,7 @@ use native.Mathlib.Numerals.{add-one}
 use mathlib.Core.List.{List, [], ◌∷◌, ◌++◌, append-nil}
 use mathlib.Core.Bool.{Bool, true, false, cond, not}
 use lib.Dec.{eqb}
-use lib.ListN.{length, get_or, set, length-append}
+use lib.ListN.{length, get_or, set}
 use lib.Seq.{get_or-set_same, drop-set-lt}
 use borrow.Author.Tests.{eq-eqb, ne_eqb}
 use Rattle.lock_rules.specs.Lock.{Lock}
@@ -14,6 +14,7 @@ use Rattle.lock_rules.specs.Register.{keep, release}
 use Rattle.lock_rules.specs.Source.{Root}
 use Rattle.lock_words.specs.Words.{slot, lock_in, locks_to, locks_in, held_in}
 use Rattle.lock_register.specs.Release.{Releases}
+use Rattle.lock_words.proofs.WordLaws.{locks_length, slot_at}
 use Rattle.lock_words.specs.Place.{Placed}
 
 keep_append : {A : Type 0} (f : A → Bool) (xs ys : List A) → keep f (xs ++ ys) ≡ keep f xs ++ keep f ys
@@ -25,12 +26,6 @@ keep_append f (x ∷ xs) ys = go (f x) (keep_append f xs ys)
         → cond b (x ∷ keep f (xs ++ ys)) (keep f (xs ++ ys)) ≡ cond b (x ∷ keep f xs) (keep f xs) ++ keep f ys
     go true e = rw e
     go false e = e
-
-pub locks_length : (n : ℕ) (words : List ℕ) → length (locks_to n words) ≡ n
-unfolding locks_to
-locks_length zero words = refl
-locks_length (suc n) words =
-    length-append (locks_to n words) (lock_in (slot words n) ∷ []) ∙ rw (locks_length n words) (omega arith)
 
 -- locks depend on their own words alone
 pub locks_agree : (n : ℕ) (a b : List ℕ) → ((j : ℕ) → j < n → slot a j ≡ slot b j) → locks_to n a ≡ locks_to n b
@@ -95,11 +90,18 @@ module _ (words : List ℕ) (owner i : ℕ) where
       ∙ ap (λ (ls : List (Lock Root)). keep (others owner) (locks_to i words) ++ ls) (last b e))
 
   module _ (after : List ℕ) (kept : ℕ) (t : Keeping words after owner i kept) where
+    -- what the first word of lock i says
+    first : get_or after (1 + 24 * i) 0 ≡ get_or (slot words i) 0 0
+    first =
+        let n : 1 + 24 * i + 0 ≡ 1 + 24 * i = omega arith in
+        sym (ap (λ (ws : List ℕ). get_or ws 0 0) (sym (t.behind i (omega arith)))
+        ∙ slot_at after i 0 (omega arith)
+        ∙ ap (λ (k : ℕ). get_or after k 0) n)
+
     -- a lock of the owner
-    pub drops : get_or (slot after i) 0 0 % 4294967296 ≡ owner → Keeping words after owner (i + 1) kept
+    pub drops : get_or after (1 + 24 * i) 0 % 4294967296 ≡ owner → Keeping words after owner (i + 1) kept
     drops e =
-        let s : slot after i ≡ slot words i = t.behind i (omega arith) in
-        let o : get_or (slot words i) 0 0 % 4294967296 ≡ owner = rw s at e in
+        let o : get_or (slot words i) 0 0 % 4294967296 ≡ owner = rw first at e in
         record {
           locks = t.locks ∙ sym (one true (eq-eqb _ _ o) ∙ append-nil _);
           behind = λ j h. t.behind j (omega arith);
@@ -107,22 +109,22 @@ module _ (words : List ℕ) (owner i : ℕ) where
         }
 
     -- another's
-    pub stays : (next : List ℕ) → (get_or (slot after i) 0 0 % 4294967296 ≡ owner → ⊥) → kept ≤ i
+    pub stays : (next : List ℕ) → (get_or after (1 + 24 * i) 0 % 4294967296 ≡ owner → ⊥) → kept ≤ i
         → Placed after next kept (slot after i) → Keeping words next owner (i + 1) (kept + 1)
     stays next d h p =
         let s : slot after i ≡ slot words i = t.behind i (omega arith) in
         record {
-          locks = locks_put after next kept (slot after i) p ∙ rw (t.locks, s) (sym (one false (ne_eqb _ _ (rw s at d))));
+          locks = locks_put after next kept (slot after i) p ∙ rw (t.locks, s) (sym (one false (ne_eqb _ _ (rw first at d))));
           behind = λ j k. p.others j (λ e. omega arith) ∙ t.behind j (omega arith);
           same = p.same ∙ t.same;
         }
 
     -- the count is stored last
-    pub keeps : 0 < length words → i ≡ held_in words → kept ≤ 256 → Releases owner words (set after 0 kept) kept
+    pub keeps : 0 < length words → i ≡ length (locks_in words) → kept ≤ 256 → Releases owner words (set after 0 kept) kept
     keeps l e h =
         let z : 0 < length after = rw t.same l in
         let counted = locks_counted after kept z h in
         record {
-          register = counted ∙ t.locks ∙ rw e refl;
+          register = counted ∙ t.locks ∙ rw (e ∙ locks_length (held_in words) words) refl;
           answer = sym (ap length counted ∙ locks_length kept after);
         }

@@ -3,19 +3,20 @@
 use mathlib.Core.Path.{◌≡◌, refl, ap, sym, ◌∙◌}
 use Prim.Native.Nat.{ℕ, zero, suc, ◌+◌, ◌*◌, ◌/◌, ◌%◌, ◌<◌, ◌≤◌, min}
 use native.Mathlib.Omega.{arith}
-use mathlib.Core.List.{List, [], ◌∷◌}
+use mathlib.Core.List.{List, [], ◌∷◌, map}
 use mathlib.Core.Bool.{Bool, true, false, not, ◌&&◌, ◌||◌}
-use lib.Dec.{eqb, leb}
+use lib.Dec.{eqb}
 use lib.ListN.{length, get_or}
-use borrow.Author.Tests.{eqb-true, eqb-false, eq-eqb, ne_eqb, leb-true, leb-false}
+use borrow.Author.Tests.{eqb-true, eq-eqb, ne_eqb}
+use Rattle.std.specs.List.{list_any}
 use Rattle.local_format.specs.Tag.{equal}
 use Rattle.lock_rules.specs.Lock.{Part, Lock, same_part, begins, touches, hinders}
 use Rattle.lock_rules.specs.Register.{any}
-use Rattle.lock_rules.proofs.ListLaws.{no, any_append}
+use Rattle.lock_rules.proofs.ListLaws.{no}
 use Rattle.lock_rules.proofs.LockLaws.{eqb_comm}
 use Rattle.lock_rules.specs.Source.{Root, same_root}
-use Rattle.lock_words.specs.Words.{part_in, parts_in, slot, symbol_in, source_in, root_in, lock_in, locks_to}
-use Rattle.lock_register.specs.Meet.{either_begins, met_by, Other, Looked}
+use Rattle.lock_words.specs.Words.{part_in, parts_in, symbol_in, source_in, root_in, lock_in, locks_in}
+use Rattle.lock_register.specs.Meet.{either_begins, met_by}
 use Rattle.lock_register.proofs.ReadLaws.{parts_length, part_at}
 
 -- ---- A part
@@ -101,14 +102,6 @@ module _ (d : Part) where
 abbrev pub Agreeing : List ℕ → List ℕ → ℕ → ℕ → Type 0
 Agreeing a b k n = (j : ℕ) → k ≤ j → j < n → get_or a (8 + j) 0 % 1125899906842624 ≡ get_or b (8 + j) 0 % 1125899906842624
 
-pub agreeing_more : (a b : List ℕ) (k n : ℕ) → Agreeing a b (suc k) n
-    → get_or a (8 + k) 0 % 1125899906842624 ≡ get_or b (8 + k) 0 % 1125899906842624 → Agreeing a b k n
-agreeing_more a b k n e h j l m = go (eqb j k) refl
-  where
-    go : (t : Bool) → eqb j k ≡ t → get_or a (8 + j) 0 % 1125899906842624 ≡ get_or b (8 + j) 0 % 1125899906842624
-    go true p = let q : j ≡ k = eqb-true j k p in rw q h
-    go false p = let q : j ≡ k → ⊥ = eqb-false j k p in e j (omega arith) m
-
 -- the parts of two locks' words
 module _ (a b : List ℕ) (l : length a ≡ 24) (m : length b ≡ 24) where
   pub parts_differ : (k : ℕ) → k < min (get_or a 3 0) 16 → k < min (get_or b 3 0) 16
@@ -187,84 +180,15 @@ module _ (a b : List ℕ) where
 
 -- ---- All that are held
 
-or_true : (b : Bool) → (b || true) ≡ true
-or_true true = refl
-or_true false = refl
+any_map : (f : Lock Root → Bool) (held : List (List ℕ)) → list_any (λ ws. f (lock_in ws)) held ≡ any f (map lock_in held)
+unfolding any
+any_map f [] = refl
+any_map f (ws ∷ held) = ap (λ (b : Bool). f (lock_in ws) || b) (any_map f held)
 
-module _ (f : Lock Root → Bool) (words : List ℕ) where
-  -- one of the first n
-  pub some_lock : (i n : ℕ) → i < n → f (lock_in (slot words i)) ≡ true → true ≡ any f (locks_to n words)
-  unfolding locks_to any
-  some_lock i zero h e = absurd (omega arith)
-  some_lock i (suc n) h e = sym (any_append f (locks_to n words) _ ∙ go (eqb i n) refl (λ l. some_lock i n l e))
-    where
-      go : (b : Bool) → eqb i n ≡ b → (i < n → true ≡ any f (locks_to n words))
-          → (any f (locks_to n words) || (f (lock_in (slot words n)) || false)) ≡ true
-      go true p rest =
-          let q : i ≡ n = eqb-true i n p in
-          let e' : f (lock_in (slot words n)) ≡ true = rw q at e in
-          rw e' (or_true (any f (locks_to n words)))
-      go false p rest =
-          let q : i ≡ n → ⊥ = eqb-false i n p in
-          rw (← rest (omega arith))
+module _ (words : List ℕ) (held : List (List ℕ)) (e : map lock_in held ≡ locks_in words) where
+  pub any_held : (f : Lock Root → Bool) → list_any (λ ws. f (lock_in ws)) held ≡ any f (locks_in words)
+  any_held f = any_map f held ∙ ap (any f) e
 
-  -- none of them
-  pub no_lock : (n : ℕ) → ((j : ℕ) → j < n → f (lock_in (slot words j)) ≡ false) → false ≡ any f (locks_to n words)
-  unfolding locks_to any
-  no_lock zero e = refl
-  no_lock (suc n) e =
-      sym (any_append f (locks_to n words) _ ∙ rw (← no_lock n (λ j h. e j (omega arith)), e n (omega arith)))
-
--- what holds of those before i and of lock i holds of those before i + 1
-pub one_more : (P : ℕ → Type 0) (i : ℕ) → ((j : ℕ) → j < i → P j) → P i → (j : ℕ) → j < i + 1 → P j
-one_more P i before here j h = go (eqb j i) refl
-  where
-    go : (b : Bool) → eqb j i ≡ b → P j
-    go true e = let q : j ≡ i = eqb-true j i e in rw q here
-    go false e = let q : j ≡ i → ⊥ = eqb-false j i e in before j (omega arith)
-
--- ---- Symbols
-
-module _ (words : List ℕ) (symbol : ℕ) where
-  has_symbol : (i : ℕ) (b : Bool) → eqb (symbol_in (slot words i)) symbol ≡ b → eqb (lock_in (slot words i)).root.symbol symbol ≡ b
+  pub symbol_among : (symbol : ℕ) → list_any (λ ws. eqb (symbol_in ws) symbol) held ≡ any (λ l. eqb l.root.symbol symbol) (locks_in words)
   unfolding lock_in root_in
-  has_symbol i b e = e
-
-  pub symbol_found : (i n : ℕ) → i < n → symbol_in (slot words i) ≡ symbol → true ≡ any (λ l. eqb l.root.symbol symbol) (locks_to n words)
-  symbol_found i n h e = some_lock (λ l. eqb l.root.symbol symbol) words i n h (has_symbol i true (eq-eqb _ _ e))
-
-  pub no_symbol : (n : ℕ) → ((j : ℕ) → j < n → Other words symbol j) → false ≡ any (λ l. eqb l.root.symbol symbol) (locks_to n words)
-  no_symbol n e = no_lock (λ l. eqb l.root.symbol symbol) words n (λ j h. has_symbol j false (ne_eqb _ _ (e j h)))
-
-  module _ (i : ℕ) where
-    pub one_found : (j : ℕ) → j < i + 4 → symbol_in (slot words j) ≡ symbol → Looked words i symbol true
-    one_found j h e = record { found = λ t. (j, (h, e)); others = λ t. no t }
-
-    pub last_of_four : Other words symbol i → Other words symbol (i + 1) → Other words symbol (i + 2) → (b : Bool)
-        → eqb (symbol_in (slot words (i + 3))) symbol ≡ b → Looked words i symbol b
-    last_of_four d0 d1 d2 true e = one_found (i + 3) (omega arith) (eqb-true _ _ e)
-    last_of_four d0 d1 d2 false e =
-        record { found = λ t. no (sym t); others = λ t j l h. go j l h (eqb j i) (eqb j (i + 1)) (eqb j (i + 2)) refl refl refl }
-      where
-        go : (j : ℕ) → i ≤ j → j < i + 4 → (a b c : Bool) → eqb j i ≡ a → eqb j (i + 1) ≡ b → eqb j (i + 2) ≡ c → Other words symbol j
-        go j l h true b c p q r = let k : j ≡ i = eqb-true _ _ p in rw k d0
-        go j l h false true c p q r = let k : j ≡ i + 1 = eqb-true _ _ q in rw k d1
-        go j l h false false true p q r = let k : j ≡ i + 2 = eqb-true _ _ r in rw k d2
-        go j l h false false false p q r =
-            let x : j ≡ i → ⊥ = eqb-false _ _ p in
-            let y : j ≡ i + 1 → ⊥ = eqb-false _ _ q in
-            let z : j ≡ i + 2 → ⊥ = eqb-false _ _ r in
-            let k : j ≡ i + 3 = omega arith in
-            rw k (eqb-false _ _ e)
-
-    module _ {r : Bool} (looked : Looked words i symbol r) where
-      pub four_found : (n : ℕ) → i + 4 ≤ n → r ≡ true → true ≡ any (λ l. eqb l.root.symbol symbol) (locks_to n words)
-      four_found n h e = let j = looked.found e in symbol_found j.0 n (omega arith) j.1.1
-
-      -- the locks before i, and four more
-      pub four_more : ((j : ℕ) → j < i → Other words symbol j) → r ≡ false → (j : ℕ) → j < i + 4 → Other words symbol j
-      four_more before e j h = go (leb i j) refl
-        where
-          go : (b : Bool) → leb i j ≡ b → Other words symbol j
-          go true p = looked.others e j (leb-true i j p) h
-          go false p = before j (leb-false i j p)
+  symbol_among symbol = any_held (λ l. eqb l.root.symbol symbol)

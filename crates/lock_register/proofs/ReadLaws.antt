@@ -1,52 +1,27 @@
 -- A lock and a part by number: it is there exactly where the number is below the count.
-use mathlib.Core.Path.{◌≡◌, refl, ap, ◌∙◌}
+use mathlib.Core.Path.{◌≡◌, refl, ap, sym, ◌∙◌}
 use Prim.Native.Nat.{ℕ, zero, suc, ◌+◌, ◌%◌, ◌<◌, ◌≤◌, min}
 use native.Mathlib.Omega.{arith}
-use mathlib.Core.List.{List, [], ◌∷◌, ◌++◌}
-use mathlib.Core.Bool.{Bool, true, false, not}
-use lib.Dec.{eqb}
-use lib.ListN.{length, get_or, take, drop, length-map, length-take, length-drop, get_or-append, get_or-map}
-use lib.Seq.{get_or_at, get_or-take, get_or-drop}
-use borrow.Author.Tests.{eqb-true, eqb-false}
+use mathlib.Core.List.{List, [], ◌∷◌, map}
+use mathlib.Core.Bool.{false, not}
+use lib.Dec.{eqb, ltb}
+use lib.ListN.{length, get_or, take, drop, length-map, length-take, length-drop, get_or-map}
+use lib.Seq.{get_or-take, get_or-drop}
+use borrow.Author.Tests.{false-ltb}
 use Rattle.local_format.specs.Refusal.{Refusal, refusal}
 use Rattle.local_format.specs.Out.{ok, refused, refuse}
 use Rattle.local_format.specs.Number.{numbered}
 use Rattle.local_format.proofs.NumberLaws.{not_there_lem}
 use Rattle.lock_rules.specs.Lock.{Part, Lock}
 use Rattle.lock_rules.specs.Source.{Root, root_under}
-use Rattle.lock_words.specs.Words.{source_of, part_in, parts_in, slot, source_in, root_in, lock_in, locks_to, locks_in, held_in}
+use Rattle.lock_words.specs.Words.{source_of, part_in, parts_in, source_in, root_in, lock_in, locks_in}
 use Rattle.lock_register.specs.Read.{lock_number, part_number}
-use Rattle.lock_words.proofs.PlaceLaws.{slot_full}
-use Rattle.lock_register.proofs.LockLaws.{locks_length}
 
 numbered_at : {A : Type 0} (i : ℕ) (xs : List A) (d : A) → i < length xs → numbered i xs ≡ ok (get_or xs i d)
 unfolding numbered
 numbered_at i [] d h = absurd (omega arith)
 numbered_at zero (x ∷ xs) d h = refl
 numbered_at (suc i) (x ∷ xs) d h = numbered_at i xs d (omega arith)
-
-lock_at : (n : ℕ) (words : List ℕ) (i : ℕ) (d : Lock Root) → i < n → get_or (locks_to n words) i d ≡ lock_in (slot words i)
-unfolding locks_to
-lock_at zero words i d h = absurd (omega arith)
-lock_at (suc n) words i d h = go (eqb i n) refl (λ l. lock_at n words i d l)
-  where
-    go : (b : Bool) → eqb i n ≡ b → (i < n → get_or (locks_to n words) i d ≡ lock_in (slot words i))
-        → get_or (locks_to n words ++ (lock_in (slot words n) ∷ [])) i d ≡ lock_in (slot words i)
-    go true e rest =
-        let q : i ≡ n = eqb-true i n e in
-        rw q (get_or_at (locks_to n words) (lock_in (slot words n)) [] d n (locks_length n words))
-    go false e rest =
-        let q : i ≡ n → ⊥ = eqb-false i n e in
-        let l : i < n = omega arith in
-        get_or-append (locks_to n words) (lock_in (slot words n) ∷ []) d i (rw locks_length l) ∙ rest l
-
-module _ (n : ℕ) (words : List ℕ) (i : ℕ) where
-  pub lock_there : i < n → numbered i (locks_to n words) ≡ ok (lock_in (slot words i))
-  lock_there h =
-      numbered_at i (locks_to n words) (lock_in []) (rw locks_length h) ∙ ap ok (lock_at n words i (lock_in []) h)
-
-  pub lock_not : n ≤ i → numbered i (locks_to n words) ≡ refuse 62 0
-  lock_not h = not_there_lem i (locks_to n words) (rw locks_length h)
 
 module _ (ws : List ℕ) (full : length ws ≡ 24) where
   pub parts_length : length (parts_in ws) ≡ min (get_or ws 3 0) 16
@@ -69,33 +44,42 @@ module _ (ws : List ℕ) (full : length ws ≡ 24) where
 
 -- ---- The answers
 
-module _ (words : List ℕ) (i : ℕ) where
-  module _ (l : length words ≡ 6145) (h : i < held_in words) where
-    full : length (slot words i) ≡ 24
-    full = slot_full words i l (omega arith)
+module _ (words : List ℕ) (held : List (List ℕ)) (i : ℕ) (e : map lock_in held ≡ locks_in words) where
+  size : length (locks_in words) ≡ length held
+  size = ap length (sym e) ∙ length-map held lock_in
 
-    pub lock_told : {o w r e f g h p : ℕ} → o ≡ get_or (slot words i) 0 0 → w ≡ get_or (slot words i) 1 0 → r ≡ get_or (slot words i) 2 0
-        → e ≡ get_or (slot words i) 4 0 → f ≡ get_or (slot words i) 5 0 → g ≡ get_or (slot words i) 6 0 → h ≡ get_or (slot words i) 7 0
-        → p ≡ min (get_or (slot words i) 3 0) 16
-        → ok (record { owner = o % 4294967296; write = not (eqb w 0); root = root_under (source_of e f g h) (r % 4294967296); count = p })
-        ≡ lock_number i (locks_in words)
+  module _ (h : i < length held) (ws : List ℕ) (w : ws ≡ get_or held i []) (full : length ws ≡ 24) where
+    there : numbered i (locks_in words) ≡ ok (lock_in ws)
+    there =
+        numbered_at i (locks_in words) (lock_in []) (rw size h)
+        ∙ ap ok (ap (λ (ls : List (Lock Root)). get_or ls i (lock_in [])) (sym e) ∙ get_or-map lock_in held i [] ∙ ap lock_in (sym w))
+
+    pub lock_told : {n : ℕ} → n ≡ min (get_or ws 3 0) 16
+        → ok (record {
+          owner = get_or ws 0 0 % 4294967296;
+          write = not (eqb (get_or ws 1 0) 0);
+          root = root_under (source_of (get_or ws 4 0) (get_or ws 5 0) (get_or ws 6 0) (get_or ws 7 0)) (get_or ws 2 0 % 4294967296);
+          count = n;
+        }) ≡ lock_number i (locks_in words)
     unfolding lock_in root_in source_in
-    lock_told a b c d e f g k =
-        rw (lock_there (held_in words) words i h, a, b, c, d, e, f, g, k, ← parts_length (slot words i) full)
+    lock_told k = rw (there, k, ← parts_length ws full)
 
-    pub part_told : (k : ℕ) {p : Part} {w : ℕ} → k < min (get_or (slot words i) 3 0) 16
-        → p ≡ part_in w → w ≡ get_or (slot words i) (8 + k) 0 → ok p ≡ part_number i k (locks_in words)
+    pub part_told : (k : ℕ) {p : Part} {n : ℕ} → n ≡ min (get_or ws 3 0) 16 → k < n → p ≡ part_in (get_or ws (8 + k) 0)
+        → ok p ≡ part_number i k (locks_in words)
     unfolding lock_in
-    part_told k m a b = rw (lock_there (held_in words) words i h, part_there (slot words i) full k m, a, b)
+    part_told k m l a = rw (there, part_there ws full k (rw m at l), a)
 
-    pub part_refused : (k : ℕ) {r : Refusal} → min (get_or (slot words i) 3 0) 16 ≤ k → r ≡ refusal 62 0
+    pub part_refused : (k : ℕ) {r : Refusal} {n : ℕ} → n ≡ min (get_or ws 3 0) 16 → n ≤ k → r ≡ refusal 62 0
         → refused r ≡ part_number i k (locks_in words)
     unfolding lock_in
-    part_refused k m e = rw (lock_there (held_in words) words i h, part_not (slot words i) full k m, e)
+    part_refused k m l a = rw (there, part_not ws full k (rw m at l), a)
 
-  module _ (h : held_in words ≤ i) {r : Refusal} (e : r ≡ refusal 62 0) where
+  module _ (h : false ≡ ltb i (length held)) {r : Refusal} (f : r ≡ refusal 62 0) where
+    not_there : numbered i (locks_in words) ≡ refuse 62 0
+    not_there = not_there_lem i (locks_in words) (rw size (false-ltb i (length held) h))
+
     pub lock_refused : refused r ≡ lock_number i (locks_in words)
-    lock_refused = rw (lock_not (held_in words) words i h, e)
+    lock_refused = rw (not_there, f)
 
     pub none_refused : (k : ℕ) → refused r ≡ part_number i k (locks_in words)
-    none_refused k = rw (lock_not (held_in words) words i h, e)
+    none_refused k = rw (not_there, f)

@@ -3,9 +3,13 @@
 use mathlib.Core.Path.{◌≡◌, refl, ap, sym, ◌∙◌}
 use Prim.Native.Nat.{ℕ, ◌+◌, ◌*◌, ◌/◌, ◌%◌, ◌<◌}
 use native.Mathlib.Omega.{arith}
-use mathlib.Core.List.{List}
-use mathlib.Core.Bool.{Bool, true, false}
-use lib.ListN.{get_or}
+use mathlib.Core.List.{List, [], ◌∷◌}
+use mathlib.Core.Bool.{Bool, true, false, ◌&&◌}
+use lib.Dec.{eqb}
+use lib.ListN.{length, get_or, take, drop}
+use lib.Pointwise.{pointwise}
+use lib.Seq.{drop-cons}
+use borrow.Author.Tests.{eqb-true, eqb-false}
 use Rattle.local_format.specs.Tag.{equal}
 use Rattle.lock_rules.proofs.RootLaws.{equal_self, equal_is}
 use Rattle.lock_words.specs.Words.{source_of, source_in}
@@ -68,27 +72,46 @@ module _ (x y : List ℕ) where
       go true e = absurd (d (ap read (equal_is (source_in x) (source_in y) e)))
       go false e = refl
 
-  pub first_other : get_or x 4 0 < 18446744073709551616 → get_or y 4 0 < 18446744073709551616 → (get_or x 4 0 ≡ get_or y 4 0 → ⊥)
+  first_other : get_or x 4 0 < 18446744073709551616 → get_or y 4 0 < 18446744073709551616 → (get_or x 4 0 ≡ get_or y 4 0 → ⊥)
       → false ≡ equal (source_in x) (source_in y)
   unfolding source_in
   first_other l m d = other (λ s. eight s 0) (λ e. d (sym (first _ _ _ _ l) ∙ e ∙ first _ _ _ _ m))
 
-  pub second_other : get_or x 5 0 < 18446744073709551616 → get_or y 5 0 < 18446744073709551616 → (get_or x 5 0 ≡ get_or y 5 0 → ⊥)
+  second_other : get_or x 5 0 < 18446744073709551616 → get_or y 5 0 < 18446744073709551616 → (get_or x 5 0 ≡ get_or y 5 0 → ⊥)
       → false ≡ equal (source_in x) (source_in y)
   unfolding source_in
   second_other l m d = other (λ s. eight s 8) (λ e. d (sym (second _ _ _ _ l) ∙ e ∙ second _ _ _ _ m))
 
-  pub third_other : get_or x 6 0 < 18446744073709551616 → get_or y 6 0 < 18446744073709551616 → (get_or x 6 0 ≡ get_or y 6 0 → ⊥)
+  third_other : get_or x 6 0 < 18446744073709551616 → get_or y 6 0 < 18446744073709551616 → (get_or x 6 0 ≡ get_or y 6 0 → ⊥)
       → false ≡ equal (source_in x) (source_in y)
   unfolding source_in
   third_other l m d = other (λ s. eight s 16) (λ e. d (sym (third _ _ _ _ l) ∙ e ∙ third _ _ _ _ m))
 
-  pub fourth_other : get_or x 7 0 < 18446744073709551616 → get_or y 7 0 < 18446744073709551616 → (get_or x 7 0 ≡ get_or y 7 0 → ⊥)
+  fourth_other : get_or x 7 0 < 18446744073709551616 → get_or y 7 0 < 18446744073709551616 → (get_or x 7 0 ≡ get_or y 7 0 → ⊥)
       → false ≡ equal (source_in x) (source_in y)
   unfolding source_in
   fourth_other l m d = other (λ s. eight s 24) (λ e. d (sym (fourth _ _ _ _ l) ∙ e ∙ fourth _ _ _ _ m))
 
-  pub source_same : get_or x 4 0 ≡ get_or y 4 0 → get_or x 5 0 ≡ get_or y 5 0 → get_or x 6 0 ≡ get_or y 6 0 → get_or x 7 0 ≡ get_or y 7 0
+  source_same : get_or x 4 0 ≡ get_or y 4 0 → get_or x 5 0 ≡ get_or y 5 0 → get_or x 6 0 ≡ get_or y 6 0 → get_or x 7 0 ≡ get_or y 7 0
       → true ≡ equal (source_in x) (source_in y)
   unfolding source_in
   source_same p q r t = rw (p, q, r, t) (sym (equal_self (source_of (get_or y 4 0) (get_or y 5 0) (get_or y 6 0) (get_or y 7 0))))
+
+-- four words of a lock
+words_of : (s : List ℕ) → length s ≡ 24 → take 4 (drop 4 s) ≡ get_or s 4 0 ∷ get_or s 5 0 ∷ get_or s 6 0 ∷ get_or s 7 0 ∷ []
+words_of s l =
+    rw (drop-cons s 4 0 (omega arith), drop-cons s 5 0 (omega arith), drop-cons s 6 0 (omega arith), drop-cons s 7 0 (omega arith)) refl
+
+module _ (x y : List ℕ) (fits : (i : ℕ) → get_or x i 0 < 18446744073709551616) (fits' : (i : ℕ) → get_or y i 0 < 18446744073709551616) where
+  decided : (p q r t : Bool) → eqb (get_or x 4 0) (get_or y 4 0) ≡ p → eqb (get_or x 5 0) (get_or y 5 0) ≡ q
+      → eqb (get_or x 6 0) (get_or y 6 0) ≡ r → eqb (get_or x 7 0) (get_or y 7 0) ≡ t
+      → (p && (q && (r && (t && true)))) ≡ equal (source_in x) (source_in y)
+  decided true true true true a b c d = source_same x y (eqb-true _ _ a) (eqb-true _ _ b) (eqb-true _ _ c) (eqb-true _ _ d)
+  decided false q r t a b c d = first_other x y (fits 4) (fits' 4) (eqb-false _ _ a)
+  decided true false r t a b c d = second_other x y (fits 5) (fits' 5) (eqb-false _ _ b)
+  decided true true false t a b c d = third_other x y (fits 6) (fits' 6) (eqb-false _ _ c)
+  decided true true true false a b c d = fourth_other x y (fits 7) (fits' 7) (eqb-false _ _ d)
+
+  -- they are the same exactly where the sets are
+  pub words_decide : length x ≡ 24 → length y ≡ 24 → pointwise eqb (take 4 (drop 4 x)) (take 4 (drop 4 y)) ≡ equal (source_in x) (source_in y)
+  words_decide l m = rw (words_of x l, words_of y m) (decided _ _ _ _ refl refl refl refl)

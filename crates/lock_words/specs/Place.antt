@@ -1,15 +1,6 @@
--- A lock's place among a register's words, and words put there.
-use Rattle.std.specs.Prelude.{◌≡◌, ℕ, ◌<◌, List, length, get_or}
+-- Words put in a lock's place among a register's words.
+use Rattle.std.specs.Prelude.{◌≡◌, ℕ, List, length, get_or}
 use Rattle.lock_words.specs.Words.{slot}
-
--- the words of a register
-abbrev pub Register : List ℕ → Type 0
-Register words = length words ≡ 6145
-
--- a lock's place among a register's words
-pub record Place (words : List ℕ) (lock : ℕ) : Type 0 where
-  pub register : length words ≡ 6145
-  pub there : lock < 256
 
 -- one lock has been given other words, and nothing else is changed: neither the other locks nor the first word
 pub record Placed (words after : List ℕ) (lock : ℕ) (ws : List ℕ) : Type 0 where

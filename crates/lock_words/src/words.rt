@@ -1,29 +1,24 @@
 // The words of a register and of a part.
-ghost use Rattle.std.specs.Prelude.{◌≡◌, ◌<◌, min, get_or};
+ghost use Rattle.std.specs.Prelude.{◌≡◌, ◌<◌, ◌≤◌, min, map, length};
 ghost use Rattle.semcode_records.specs.Maps.{component_is};
 ghost use Rattle.lock_rules.specs.Lock.{part_of};
-ghost use Rattle.lock_words.specs.Words.{part_in, slot, held_in};
-ghost use Rattle.lock_words.specs.Place.{Register, Place};
+ghost use Rattle.lock_words.specs.Words.{part_in, lock_in, locks_in};
 ghost use Rattle.lock_words.specs.Maps.{part, part_is};
 
 use semcode_records::component::DecodedAccessPathComponent;
 
 // ---- A part
 
-#[derive(Drop)]
+// C takes the kind as a byte, so it stays a number.
+#[derive(Clone, Copy, Debug, PartialEq, Eq)]
 pub struct Part {
     pub kind: u8,
     pub first: u32,
     pub second: u16,
 }
 
-fn wide16(x: u16) -> u32
-    ensures { result ≡ x }
-{
-    x as u32
-}
-
 // The word of a part of one of the four kinds.
+#[tactic(auto, using(crate::proofs::WordLaws::packed_part))]
 fn packed(kind: u64, first: u32, second: u16) -> u64
     requires { kind < 4 }
     ensures { part_in result ≡ part kind first second }
@@ -36,7 +31,7 @@ pub fn component_word(component: DecodedAccessPathComponent) -> u64
     ensures { part_in result ≡ part_of (component_is component) }
 {
     match component {
-        DecodedAccessPathComponent::TupleIndex(index) => packed(0, wide16(index), 0),
+        DecodedAccessPathComponent::TupleIndex(index) => packed(0, index as u32, 0),
         DecodedAccessPathComponent::FieldSymbol(symbol) => packed(1, symbol, 0),
         DecodedAccessPathComponent::AdtPayload { variant, index } => packed(2, variant, index),
         DecodedAccessPathComponent::SequenceIndexStatic(index) => packed(3, index, 0),
@@ -44,6 +39,7 @@ pub fn component_word(component: DecodedAccessPathComponent) -> u64
 }
 
 // The part of a word.
+#[tactic(auto, unfolding(crate::specs::Words::part_in))]
 pub fn part_in(word: u64) -> Part
     ensures { part_is result ≡ part_in word }
 {
@@ -56,27 +52,25 @@ pub fn part_in(word: u64) -> Part
 
 // ---- A register
 
-// A word of a lock.
-pub fn word(words: &[u64], lock: usize, place: usize) -> u64
-    requires place { Place words.now lock }
-    requires place_bound { place < 24 }
-    ensures { result ≡ get_or (slot words.now lock) place 0 }
+// How many locks are held.
+pub fn held(register: &[u64; 6145]) -> usize
+    ensures all { result ≡ length (locks_in register.now) }
+    ensures few { result ≤ 256 }
 {
-    words[1 + 24 * lock + place]
+    register[0].min(256) as usize
 }
 
-// How many locks are held.
-pub fn count(words: &[u64]) -> usize
-    requires { Register words.now }
-    ensures { result ≡ held_in words.now }
+// The locks that are held, each by its 24 words.
+pub fn held_locks(register: &[u64; 6145]) -> &[[u64; 24]]
+    ensures { map lock_in result.now ≡ locks_in register.now }
 {
-    let n = words[0];
-    if n < 256 { n as usize } else { 256 }
+    let (locks, _) = register[1..].as_chunks::<24>();
+    &locks[..held(register)]
 }
 
 // How many parts a lock has, by its word.
 pub fn parts(word: u64) -> usize
     ensures { result ≡ min word 16 }
 {
-    if word < 16 { word as usize } else { 16 }
+    word.min(16) as usize
 }

@@ -3,11 +3,18 @@ use mathlib.Core.Path.{◌≡◌, refl, ap, sym, subst, ◌∙◌}
 use Prim.Native.Nat.{ℕ, ◌-◌, ◌<◌, ◌≤◌}
 use native.Mathlib.Omega.{arith}
 use mathlib.Core.List.{List, []}
-use lib.ListN.{length, get_or, replicate, length-append, length-map, get_or-append}
+use lib.ListN.{length, get_or, replicate, take, length-append, length-map, get_or-append}
+use lib.Seq.{length-take-le, get_or-take}
 use Rattle.local_format.specs.Refusal.{Refusal}
 use Rattle.local_format.specs.Out.{Out, ok, refused, ◌>>◌}
 use Rattle.local_format.proofs.OutLaws.{never, based_ok}
 use Rattle.local_format.proofs.NumberLaws.{there_map}
+use Rattle.std.specs.Prelude.{Result, Ok, Err}
+use Rattle.std.specs.Result.{is_err}
+use Rattle.local_format.specs.declared.refusal.Refusal as code
+use Rattle.local_format.specs.Maps.{answer_out}
+use Rattle.lock_rules.proofs.ListLaws.{no}
+use mathlib.Core.Bool.{true, false}
 use Rattle.lent_table.specs.Lent.{lent}
 use Rattle.semcode_records.specs.Records.{Entry}
 use Rattle.semcode_records.specs.Path.{Path, path_at}
@@ -41,7 +48,30 @@ module _ (revision : ℕ) (rooms : Rooms) (s : List ℕ) (b : Block) (read : blo
           let p = there_map (λ (e : Entry Path). e.value) no_path table.entries i t.found in
           record { next = t.entry.next; is_read = rw (lent_at n i (starts_of table) (omega arith), t.start, p) t.again }
 
+-- the first so many starts alone
+listed_first : (revision : ℕ) (s starts : List ℕ) (n : ℕ) (paths : List Path) → n ≤ length starts → Listed revision s starts n paths
+    → Listed revision s (take n starts) (length (take n starts)) paths
+listed_first revision s starts n paths h l =
+    let size : length (take n starts) ≡ n = length-take-le n starts h in
+    record {
+      many = l.many ∙ sym size;
+      each = λ i k. let m : i < n = omega arith in rw (get_or-take n starts i 0 m) (l.each i m);
+    }
+
+pub tried_first : (revision : ℕ) (s starts : List ℕ) (n : ℕ) (source : List ℕ) (owner : ℕ) (answer : Out ℕ) (words after : List ℕ)
+    → n ≤ length starts → TriedPaths revision s (take n starts) (length (take n starts)) source owner answer words after
+    → TriedPaths revision s starts n source owner answer words after
+tried_first revision s starts n source owner answer words after h t paths l = t paths (listed_first revision s starts n paths h l)
+
 -- ---- The answers
+
+pub told_err : (x : Result ℕ code.Refusal) → true ≡ is_err x → (r : Refusal) × (answer_out (λ n. n) x ≡ refused r)
+told_err (Ok n) e = no e
+told_err (Err r) e = (_, refl)
+
+pub told_ok : (x : Result ℕ code.Refusal) → false ≡ is_err x → (n : ℕ) × (answer_out (λ n. n) x ≡ ok n)
+told_ok (Ok n) e = (n, refl)
+told_ok (Err r) e = no (sym e)
 
 abbrev Locks : Type 0
 Locks = List (Lock Root)

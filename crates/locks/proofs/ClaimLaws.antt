@@ -11,6 +11,7 @@ use lib.Seq.{take-suc, take_all}
 use borrow.Author.Tests.{le-leb, lt-leb}
 use Rattle.local_format.specs.Refusal.{Refusal, refusal}
 use Rattle.local_format.specs.Out.{ok, refused}
+use Rattle.semcode_records.specs.Records.{Taken}
 use Rattle.semcode_records.specs.Path.{Path, path_at}
 use Rattle.lock_rules.specs.Lock.{Lock, lock_of}
 use Rattle.lock_rules.specs.Register.{any, long_path, hindered, claimed}
@@ -20,7 +21,8 @@ use Rattle.lock_words.specs.Words.{lock_in, locks_to, locks_in, held_in}
 use Rattle.lock_words.specs.Place.{Placed}
 use Rattle.lock_register.specs.Meet.{met_by}
 use Rattle.locks.specs.Phase.{Front, FrontOf, KeyOf, no_path, Listed, LongAnswer, MetAnswer, Stored, TriedPaths}
-use Rattle.lock_register.proofs.LockLaws.{locks_length, locks_put, locks_counted}
+use Rattle.lock_words.proofs.WordLaws.{locks_length}
+use Rattle.lock_register.proofs.LockLaws.{locks_put, locks_counted}
 use Rattle.lock_register.proofs.MeetLaws.{no_root}
 
 -- ---- Some of a list
@@ -85,6 +87,11 @@ module _ (revision : ℕ) (s starts : List ℕ) (count : ℕ) where
         none_more long_path paths i no_path (omega arith) (k paths l)
         (ap not (le-leb (length (get_or paths i no_path).components.entries) 16 (omega arith)))
 
+  -- where no path is read, none stands
+  pub short_past : (i : ℕ) → i < count → ((t : Taken Path) → path_at revision s (get_or starts i 0) ≡ ok t → ⊥) → Short (i + 1)
+  unfolding Short
+  short_past i h none paths l = let p = l.each i h in absurd (none (record { value = _; next = p.next }) p.is_read)
+
   pub short_all : (i : ℕ) → i ≡ count → Short i → LongAnswer revision s starts count false
   unfolding Short
   short_all i p k paths l = let m = l.many in sym (none_all long_path paths i (omega arith) (k paths l))
@@ -111,6 +118,10 @@ module _ (revision : ℕ) (s starts : List ℕ) (count : ℕ) where
         let r : f.root ≡ (get_or paths i no_path).root = ap (λ (f : Front). f.root) (is (record { value = _; next = p.next }) p.is_read) in
         none_more meets paths i no_path (omega arith) (free paths l e)
         (no_root (locks_in words) (lock_of (root_under source) owner (get_or paths i no_path)) (rw r at none))
+
+    pub free_past : (i : ℕ) → i < count → ((t : Taken Path) → path_at revision s (get_or starts i 0) ≡ ok t → ⊥) → Free (i + 1)
+    unfolding Free
+    free_past i h none paths l e = let p = l.each i h in absurd (none (record { value = _; next = p.next }) p.is_read)
 
     module _ (i : ℕ) (h : i < count) (key : List ℕ) (k : KeyOf (path_at revision s (get_or starts i 0)) source owner key) where
       key_is : (paths : List Path) → Listed revision s starts count paths → any long_path paths ≡ false
@@ -155,8 +166,8 @@ module _ (revision : ℕ) (s starts : List ℕ) (count : ℕ) where
 
     module _ (i : ℕ) (h : i < count) (key : List ℕ) (k : KeyOf (path_at revision s (get_or starts i 0)) source owner key) (after : List ℕ)
         (x : Storing i after) where
-      pub stores : (n : ℕ) (next : List ℕ) → n ≡ held_in words → Placed after next (n + i) key → Storing (i + 1) next
-      stores n next is_n p = record { locks = λ paths l e. go paths l e; same = p.same ∙ x.same }
+      pub stores : (to : ℕ) (next : List ℕ) → to ≡ held_in words + i → Placed after next to key → Storing (i + 1) next
+      stores to next is_to p = record { locks = λ paths l e. go paths l e; same = p.same ∙ x.same }
         where
           go : (paths : List Path) → Listed revision s starts count paths → any long_path paths ≡ false
               → locks_to (held_in words + (i + 1)) next ≡ locks_in words ++ map (lock_of (root_under source) owner) (take (i + 1) paths)
@@ -164,27 +175,25 @@ module _ (revision : ℕ) (s starts : List ℕ) (count : ℕ) where
               let m = l.many in
               let g : i < length paths = omega arith in
               let one : List (Lock Root) = lock_of (root_under source) owner (get_or paths i no_path) ∷ [] in
-              let a : held_in words + (i + 1) ≡ n + i + 1 = omega arith in
-              let b : n + i ≡ held_in words + i = omega arith in
+              let a : held_in words + (i + 1) ≡ to + 1 = omega arith in
               let t : map (lock_of (root_under source) owner) (take (i + 1) paths) ≡ map (lock_of (root_under source) owner) (take i paths) ++ one =
               rw (add-one, take-suc paths i no_path g) (map_append (lock_of (root_under source) owner) (take i paths) (get_or paths i no_path ∷ [])) in
               ap (λ (j : ℕ). locks_to j next) a
-              ∙ locks_put after next (n + i) key p
-              ∙ ap (λ (j : ℕ). locks_to j after ++ (lock_in key ∷ [])) b
+              ∙ locks_put after next to key p
+              ∙ ap (λ (j : ℕ). locks_to j after ++ (lock_in key ∷ [])) is_to
               ∙ rw (x.locks paths l e, key_is i h key k paths l e, t, append_assoc)
 
-    pub stored : (i n total : ℕ) (after : List ℕ) → Storing i after → i ≡ count → n ≡ held_in words → total ≡ n + count → total ≤ 256
+    pub stored : (i total : ℕ) (after : List ℕ) → Storing i after → i ≡ count → total ≡ held_in words + i → total ≤ 256
         → 0 < length words → Stored revision s starts count source owner words (set after 0 total)
-    stored i n total after x p is_n t h z =
+    stored i total after x p t h z =
         record { locks = λ paths l e. go paths l e; same = length-set after 0 total ∙ x.same }
       where
         go : (paths : List Path) → Listed revision s starts count paths → any long_path paths ≡ false
             → locks_in (set after 0 total) ≡ locks_in words ++ map (lock_of (root_under source) owner) paths
         go paths l e =
             let m = l.many in
-            let q : total ≡ held_in words + i = omega arith in
             locks_counted after total (rw x.same z) h
-            ∙ ap (λ (j : ℕ). locks_to j after) q
+            ∙ ap (λ (j : ℕ). locks_to j after) t
             ∙ x.locks paths l e
             ∙ ap (λ (ps : List Path). locks_in words ++ map (lock_of (root_under source) owner) ps) (take_all i paths (omega arith))
 

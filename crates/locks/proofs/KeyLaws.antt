@@ -21,7 +21,9 @@ use Rattle.lock_rules.specs.Lock.{Part, Lock, is_write, part_of}
 use Rattle.lock_rules.proofs.ListLaws.{map_append}
 use Rattle.lock_rules.specs.Source.{Root, root_under}
 use Rattle.lock_words.specs.Words.{part_in, parts_in, source_of, source_in, root_in, lock_in}
-use Rattle.locks.specs.Phase.{Front, FrontOf, parts_of, Filled, KeyOf}
+use Rattle.locks.specs.Phase.{Front, front_of, FrontOf, parts_of, Filled, KeyOf}
+use Rattle.std.specs.Prelude.{Some, None}
+use Rattle.std.proofs.lemmas.Option.{same_Some, none-some}
 
 -- ---- What stands in front of the components
 
@@ -42,6 +44,14 @@ front_is revision s kind mode kinded root-at root count start e t h =
     let many = as_many read count start c.1 in
     let k = kind_read kind revision s mode x.0 e (is_known 60 c.0.end kinded x.1) in
     rw (← ok_same x.2, many.0, many.1, ← k)
+
+-- what is found in front of a path's components is what stands there
+pub found : (read : Out (Taken Path)) (f : Front) → ((t : Taken Path) → read ≡ ok t → Some f ≡ Some (front_of t.value)) → FrontOf read f
+found read f e t h = same_Some _ _ (e t h)
+
+-- where nothing is found, no path is read
+pub not_found : {read : Out (Taken Path)} → ((t : Taken Path) → read ≡ ok t → None ≡ Some (front_of t.value)) → (t : Taken Path) → read ≡ ok t → ⊥
+not_found e t h = none-some (front_of t.value) (e t h)
 
 -- ---- The words of the components
 

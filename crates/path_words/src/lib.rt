@@ -1,7 +1,7 @@
 // The fields of paths and of their components as words of a lent table, for whoever copies all paths of a block that was decoded.
 #![tactic(auto)]
 
-ghost use Rattle.std.specs.Prelude.{◌≡◌, [], ◌∷◌, ◌+◌, ◌-◌, ◌*◌, ◌%◌, ◌^◌, ◌≤◌, ◌<◌, length};
+ghost use Rattle.std.specs.Prelude.{◌≡◌, ℕ, Some, unwrap_or, [], ◌∷◌, ◌+◌, ◌-◌, ◌*◌, ◌%◌, ◌^◌, ◌≤◌, ◌<◌, length};
 ghost use Rattle.semcode_records.specs.Component.{component_at};
 ghost use Rattle.semcode_records.specs.Maps.{component_is, event_is};
 ghost use Rattle.record_words.specs.Words.{Puts};
@@ -10,12 +10,12 @@ ghost use Rattle.path_words.specs.Front.{PutsComponents, site_of, opening_words}
 ghost use Rattle.path_words.specs.Maps.{step_is, numbered_is, opening_is};
 
 use lent_table::clear_from;
-use local_format::field::{u16_at, u32_at};
+use local_format::field::{Field, LittleEndian};
 use semcode_records::component::{
-    Component, DecodedAccessPathComponent, component_size, component_sizes, read_component,
+    DecodedAccessPathComponent, component_size, component_sizes, read_component,
 };
 use semcode_records::path::{
-    DecodedBorrowActivation, DecodedEvent, DecodedWriteExecution, Path,
+    DecodedBorrowActivation, DecodedEvent, DecodedWriteExecution,
     SEMCODE_OWNERSHIP_ANCHOR_MIN_REVISION, event_kind, read_path, site_size,
 };
 
@@ -34,30 +34,15 @@ fn component_word(component: DecodedAccessPathComponent) -> u64
     }
 }
 
-// Whether a component is there, its word and the place after it.
-#[derive(Drop)]
-struct Step {
-    whole: bool,
-    word: u64,
-    next: usize,
-}
-
-fn slow_step(code: &[u8], at: usize, header_rev: u16, kind: u8) -> Step
+// A component's word and the place after it, where it is there.
+fn slow_step(code: &[u8], at: usize, header_rev: u16, kind: u8) -> Option<Field<u64>>
     ensures { step_is result ≡ step_of (component_at header_rev kind code.now at) }
 {
-    let answer = read_component(code, at, header_rev, kind);
-    let Component::Whole { component, next } = answer else {
-        return Step {
-            whole: false,
-            word: 0,
-            next: 0,
-        };
-    };
-    Step {
-        whole: true,
-        word: component_word(component),
-        next,
-    }
+    let read = read_component(code, at, header_rev, kind).ok()?;
+    Some(Field {
+        value: component_word(read.value),
+        next: read.next,
+    })
 }
 
 fn power(bits: usize) -> u64
@@ -77,13 +62,10 @@ fn sized_word(component_kind: u8, first: u32, second: u16, size: usize) -> u64
 }
 
 // With no branch for the component's kind, where one of any kind would be there whole.
-fn read_step(code: &[u8], at: usize, header_rev: u16, kind: u8) -> Step
+fn read_step(code: &[u8], at: usize, header_rev: u16, kind: u8) -> Option<Field<u64>>
     ensures { step_is result ≡ step_of (component_at header_rev kind code.now at) }
 {
-    if code.len() < 7 {
-        return slow_step(code, at, header_rev, kind);
-    }
-    if code.len() - 7 < at {
+    if code.len() < 7 || code.len() - 7 < at {
         return slow_step(code, at, header_rev, kind);
     }
     let component_kind = code[at];
@@ -91,20 +73,19 @@ fn read_step(code: &[u8], at: usize, header_rev: u16, kind: u8) -> Step
     if size == 0 {
         return slow_step(code, at, header_rev, kind);
     }
-    let word = sized_word(
+    let value = sized_word(
         component_kind,
-        u32_at(code, at + 1),
-        u16_at(code, at + 5),
+        u32::le_at(code, at + 1),
+        u16::le_at(code, at + 5),
         size,
     );
-    Step {
-        whole: true,
-        word,
+    Some(Field {
+        value,
         next: at + size,
-    }
+    })
 }
 
-// So many components from a place on, to the words from `to` on: false where one is refused.
+// So many components from a place on, to the words from `to` on: whether all are there, and nothing else.
 fn put_components(
     code: &[u8],
     at: usize,
@@ -118,15 +99,12 @@ fn put_components(
     ensures { PutsComponents (component_at header_rev kind code.now) count at to words.old words.new result }
 {
     let mut cursor = at;
-    let mut i: usize = 0;
-    while i < count {
-        let step = read_step(code, cursor, header_rev, kind);
-        if !step.whole {
+    for i in 0..count {
+        let Some(Field { value, next }) = read_step(code, cursor, header_rev, kind) else {
             return false;
-        }
-        words[to + i] = step.word;
-        cursor = step.next;
-        i += 1;
+        };
+        words[to + i] = value;
+        cursor = next;
     }
     true
 }
@@ -134,7 +112,7 @@ fn put_components(
 // ---- A path
 
 // An event's number and its site.
-#[derive(Drop)]
+#[derive(Clone, Copy)]
 struct Numbered {
     event: u8,
     site: u32,
@@ -144,24 +122,19 @@ fn event_numbered(event: DecodedEvent) -> Numbered
     ensures { numbered_is result ≡ numbered (event_is event) }
 {
     match event {
-        DecodedEvent::Borrow(activation) => match activation {
-            DecodedBorrowActivation::None => Numbered { event: 0, site: 0 },
-            DecodedBorrowActivation::FrameEntry => Numbered { event: 1, site: 0 },
-            DecodedBorrowActivation::StoreVarSite(site) => Numbered { event: 2, site },
-        },
-        DecodedEvent::Write(execution) => match execution {
-            DecodedWriteExecution::None => Numbered { event: 3, site: 0 },
-            DecodedWriteExecution::StoreVarSite(site) => Numbered { event: 4, site },
-            DecodedWriteExecution::MakeRecordSite(site) => Numbered { event: 5, site },
-        },
+        DecodedEvent::Borrow(DecodedBorrowActivation::None) => Numbered { event: 0, site: 0 },
+        DecodedEvent::Borrow(DecodedBorrowActivation::FrameEntry) => Numbered { event: 1, site: 0 },
+        DecodedEvent::Borrow(DecodedBorrowActivation::StoreVarSite(site)) => {
+            Numbered { event: 2, site }
+        }
+        DecodedEvent::Write(DecodedWriteExecution::None) => Numbered { event: 3, site: 0 },
+        DecodedEvent::Write(DecodedWriteExecution::StoreVarSite(site)) => {
+            Numbered { event: 4, site }
+        }
+        DecodedEvent::Write(DecodedWriteExecution::MakeRecordSite(site)) => {
+            Numbered { event: 5, site }
+        }
     }
-}
-
-fn put_word(words: &mut [u64], to: usize, value: u64)
-    requires { to < length words.old }
-    ensures { Puts (value ∷ []) to words.old words.new }
-{
-    words[to] = value;
 }
 
 // Four words.
@@ -169,16 +142,12 @@ fn put_four(words: &mut [u64], to: usize, a: u8, b: u32, c: u32, d: u16)
     requires { to + 4 ≤ length words.old }
     ensures { Puts (a ∷ b ∷ c ∷ d ∷ []) to words.old words.new }
 {
-    put_word(words, to, a as u64);
-    put_word(words, to + 1, b as u64);
-    put_word(words, to + 2, c as u64);
-    put_word(words, to + 3, d as u64);
+    words[to..to + 4].copy_from_slice(&[a as u64, b as u64, c as u64, d as u64]);
 }
 
-// What stands in front of a path's components, the event as its number and site; not whole where the path is refused.
-#[derive(Drop)]
+// What stands in front of a path's components, the event as its number and site.
+#[derive(Clone, Copy)]
 struct Opening {
-    whole: bool,
     kind: u8,
     event: u8,
     site: u32,
@@ -187,32 +156,29 @@ struct Opening {
     start: usize,
 }
 
-fn slow_opening(code: &[u8], at: usize, header_rev: u16) -> Opening
+// None where the path is refused.
+fn slow_opening(code: &[u8], at: usize, header_rev: u16) -> Option<Opening>
     ensures { path_words header_rev code.now at ≡ opening_words (λ kind. component_at header_rev kind code.now) (opening_is result) }
 {
-    let answer = read_path(code, at, header_rev);
-    let Path::Whole { path, next: _ } = answer else {
-        return Opening {
-            whole: false,
-            kind: 0,
-            event: 0,
-            site: 0,
-            root: 0,
-            count: 0,
-            start: 0,
-        };
+    let Ok(
+        Field {
+            value: path,
+            next: _,
+        },
+    ) = read_path(code, at, header_rev)
+    else {
+        return None;
     };
     let event = path.event;
     let number = event_numbered(event);
-    Opening {
-        whole: true,
+    Some(Opening {
         kind: event_kind(event),
         event: number.event,
         site: number.site,
         root: path.root_symbol_id,
         count: path.component_count,
         start: path.components_start,
-    }
+    })
 }
 
 fn site_of(size: usize, anchor: u32) -> u32
@@ -222,50 +188,41 @@ fn site_of(size: usize, anchor: u32) -> u32
 }
 
 // With no branch for the event, where modes stand and the longest would be there whole.
-fn read_opening(code: &[u8], at: usize, header_rev: u16) -> Opening
+fn read_opening(code: &[u8], at: usize, header_rev: u16) -> Option<Opening>
     ensures { path_words header_rev code.now at ≡ opening_words (λ kind. component_at header_rev kind code.now) (opening_is result) }
 {
-    if header_rev < SEMCODE_OWNERSHIP_ANCHOR_MIN_REVISION {
-        return slow_opening(code, at, header_rev);
-    }
-    if code.len() < 12 {
-        return slow_opening(code, at, header_rev);
-    }
-    if code.len() - 12 < at {
+    if header_rev < SEMCODE_OWNERSHIP_ANCHOR_MIN_REVISION
+        || code.len() < 12
+        || code.len() - 12 < at
+    {
         return slow_opening(code, at, header_rev);
     }
     let kind = code[at];
     let mode = code[at + 1];
-    if 1 < kind {
-        return slow_opening(code, at, header_rev);
-    }
-    if 1 < mode {
+    if 1 < kind || 1 < mode {
         return slow_opening(code, at, header_rev);
     }
     let size = site_size(kind, mode);
-    Opening {
-        whole: true,
+    Some(Opening {
         kind,
         event: 1 + mode + 3 * kind,
-        site: site_of(size, u32_at(code, at + 2)),
-        root: u32_at(code, at + 2 + size),
-        count: u16_at(code, at + 6 + size),
+        site: site_of(size, u32::le_at(code, at + 2)),
+        root: u32::le_at(code, at + 2 + size),
+        count: u16::le_at(code, at + 6 + size),
         start: at + 8 + size,
-    }
+    })
 }
 
-// The path at a place, to the words from `to` on: how many, 0 where it is refused or does not fit.
-fn put_path(code: &[u8], at: usize, header_rev: u16, words: &mut [u64], to: usize) -> usize
+// The path at a place, to the words from `to` on: how many; none where it is refused or does not fit.
+fn put_path(code: &[u8], at: usize, header_rev: u16, words: &mut [u64], to: usize) -> Option<usize>
     requires { to ≤ length words.old }
-    ensures { PutsOne (path_words header_rev code.now at) to words.old words.new result }
+    ensures puts { PutsOne (path_words header_rev code.now at) to words.old words.new (unwrap_or result 0) }
+    ensures some { (size : ℕ) → result ≡ Some size → 0 < size }
 {
-    let opening = read_opening(code, at, header_rev);
-    if !opening.whole {
-        return 0;
-    }
+    let opening = read_opening(code, at, header_rev)?;
     let count = opening.count as usize;
     if words.len() - to < 4 + count {
-        return 0;
+        return None;
     }
     put_four(
         words,
@@ -284,7 +241,7 @@ fn put_path(code: &[u8], at: usize, header_rev: u16, words: &mut [u64], to: usiz
         words,
         to + 4,
     );
-    if whole { 4 + count } else { 0 }
+    if whole { Some(4 + count) } else { None }
 }
 
 // The paths that start at these places, as many as are there and fit, from the first on: how many. A path takes 4 words, event, site, root and
@@ -293,16 +250,13 @@ pub fn read_paths(code: &[u8], header_rev: u16, starts: &[u64], words: &mut [u64
     ensures { Fits (path_words header_rev code.now) starts.now words.old words.new result }
 {
     let mut to: usize = 0;
-    let mut i: usize = 0;
-    while i < starts.len() {
-        let size = put_path(code, starts[i] as usize, header_rev, words, to);
-        if size == 0 {
+    for i in 0..starts.len() {
+        let Some(size) = put_path(code, starts[i] as usize, header_rev, words, to) else {
             clear_from(words, to);
             return i;
-        }
+        };
         to += size;
-        i += 1;
     }
     clear_from(words, to);
-    i
+    starts.len()
 }

@@ -27,13 +27,10 @@ use Rattle.record_words.specs.Words.{
   Fills,
   Runs,
 }
+use Rattle.record_words.specs.Sizes.{length_fields}
+use Rattle.std.specs.Prelude.{Some, None}
 
 -- ---- Fields
-
-pub length_fields : (n : ℕ) (s : List ℕ) (at : ℕ) → length (fields n s at) ≡ n
-unfolding fields
-length_fields zero s at = refl
-length_fields (suc n) s at = ap suc (length_fields n s (at + 4))
 
 -- one field more
 pub fields_more : (n : ℕ) (s : List ℕ) (at : ℕ) → fields (suc n) s at ≡ fields n s at ++ le 4 s (at + 4 * n) ∷ []
@@ -71,24 +68,16 @@ module _ (s : List ℕ) (at to : ℕ) where
 -- ---- A record with a text
 
 module _ (front back : ℕ) (s : List ℕ) (at : ℕ) where
-  pub text_cut : length s < after_text front s at + 4 * back → 0 ≡ cond (text_whole front back s at) (after_text front s at) 0
+  pub text_cut : length s < after_text front s at + 4 * back → None ≡ cond (text_whole front back s at) (Some (after_text front s at)) None
   unfolding text_whole
   text_cut h = rw (lt-leb _ _ h)
 
   pub text_there : (rest : ℕ) → rest ≡ at + (4 * front + 2) + le 2 s (at + 4 * front) → rest + 4 * back ≤ length s
-      → rest ≡ cond (text_whole front back s at) (after_text front s at) 0
+      → Some rest ≡ cond (text_whole front back s at) (Some (after_text front s at)) None
   unfolding text_whole
   text_there rest e h =
       let f : after_text front s at ≡ rest = omega arith in
       rw (f, le-leb _ _ h)
-
-  pub text_none : (rest : ℕ) → rest ≡ cond (text_whole front back s at) (after_text front s at) 0 → rest ≡ 0 → text_whole front back s at ≡ false
-  unfolding text_whole
-  text_none rest e z = go (leb (after_text front s at + 4 * back) (length s)) e
-    where
-      go : (b : Bool) → rest ≡ cond b (after_text front s at) 0 → b ≡ false
-      go true h = absurd (omega arith)
-      go false h = refl
 
   -- what is known of a record that is whole
   pub record TextThere (rest : ℕ) : Type 0 where
@@ -96,17 +85,24 @@ module _ (front back : ℕ) (s : List ℕ) (at : ℕ) where
     pub after : rest ≡ after_text front s at
     pub inside : rest + 4 * back ≤ length s
 
-  pub text_whole_lem : (rest : ℕ) → rest ≡ cond (text_whole front back s at) (after_text front s at) 0 → 0 < rest → TextThere rest
+  pub text_none : None ≡ cond (text_whole front back s at) (Some (after_text front s at)) None → text_whole front back s at ≡ false
   unfolding text_whole
-  text_whole_lem rest e z = go (leb (after_text front s at + 4 * back) (length s)) refl e
+  text_none e = go (leb (after_text front s at + 4 * back) (length s)) e
     where
-      go : (b : Bool) → leb (after_text front s at + 4 * back) (length s) ≡ b → rest ≡ cond b (after_text front s at) 0 → TextThere rest
-      go true h k = record { whole = h; after = k; inside = let l = leb-true (after_text front s at + 4 * back) (length s) h in omega arith }
-      go false h k = absurd (omega arith)
+      go : (b : Bool) → None ≡ cond b (Some (after_text front s at)) None → b ≡ false
+      go true h = absurd (cc)
+      go false h = refl
 
-  pub text_size : length (text_words front back s at) ≡ front + 2 + back
-  unfolding text_words
-  text_size = simp (length-append, length_fields) (omega arith)
+  pub text_whole_lem : (rest : ℕ) → Some rest ≡ cond (text_whole front back s at) (Some (after_text front s at)) None → TextThere rest
+  unfolding text_whole
+  text_whole_lem rest e = go (leb (after_text front s at + 4 * back) (length s)) refl e
+    where
+      go : (b : Bool) → leb (after_text front s at + 4 * back) (length s) ≡ b → Some rest ≡ cond b (Some (after_text front s at)) None → TextThere rest
+      go true h k =
+          let l = leb-true (after_text front s at + 4 * back) (length s) h in
+          let j : rest ≡ after_text front s at = cc in
+          record { whole = h; after = j; inside = omega arith }
+      go false h k = absurd (cc)
 
   pub puts_text : {a b c d e : List ℕ} {to rest : ℕ} → rest ≡ after_text front s at → Puts (fields front s at) to a b
       → Puts ((at + 4 * front + 2) ∷ []) (to + front) b c → Puts ((rest - (at + 4 * front + 2)) ∷ []) (to + front + 1) c d
@@ -124,10 +120,6 @@ module _ (width : ℕ) (s : List ℕ) (at : ℕ) where
       → Puts (span_words width s at) to a c
   unfolding span_words
   span_puts {to = to} e f p q = puts_then (to + 1) refl (rw e at p) (rw f at q)
-
-  pub witness_size_lem : length (witness_words width s at) ≡ 7
-  unfolding witness_words span_words
-  witness_size_lem = simp (length-append, length_fields)
 
   pub puts_witness : {a b c d e : List ℕ} {to origin : ℕ} → Puts (fields 3 s at) to a b → Puts ((at + 12) ∷ []) (to + 3) b c
       → Puts (span_words width s (at + 44)) (to + 4) c d → origin ≡ at + 44 + 2 * width → Puts (origin ∷ []) (to + 6) d e

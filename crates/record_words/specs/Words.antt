@@ -52,6 +52,12 @@ pub record Puts (xs : List ℕ) (to : ℕ) (before after : List ℕ) : Type 0 wh
   pub size : length after ≡ length before
   pub front : take (to + length xs) after ≡ take to before ++ xs
 
+-- a record that is whole is put, and the table keeps its size
+pub record Stores (whole : Bool) (words : List ℕ) (to : ℕ) (before after : List ℕ) (r : Bool) : Type 0 where
+  pub answer : r ≡ whole
+  pub size : length after ≡ length before
+  pub put : whole ≡ true → Puts words to before after
+
 -- whether all records are whole and their words fit
 abbrev pub fits : (ℕ → Bool) → (ℕ → List ℕ) → List ℕ → List ℕ → Bool
 fits whole words starts table = all_whole whole starts && leb (length (all_words words starts)) (length table)

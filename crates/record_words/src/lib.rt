@@ -2,7 +2,7 @@
 // nothing is checked but that it is there.
 #![tactic(auto)]
 
-ghost use Rattle.std.specs.Prelude.{◌≡◌, cond, [], ◌∷◌, ◌+◌, ◌-◌, ◌*◌, ◌≤◌, ◌<◌, length};
+ghost use Rattle.std.specs.Prelude.{◌≡◌, ℕ, Bool, true, List, cond, [], ◌∷◌, ◌+◌, ◌-◌, ◌*◌, ◌≤◌, ◌<◌, length};
 ghost use Rattle.record_words.specs.Words.{
   fields,
   after_text,
@@ -12,20 +12,57 @@ ghost use Rattle.record_words.specs.Words.{
   witness_words,
   span_words,
   Puts,
+  Stores,
   Fills,
   Runs,
 };
+ghost use Rattle.record_words.specs.Sizes.{text_size, witness_words_size};
 ghost use Rattle.evr0_section.specs.Head.{span_width, witness_size};
 
 use evr0_fields::schema::witness_size;
-use lent_table::{clear_from, clear_many};
-use local_format::field::{u16_at, u32_at, u64_at};
+use lent_table::{clear, clear_from};
+use local_format::field::LittleEndian;
 
-// How many of `len` bytes stand from a place on.
-fn left(len: usize, at: usize) -> usize
-    ensures { result ≡ len - at }
+// The records of a table.
+trait Record {
+    // Whether the record at a place is whole, its words, and how many they are.
+    ghost is_whole: { Self → List ℕ → ℕ → Bool };
+
+    ghost words_of: { Self → List ℕ → ℕ → List ℕ };
+
+    ghost size: { Self → ℕ };
+
+    fn count(&self) -> usize
+        ensures { result ≡ size self.now };
+
+    // Puts the words of the record at `at` from `to` on, where it is whole.
+    fn put(&self, bytes: &[u8], at: usize, words: &mut [u64], to: usize) -> bool
+        requires { to + size self.now ≤ length words.old }
+        ensures { Stores (is_whole self.now bytes.now at) (words_of self.now bytes.now at) to words.old words.new result };
+
+    ghost sized: { (r : Self) (s : List ℕ) (at : ℕ) → length (words_of r s at) ≡ size r };
+}
+
+// The records that start at these places.
+fn read_all<R: Record>(kind: &R, bytes: &[u8], starts: &[u64], words: &mut [u64]) -> bool
+    ensures { Fills (R.is_whole kind.now bytes.now) (R.words_of kind.now bytes.now) starts.now
+        words.old words.new result }
 {
-    if len < at { 0 } else { len - at }
+    let size = kind.count();
+    let mut to: usize = 0;
+    for start in starts {
+        if words.len() - to < size {
+            clear(words);
+            return false;
+        }
+        if !kind.put(bytes, *start as usize, words, to) {
+            clear(words);
+            return false;
+        }
+        to += size;
+    }
+    clear_from(words, to);
+    true
 }
 
 // So many fields of 4 bytes, to the words from `to` on.
@@ -33,10 +70,8 @@ fn put_fields(bytes: &[u8], at: usize, count: usize, words: &mut [u64], to: usiz
     requires { (4 * count ≤ length bytes.now - at) × (to + count ≤ length words.old) }
     ensures { Puts (fields count bytes.now at) to words.old words.new }
 {
-    let mut i: usize = 0;
-    while i < count {
-        words[to + i] = u32_at(bytes, at + 4 * i) as u64;
-        i += 1;
+    for i in 0..count {
+        words[to + i] = u32::le_at(bytes, at + 4 * i) as u64;
     }
 }
 
@@ -50,72 +85,60 @@ fn put_word(words: &mut [u64], to: usize, value: usize)
 
 // ---- Records with a text
 
-// The place after the text of the record at `at`; 0 where the record is not whole.
-fn after_text(bytes: &[u8], at: usize, front: usize, back: usize) -> usize
-    requires { (front ≤ 8) × (back ≤ 8) }
-    ensures { result ≡ cond (text_whole front back bytes.now at) (after_text front bytes.now at) 0 }
-{
-    let head = 4 * front + 2;
-    if bytes.len() < head {
-        return 0;
-    }
-    if bytes.len() - head < at {
-        return 0;
-    }
-    let rest = at + head + (u16_at(bytes, at + 4 * front) as usize);
-    if bytes.len() < rest + 4 * back {
-        return 0;
-    }
-    rest
-}
-
-// The words of the record at `at`, whose text ends at `rest`.
-fn put_text(
-    bytes: &[u8],
-    at: usize,
-    rest: usize,
+// Records of so many fields, a text, and so many fields.
+#[derive(Clone, Copy)]
+struct Texts {
     front: usize,
     back: usize,
-    words: &mut [u64],
-    to: usize,
-)
-    requires front_bound { (front ≤ 8) × (back ≤ 8) × (rest ≡ after_text front bytes.now at) × (rest + 4 * back ≤ length bytes.now) }
-    requires back_in_bounds { to + (front + 2 + back) ≤ length words.old }
-    ensures { Puts (text_words front back bytes.now at) to words.old words.new }
-{
-    let text = at + 4 * front + 2;
-    put_fields(bytes, at, front, words, to);
-    put_word(words, to + front, text);
-    put_word(words, to + front + 1, rest - text);
-    put_fields(bytes, rest, back, words, to + front + 2);
+    ghost few: { (front ≤ 8) × (back ≤ 8) },
 }
 
-// The records that start at these places: so many fields, a text, and so many fields.
-fn read_texts(bytes: &[u8], starts: &[u64], front: usize, back: usize, words: &mut [u64]) -> bool
-    requires { (front ≤ 8) × (back ≤ 8) }
-    ensures { Fills (text_whole front back bytes.now) (text_words front back bytes.now) starts.now
-        words.old words.new result }
-{
-    let size = front + 2 + back;
-    let mut to: usize = 0;
-    let mut i: usize = 0;
-    while i < starts.len() {
-        let at = starts[i] as usize;
-        let rest = after_text(bytes, at, front, back);
-        if rest == 0 {
-            clear_many(words);
-            return false;
+impl Texts {
+    // The place after the text of the record at `at`, where it is whole.
+    fn after_text(&self, bytes: &[u8], at: usize) -> Option<usize>
+        ensures { result ≡ cond (text_whole self.now.front self.now.back bytes.now at)
+            (Some (after_text self.now.front bytes.now at)) None }
+    {
+        let head = 4 * self.front + 2;
+        if bytes.len() < head {
+            return None;
         }
-        if words.len() - to < size {
-            clear_many(words);
-            return false;
+        if bytes.len() - head < at {
+            return None;
         }
-        put_text(bytes, at, rest, front, back, words, to);
-        to += size;
-        i += 1;
+        let rest = at + head + (u16::le_at(bytes, at + 4 * self.front) as usize);
+        if bytes.len() < rest + 4 * self.back {
+            return None;
+        }
+        Some(rest)
     }
-    clear_from(words, to);
-    true
+}
+
+impl Record for Texts {
+    ghost is_whole = { λ r s. text_whole r.front r.back s };
+
+    ghost words_of = { λ r s. text_words r.front r.back s };
+
+    ghost size = { λ r. r.front + 2 + r.back };
+
+    fn count(&self) -> usize {
+        self.front + 2 + self.back
+    }
+
+    fn put(&self, bytes: &[u8], at: usize, words: &mut [u64], to: usize) -> bool {
+        let Some(rest) = self.after_text(bytes, at) else {
+            return false;
+        };
+        let behind = to + self.front;
+        let text = at + 4 * self.front + 2;
+        put_fields(bytes, at, self.front, words, to);
+        put_word(words, behind, text);
+        put_word(words, behind + 1, rest - text);
+        put_fields(bytes, rest, self.back, words, behind + 2);
+        true
+    }
+
+    ghost sized = { λ r s at. text_size r.front r.back s at };
 }
 
 // Propositions: the place and the length of the kind, owner, scope, type.
@@ -123,7 +146,7 @@ pub fn read_propositions(payload: &[u8], starts: &[u64], words: &mut [u64]) -> b
     ensures { Fills (text_whole 0 3 payload.now) (text_words 0 3 payload.now) starts.now
         words.old words.new result }
 {
-    read_texts(payload, starts, 0, 3, words)
+    read_all(&Texts { front: 0, back: 3 }, payload, starts, words)
 }
 
 // Proofs: number, proposition, the place and the length of the rule's name, authority, first witness, witnesses, first parent, parents,
@@ -132,7 +155,7 @@ pub fn read_proofs(payload: &[u8], starts: &[u64], words: &mut [u64]) -> bool
     ensures { Fills (text_whole 2 6 payload.now) (text_words 2 6 payload.now) starts.now
         words.old words.new result }
 {
-    read_texts(payload, starts, 2, 6, words)
+    read_all(&Texts { front: 2, back: 6 }, payload, starts, words)
 }
 
 // Texts of a section and strings of a block: the place and the length of each.
@@ -140,7 +163,7 @@ pub fn read_strings(bytes: &[u8], starts: &[u64], words: &mut [u64]) -> bool
     ensures { Fills (text_whole 0 0 bytes.now) (text_words 0 0 bytes.now) starts.now
         words.old words.new result }
 {
-    read_texts(bytes, starts, 0, 0, words)
+    read_all(&Texts { front: 0, back: 0 }, bytes, starts, words)
 }
 
 // ---- Witnesses and parents
@@ -151,22 +174,43 @@ fn put_span(bytes: &[u8], at: usize, schema: u16, words: &mut [u64], to: usize)
     ensures { Puts (span_words (span_width schema) bytes.now at) to words.old words.new }
 {
     if schema == 2 {
-        put_word(words, to, u64_at(bytes, at) as usize);
-        put_word(words, to + 1, u64_at(bytes, at + 8) as usize);
+        put_word(words, to, u64::le_at(bytes, at) as usize);
+        put_word(words, to + 1, u64::le_at(bytes, at + 8) as usize);
         return;
     }
     put_fields(bytes, at, 2, words, to);
 }
 
-// The words of the witness at `at`.
-fn put_witness(bytes: &[u8], at: usize, schema: u16, words: &mut [u64], to: usize)
-    requires { (at + witness_size (span_width schema) ≤ length bytes.now) × (to + 7 ≤ length words.old) }
-    ensures { Puts (witness_words (span_width schema) bytes.now at) to words.old words.new }
-{
-    put_fields(bytes, at, 3, words, to);
-    put_word(words, to + 3, at + 12);
-    put_span(bytes, at + 44, schema, words, to + 4);
-    put_word(words, to + 6, at + (witness_size(schema) - 32)); // the second digest
+// Witnesses of a payload of this schema.
+#[derive(Clone, Copy)]
+struct Witnesses {
+    schema: u16,
+}
+
+impl Record for Witnesses {
+    ghost is_whole = { λ r s. witness_whole (span_width r.schema) s };
+
+    ghost words_of = { λ r s. witness_words (span_width r.schema) s };
+
+    ghost size = { λ r. 7 };
+
+    fn count(&self) -> usize {
+        7
+    }
+
+    fn put(&self, bytes: &[u8], at: usize, words: &mut [u64], to: usize) -> bool {
+        let size = witness_size(self.schema);
+        if bytes.len().saturating_sub(at) < size {
+            return false;
+        }
+        put_fields(bytes, at, 3, words, to);
+        put_word(words, to + 3, at + 12);
+        put_span(bytes, at + 44, self.schema, words, to + 4);
+        put_word(words, to + 6, at + (size - 32)); // the second digest
+        true
+    }
+
+    ghost sized = { λ r s at. witness_words_size (span_width r.schema) s at };
 }
 
 // Witnesses: number, proposition, polarity, the place of the first digest, start, end, the place of the second digest.
@@ -174,25 +218,7 @@ pub fn read_witnesses(payload: &[u8], schema: u16, starts: &[u64], words: &mut [
     ensures { Fills (witness_whole (span_width schema) payload.now) (witness_words (span_width schema) payload.now)
         starts.now words.old words.new result }
 {
-    let size = witness_size(schema);
-    let mut to: usize = 0;
-    let mut i: usize = 0;
-    while i < starts.len() {
-        let at = starts[i] as usize;
-        if left(payload.len(), at) < size {
-            clear_many(words);
-            return false;
-        }
-        if words.len() - to < 7 {
-            clear_many(words);
-            return false;
-        }
-        put_witness(payload, at, schema, words, to);
-        to += 7;
-        i += 1;
-    }
-    clear_from(words, to);
-    true
+    read_all(&Witnesses { schema }, payload, starts, words)
 }
 
 // Parent cells: the fields of 4 bytes from `at` on, as many as there are words.
@@ -200,8 +226,8 @@ pub fn read_parents(payload: &[u8], at: usize, words: &mut [u64]) -> bool
     ensures { Runs payload.now at words.old words.new result }
 {
     let count = words.len();
-    if left(payload.len(), at) / 4 < count {
-        clear_many(words);
+    if payload.len().saturating_sub(at) / 4 < count {
+        clear(words);
         return false;
     }
     put_fields(payload, at, count, words, 0);

@@ -1,2 +1,3 @@
-pub mod KeyLaws
 pub mod PairLaws
+pub mod KeyLaws
+pub mod ListLaws

@@ -8,11 +8,14 @@ use native.Mathlib.Omega.{arith}
 use lib.Dec.{eqb, leb}
 use lib.ListN.{length, get_or, take, length-take, length-map}
 use lib.Seq.{get_or-take, take_all, length-take-le}
-use borrow.Author.Tests.{le-leb, lt-leb, leb-true}
-use Rattle.local_format.specs.Out.{Out, ok, refuse}
+use borrow.Author.Tests.{le-leb, lt-leb, leb-true, leb-false}
+use Rattle.std.proofs.Math.Logic.{∥∥₁_elim}
+use Rattle.std.proofs.Props.{props}
+use Rattle.local_format.specs.Refusal.{Refusal, refusal}
+use Rattle.local_format.specs.Out.{Out, ok, refused, check}
 use Rattle.local_format.specs.Tag.{equal}
 use Rattle.local_format.specs.Text.{bytes_at}
-use Rattle.local_format.proofs.OutLaws.{ok_same, checked_ok}
+use Rattle.local_format.proofs.OutLaws.{never, ok_same, refused_same, check_ok, checked_ok}
 use Rattle.lent_table.specs.Lent.{lent}
 use Rattle.lent_table.proofs.Laws.{front_lent}
 use Rattle.derivation.specs.Friendly as friendly
@@ -75,6 +78,10 @@ module _ {p : List ℕ} {cursor end count : ℕ} {table flags : List ℕ} (a : T
     pub viewed : Views q starts flags xs
     viewed = rw (← part_is, ← starts_are) (sides.views a.given (input_in a) d a.decoded flags flag_is)
 
+  -- by the parts that the merge is given
+  pub seen : {q starts held : List ℕ} → q ≡ payload_to p cursor end → starts ≡ take count table → held ≡ flags → Views q starts held xs
+  seen part front same = rw same (viewed part front)
+
   pub counted : length xs ≡ count
   counted =
       (viewed refl refl).count ∙ ap length a.started ∙ sides.starts_count a.given (input_in a) d a.decoded ∙ a.counted
@@ -82,7 +89,18 @@ module _ {p : List ℕ} {cursor end count : ℕ} {table flags : List ℕ} (a : T
   pub few_of : count ≤ 65536
   few_of = omega (arith, (there refl refl).few, (viewed refl refl).count, counted)
 
+module _ {p : List ℕ} {cursor end count : ℕ} {table flags : List ℕ} (told : ∥ Told p cursor end count table flags ∥₁) where
+  pub inside_told : cursor + 44 ≤ length p
+  inside_told = ∥∥₁_elim told (Prim.hlevel props) (λ a. inside a)
+
+  pub there_told : {q starts : List ℕ} → q ≡ payload_to p cursor end → starts ≡ take count table → SideThere q starts flags
+  there_told part front = ∥∥₁_elim told (Prim.hlevel props) (λ a. there a part front)
+
 -- ---- The pair
+check_refused : (t : Bool) (n at : ℕ) {q : Refusal} → refused q ≡ check t n at → (t ≡ false) × (q ≡ refusal n at)
+check_refused true n at e = absurd (never e)
+check_refused false n at e = (refl, refused_same e)
+
 module _ {p : List ℕ} {i e n : ℕ} {ps fs : List ℕ} {q : List ℕ} {j f m : ℕ} {qs gs : List ℕ} (a : Told p i e n ps fs) (b : Told q j f m qs gs) where
   abbrev L : List Listed
   L = list_of (input_in a) a.section (input_in b) b.section
@@ -91,29 +109,16 @@ module _ {p : List ℕ} {i e n : ℕ} {ps fs : List ℕ} {q : List ℕ} {j f m :
     sets : equal a.section.tables.head.source_set b.section.tables.head.source_set ≡ r
     sets = ap₂ equal (source a) (source b) ∙ sym told
 
-    is_74 : (entries : ℕ) → r ≡ false → pair_in a b entries ≡ refuse 74 (j + 12)
+    pub differ : {before : List ℕ} {s : Refusal} → refused s ≡ check r 74 (j + 12) → Holds a b before before (refused s)
     unfolding pair_of
-    is_74 entries z = rw (sets ∙ z)
+    differ c = let (z, is) = check_refused r 74 (j + 12) c in record { answer = rw (sets ∙ z, is); table = rw (sets ∙ z) }
 
-    pub differ : (before : List ℕ) → r ≡ false → Holds a b before before (refuse 74 (j + 12))
-    differ before z =
-        let is : pair_in a b (length before) ≡ refuse 74 (j + 12) = is_74 (length before) z in
-        record { answer = rw is; table = rw (sets ∙ z) }
-
-    module _ (z : r ≡ true) {before mid : List ℕ} {entries same : ℕ} (listed : Lists L before mid entries same) where
-      is_61 : length before < entries → pair_in a b (length before) ≡ refuse 61 0
-      unfolding pair_of
-      is_61 h = rw (sets ∙ z, lt-leb (length L) (length before) (omega (arith, listed.size)))
+    module _ {u : Unit {0}} (match : ok u ≡ check r 74 (j + 12)) {before mid : List ℕ} {entries same : ℕ} (listed : Lists L before mid entries same) where
+      z : r ≡ true
+      z = check_ok r 74 (j + 12) (sym match)
 
       total : length (codes L) ≡ entries
       total = length-map L _ ∙ sym listed.size
-
-      pub short : length before < entries → Holds a b before mid (refuse 61 0)
-      short h =
-          let full : mid ≡ take (length before) (codes L) = list_full (xs a) (xs b) listed (omega arith) in
-          let n : length (take (length before) (codes L)) ≡ length before = length-take-le (length before) (codes L) (omega (arith, total)) in
-          let none : length before - length before ≡ 0 = omega arith in
-          record { answer = rw (is_61 h); table = rw (sets ∙ z, n, none, append-nil (take (length before) (codes L))) full }
 
       -- what the totals may be counted from
       pub counts_add : (n + m < 4294967296) × (n ≤ entries) × (m ≤ entries) × (entries + same ≤ n + m)
@@ -125,23 +130,38 @@ module _ {p : List ℕ} {i e n : ℕ} {ps fs : List ℕ} {q : List ℕ} {j f m :
             omega (arith, sums.first, sums.second, sums.all, listed.size, listed.agreed, counted a, counted b),
           )
 
-      module _ (h : entries ≤ length before) where
-        is_held : pair_in a b (length before) ≡ ok (record { first = a.section; second = b.section; list = L })
+      module _ (kept : length mid ≡ length before) where
+        pub short : {s : Refusal} → refused s ≡ check (leb entries (length mid)) 61 0 → Holds a b before mid (refused s)
         unfolding pair_of
-        is_held = rw (sets ∙ z, le-leb (length L) (length before) (omega (arith, listed.size)))
+        short c =
+            let (over, is) = check_refused (leb entries (length mid)) 61 0 c in
+            let h : length before < entries = omega (arith, kept, leb-false entries (length mid) over) in
+            let full : mid ≡ take (length before) (codes L) = list_full (xs a) (xs b) listed (omega arith) in
+            let n : length (take (length before) (codes L)) ≡ length before = length-take-le (length before) (codes L) (omega (arith, total)) in
+            let none : length before - length before ≡ 0 = omega arith in
+            let few : leb (length L) (length before) ≡ false = lt-leb (length L) (length before) (omega (arith, listed.size)) in
+            record { answer = rw (sets ∙ z, few, is); table = rw (sets ∙ z, n, none, append-nil (take (length before) (codes L))) full }
 
-        tally : tally_of L ≡ record { agreed = same; contradicted = n + m - entries - same; first_only = entries - m; second_only = entries - n }
-        tally = tally_is (xs a) (xs b) listed ∙ rw (counted a, counted b)
+        module _ {v : Unit {0}} (fit : ok v ≡ check (leb entries (length mid)) 61 0) where
+          h : entries ≤ length before
+          h = omega (arith, kept, leb-true entries (length mid) (check_ok (leb entries (length mid)) 61 0 (sym fit)))
 
-        pub fits : {after : List ℕ} {r : Tally} → length mid ≡ length before → after ≡ lent (length mid) (take entries mid)
-            → r ≡ record { agreed = same; contradicted = n + m - entries - same; first_only = entries - m; second_only = entries - n }
-            → Holds a b before after (ok r)
-        fits kept cleared counts =
-            record {
-              answer = ap ok (counts ∙ sym tally) ∙ sym (rw is_held);
-              table = rw (sets ∙ z, take_all (length before) (codes L) (omega (arith, total)))
-                  (cleared ∙ front_lent entries (length before) mid (codes L) kept total (rw total (list_there (xs a) (xs b) listed h)));
-            }
+          is_held : pair_in a b (length before) ≡ ok (record { first = a.section; second = b.section; list = L })
+          unfolding pair_of
+          is_held = rw (sets ∙ z, le-leb (length L) (length before) (omega (arith, listed.size, h)))
+
+          tally : tally_of L ≡ record { agreed = same; contradicted = n + m - entries - same; first_only = entries - m; second_only = entries - n }
+          tally = tally_is (xs a) (xs b) listed ∙ rw (counted a, counted b)
+
+          pub fits : {after : List ℕ} {r : Tally} → after ≡ lent (length mid) (take entries mid)
+              → r ≡ record { agreed = same; contradicted = n + m - entries - same; first_only = entries - m; second_only = entries - n }
+              → Holds a b before after (ok r)
+          fits cleared counts =
+              record {
+                answer = ap ok (counts ∙ sym tally) ∙ sym (rw is_held);
+                table = rw (sets ∙ z, take_all (length before) (codes L) (omega (arith, total, h)))
+                    (cleared ∙ front_lent entries (length before) mid (codes L) kept total (rw total (list_there (xs a) (xs b) listed h)));
+              }
 
   -- where nothing is refused, the table holds the list and zeros past it
   pub list_held : {before after : List ℕ} {r : Out Tally} → Holds a b before after r → (c : Comparison) → pair_in a b (length before) ≡ ok c

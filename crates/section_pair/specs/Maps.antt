@@ -1,14 +1,19 @@
 -- From the code's structs and enums to the definitions' types.
-use Rattle.local_format.specs.Out.{Out, ok, refused}
-use Rattle.local_format.specs.Maps.{refusal_out}
-use Rattle.evr0_compare.specs.Compare.{Tally}
-use Rattle.section_pair.specs.declared.pair.Totals.{Totals}
-use Rattle.section_pair.specs.declared.pair.Pair.{Pair}
-use Rattle.section_pair.specs.declared.pair.Pair.TheVariants as pair
+use Rattle.evr0_section.specs.Proposition.{Key}
+use Rattle.evr0_compare.specs.Compare.{Tally, Verdict, agreed, contradicted, first_only, second_only}
+use Rattle.section_pair.specs.declared.key.Key as code
+use Rattle.section_pair.specs.declared.verdict.Verdict as verdict
+use Rattle.section_pair.specs.declared.verdict.Verdict.TheVariants.{Agreed, Contradicted, FirstOnly, SecondOnly}
+use Rattle.section_pair.specs.declared.totals.Totals.{Totals}
 
 abbrev pub totals_out : Totals → Tally
 totals_out t = record { agreed = t.agreed; contradicted = t.contradicted; first_only = t.first_only; second_only = t.second_only }
 
-abbrev pub pair_out : Pair → Out Tally
-pair_out (pair.Held t) = ok (totals_out t)
-pair_out (pair.Refused r) = refused (refusal_out r)
+abbrev pub verdict_out : verdict.Verdict → Verdict
+verdict_out Agreed = agreed
+verdict_out Contradicted = contradicted
+verdict_out FirstOnly = first_only
+verdict_out SecondOnly = second_only
+
+abbrev pub key_out : code.Key → Key
+key_out k = record { kind = k.kind.now; owner = k.owner; scope = k.scope; type = k.type_obligation }

@@ -4,3 +4,6 @@
 mod key;
 mod list;
 pub mod pair;
+mod side;
+pub mod totals;
+mod verdict;

@@ -1,95 +1,65 @@
 // Two sections that were decoded: 74, the list, 61.
-ghost use Rattle.std.specs.Prelude.{◌+◌, ◌-◌, ◌≤◌, ◌<◌, ◌≡◌, length};
-ghost use Rattle.local_format.specs.Tag.{equal};
-ghost use Rattle.local_format.specs.Text.{bytes_at};
-ghost use Rattle.section_pair.specs.Steps.{Told, Holds};
-ghost use Rattle.section_pair.specs.Maps.{pair_out, totals_out};
+ghost use Rattle.section_pair.specs.Steps.{Told};
 
 use crate::list::list;
+use crate::side::Side;
+use crate::totals::{Totals, tally};
 use evr0_read::table::{front, payload_of};
-use local_format::refusal::Refusal;
+use lent_table::clear_from;
+use local_format::refusal::{Refusal, check};
 use local_format::tag::same;
 
-// How many propositions are agreed, contradicted, of the first section alone, of the second alone.
+// A section that was decoded: its bytes, its cursor, where it ends, how many propositions it has, and the tables of their starts and flags.
 #[derive(Clone, Copy)]
-pub struct Totals {
-    pub agreed: usize,
-    pub contradicted: usize,
-    pub first_only: usize,
-    pub second_only: usize,
+pub struct Section<'a> {
+    pub bytes: &'a [u8],
+    pub cursor: usize,
+    pub end: usize,
+    pub count: usize,
+    pub starts: &'a [u64],
+    pub flags: &'a [u8],
+    pub ghost told: { ∥ Told bytes.now cursor end count starts.now flags.now ∥₁ },
 }
 
-#[derive(Drop)]
-pub enum Pair {
-    Held(Totals),
-    Refused(Refusal),
-}
+impl<'a> Section<'a> {
+    ghost use Rattle.std.specs.Prelude.{◌≡◌, ◌+◌, take};
+    ghost use Rattle.local_format.specs.Text.{bytes_at};
+    ghost use Rattle.local_format.specs.Maps.{answer_out};
+    ghost use Rattle.evr0_read.specs.Listing.{payload_to};
+    ghost use Rattle.section_pair.specs.Steps.{Holds};
+    ghost use Rattle.section_pair.specs.Maps.{totals_out};
 
-// The source sets of two sections, 12 bytes after their cursors.
-fn same_source(first: &[u8], first_cursor: usize, second: &[u8], second_cursor: usize) -> bool
-    requires { (first_cursor + 44 ≤ length first.now) × (second_cursor + 44 ≤ length second.now) }
-    ensures { result ≡ equal (bytes_at first.now (first_cursor + 12) 32) (bytes_at second.now (second_cursor + 12) 32) }
-{
-    let a = first_cursor + 12;
-    let a_end = a + 32;
-    let b = second_cursor + 12;
-    let b_end = b + 32;
-    same(&first[a..a_end], &second[b..b_end])
-}
-
-// The four totals, by the counts of both sections, of the list and of what is agreed.
-fn tally(first: usize, second: usize, entries: usize, agreed: usize) -> Totals
-    requires { (first + second < 4294967296) × (first ≤ entries) × (second ≤ entries) × (entries + agreed ≤ first + second) }
-    ensures { totals_out result
-        ≡ record { agreed = agreed; contradicted = first + second - entries - agreed; first_only = entries - second; second_only = entries - first } }
-{
-    Totals {
-        agreed,
-        contradicted: first + second - entries - agreed,
-        first_only: entries - second,
-        second_only: entries - first,
+    // Its source set, 12 bytes after the cursor.
+    fn source_set(self) -> &'a [u8]
+        ensures { result.now ≡ bytes_at self.entry.bytes.now (self.entry.cursor + 12) 32 }
+    {
+        let at = self.cursor + 12;
+        &self.bytes[at..at + 32]
     }
-}
 
-// The sections at two cursors, which end at two places, by the starts and flags of their propositions. After 61 the table is full of the list's
-// first bytes, and 74 leaves it as it was brought.
-pub fn hold(
-    first: &[u8],
-    first_cursor: usize,
-    first_end: usize,
-    first_count: usize,
-    first_starts: &[u64],
-    first_flags: &[u8],
-    second: &[u8],
-    second_cursor: usize,
-    second_end: usize,
-    second_count: usize,
-    second_starts: &[u64],
-    second_flags: &[u8],
-    verdicts: &mut [u8],
-) -> Pair
-    requires { Told first.now first_cursor first_end first_count first_starts.now first_flags.now
-        × Told second.now second_cursor second_end second_count second_starts.now second_flags.now }
-    ensures { (a : Told first.now first_cursor first_end first_count first_starts.now first_flags.now)
-        (b : Told second.now second_cursor second_end second_count second_starts.now second_flags.now)
-        → Holds a b verdicts.old verdicts.new (pair_out result) }
-{
-    if same_source(first, first_cursor, second, second_cursor) {
-        let listing = list(
-            payload_of(first, first_cursor, first_end),
-            front(first_starts, first_count),
-            first_flags,
-            payload_of(second, second_cursor, second_end),
-            front(second_starts, second_count),
-            second_flags,
-            verdicts,
-        );
-        let entries = listing.entries;
-        if verdicts.len() < entries {
-            return Pair::Refused(local_format::refusal::refuse(61, 0));
+    fn side(self) -> Side<'a>
+        ensures payload { result.payload.now ≡ payload_to self.entry.bytes.now self.entry.cursor self.entry.end }
+        ensures starts { result.starts.now ≡ take self.entry.count self.entry.starts.now }
+        ensures flags { result.flags.now ≡ self.entry.flags.now }
+    {
+        Side {
+            payload: payload_of(self.bytes, self.cursor, self.end),
+            starts: front(self.starts, self.count),
+            flags: self.flags,
         }
-        lent_table::clear_bytes_from(verdicts, entries);
-        return Pair::Held(tally(first_count, second_count, entries, listing.agreed));
     }
-    Pair::Refused(local_format::refusal::refuse(74, second_cursor + 12))
+
+    // This section, the first, and the second. After 61 the table is full of the list's first bytes, and 74 leaves it as it was brought.
+    pub fn hold(self, second: Section, verdicts: &mut [u8]) -> Result<Totals, Refusal>
+        ensures { (a : Told self.entry.bytes.now self.entry.cursor self.entry.end self.entry.count self.entry.starts.now self.entry.flags.now)
+            (b : Told second.entry.bytes.now second.entry.cursor second.entry.end second.entry.count second.entry.starts.now second.entry.flags.now)
+            → Holds a b verdicts.old verdicts.new (answer_out totals_out result) }
+    {
+        let matches = same(self.source_set(), second.source_set());
+        check(matches, 74, second.cursor + 12)?;
+        let listing = list(self.side(), second.side(), verdicts);
+        check(listing.entries <= verdicts.len(), 61, 0)?;
+        clear_from(verdicts, listing.entries);
+        Ok(tally(self.count, second.count, listing))
+    }
 }

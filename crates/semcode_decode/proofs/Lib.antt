@@ -1,5 +1,4 @@
 pub mod TableLaws
-pub mod SectionLaws
 pub mod BlockLaws
 pub mod LentLaws
 pub mod ReadLaws

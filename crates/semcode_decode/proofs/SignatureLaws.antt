@@ -1,26 +1,23 @@
 -- The section SIG0: what a reader answers of it, and that the families of an accepted block are its bytes at their place.
-use mathlib.Core.Path.{◌≡◌, refl, ap, sym, ◌∙◌}
-use Prim.Native.Nat.{ℕ, zero, suc, ◌+◌, ◌≤◌, ◌<◌, min}
+use mathlib.Core.Path.{◌≡◌, ap, sym, ◌∙◌}
+use Prim.Native.Nat.{ℕ, zero, suc, ◌+◌, ◌<◌, min}
 use native.Mathlib.Omega.{arith}
 use native.Mathlib.Numerals.{add-one}
-use mathlib.Core.Bool.{Bool, true, false, ◌&&◌}
+use mathlib.Core.Bool.{◌&&◌}
 use mathlib.Core.List.{List, map}
 use lib.ListN.{length, get_or, take, length-map, length-take}
 use lib.Dec.{leb}
 use lib.Seq.{take_all, drop-cons, get_or-take}
-use borrow.Author.Tests.{le-leb, lt-leb}
 use Rattle.local_format.specs.Refusal.{Refusal}
-use Rattle.local_format.specs.Refusal as kind
-use Rattle.local_format.specs.Out.{Out, ok, refused, refuse, ◌>>=◌}
+use Rattle.local_format.specs.Out.{Out, ok, refused}
 use Rattle.local_format.specs.Field.{field, le}
 use Rattle.local_format.specs.Text.{bytes_at}
-use Rattle.local_format.specs.Tag.{tag_at, sig0}
 use Rattle.local_format.proofs.OutLaws.{never, refused_same, ok_same, bind_ok, checked_ok}
 use Rattle.local_format.proofs.FieldLaws.{field_ok}
-use Rattle.semcode_records.specs.Records.{Taken, Table, no_records, records, ends}
+use Rattle.semcode_records.specs.Records.{Taken, Table, records, ends}
 use Rattle.semcode_records.proofs.RecordsLaws.{as_many}
-use Rattle.semcode_decode.specs.Block.{Rooms, Block, family_at, family_table, signature_at, block_of}
-use Rattle.semcode_decode.specs.Layout.{Layout, layout, extent, tagged, families_of, block_families}
+use Rattle.semcode_decode.specs.Block.{Rooms, Block, family_at, block_of}
+use Rattle.semcode_decode.specs.Layout.{Layout, layout, extent, families_of, block_families}
 use Rattle.semcode_decode.proofs.BlockLaws.{layout_ok}
 use Rattle.semcode_decode.proofs.ReadLaws.{tables_read}
 
@@ -28,32 +25,6 @@ use Rattle.semcode_decode.proofs.ReadLaws.{tables_read}
 pub extent_refused : {A : Type 0} (x : Out (Table A)) {r : Refusal} → ends x ≡ refused r → extent x ≡ refused r
 extent_refused (ok t) e = absurd (never (sym e))
 extent_refused (refused q) e = ap refused (refused_same e)
-
-module _ (revision : ℕ) (ownership : Bool) (s : List ℕ) (entries at : ℕ) where
-  pub none_below : revision < 20 → signature_at revision ownership s entries at ≡ ok (record { found = false; table = no_records at })
-  unfolding signature_at
-  none_below h = rw (lt-leb 20 revision h)
-
-  module _ (from : 20 ≤ revision) where
-    pub no_ownership : ownership ≡ false
-        → signature_at revision ownership s entries at ≡ refused (record { kind = kind.ownership; number = 71; offset = at })
-    unfolding signature_at
-    no_ownership o = rw (le-leb 20 revision from, o)
-
-    module _ (o : ownership ≡ true) where
-      pub no_tag : tag_at sig0 s at ≡ false → signature_at revision ownership s entries at ≡ refuse 71 at
-      unfolding signature_at
-      no_tag e = rw (le-leb 20 revision from, o, e)
-
-      pub tag_found : tag_at sig0 s at ≡ true → tagged (signature_at revision ownership s entries at)
-          ≡ (extent (family_table s entries (at + length sig0)) >>= λ x. ok (record { found = true; extent = x }))
-      unfolding signature_at
-      tag_found e = rw (le-leb 20 revision from, o, e) (go (family_table s entries (at + length sig0)))
-        where
-          go : (x : Out (Table ℕ)) → tagged (x >>= λ t. ok (record { found = true; table = t }))
-              ≡ (extent x >>= λ x. ok (record { found = true; extent = x }))
-          go (ok t) = refl
-          go (refused r) = refl
 
 -- ---- The families are bytes
 module _ (s : List ℕ) where

@@ -4,14 +4,14 @@ use Prim.Native.Nat.{ℕ, ◌+◌, ◌-◌, ◌≤◌, ◌<◌}
 use native.Mathlib.Omega.{arith}
 use native.Mathlib.Nat.{sub-zero}
 use native.Mathlib.Numerals.{add-one}
-use mathlib.Core.List.{List, [], ◌∷◌, ◌++◌, append-nil, append_assoc}
-use lib.ListN.{length, take, drop, set, take-append-drop}
+use mathlib.Core.List.{List, [], ◌∷◌, ◌++◌, map, append-nil, append_assoc}
+use lib.ListN.{length, length-map, take, drop, set, take-append-drop}
 use lib.Seq.{take-suc-set, drop-set-lt, length-take-le}
 use Rattle.local_format.specs.Refusal.{Refusal}
 use Rattle.local_format.specs.Out.{Out, ok, refused, ◌>>=◌}
 use Rattle.local_format.proofs.OutLaws.{never, refused_same, ok_same, bind_ok}
 use Rattle.semcode_records.specs.Records.{Taken, Entry, Table, before, records, ends}
-use Rattle.semcode_records.proofs.RecordsLaws.{none_left_lem, first_refused_lem, first_read, as_many}
+use Rattle.semcode_records.proofs.RecordsLaws.{none_left_lem, first_refused_lem, first_read, as_many, places, places_in, records_places}
 use Rattle.semcode_decode.specs.Layout.{extent, starts_of}
 use Rattle.semcode_decode.specs.Begun.{Lies}
 
@@ -91,3 +91,26 @@ extent_ends read count at e =
     let w = bind_ok (records read count at) _ e in
     let many = as_many read count at w.1 in
     rw (w.1, many.0, many.1, ok_same w.2)
+
+-- ---- By a reader's places
+
+starts_blank : {A : Type 0} (es : List (Entry A))
+    → map {A = Entry (Unit {0})} (λ e. e.start) (map (λ e. record { start = e.start; value = tt {0}; next = e.next }) es)
+    ≡ map (λ e. e.start) es
+starts_blank [] = refl
+starts_blank (e ∷ es) = ap (λ xs. e.start ∷ xs) (starts_blank es)
+
+module _ {A : Type 0} (read : ℕ → Out (Taken A)) (count at : ℕ) where
+  pub extent_places : extent (records (places read) count at) ≡ extent (records read count at)
+  extent_places = rw (records_places read count at) (go (records read count at))
+    where
+      go : (x : Out (Table A)) → extent (x >>= λ t. ok (places_in t)) ≡ extent x
+      go (ok t) = rw length-map
+      go (refused r) = refl
+
+  pub lies_places : (held xs : List ℕ) → Lies (records (places read) count at) held xs → Lies (records read count at) held xs
+  lies_places held xs h = go (records read count at) (rw (records_places read count at) at h)
+    where
+      go : (x : Out (Table A)) → Lies (x >>= λ t. ok (places_in t)) held xs → Lies x held xs
+      go (ok t) h = rw (← starts_blank t.entries) h
+      go (refused r) h = tt

@@ -1,20 +1,23 @@
 // The whole block.
 ghost use Rattle.std.specs.Prelude.{◌≡◌, length};
-ghost use Rattle.local_format.specs.Maps.{refusal_of, refusal_out};
+ghost use Rattle.local_format.specs.Maps.{answer_out};
 ghost use Rattle.semcode_decode.specs.Block.{block_of};
 ghost use Rattle.semcode_decode.specs.Layout.{layout, tables, rooms, Decodes};
 ghost use Rattle.semcode_decode.specs.Begun.{Lays, Begins};
-ghost use Rattle.semcode_decode.specs.Maps.{parse_out};
+ghost use Rattle.semcode_decode.specs.Maps.{layout_is};
 
 use crate::signature::signature_section;
 use crate::table::{
-    Section, Table, debug_section, ownership_section, section_refusal, string_table, table_refusal,
+    MAX_DEBUG_SYMBOLS_PER_FUNCTION, debug_section, ownership_section, string_table, table_of,
 };
-use lent_table::{clear, clear_bytes, clear_from, copy_bytes};
-use local_format::refusal::{Refusal, based, refuse};
+use lent_table::{clear, clear_from, copy_bytes};
+use local_format::refusal::{Refusal, based};
 
-// Counts, tags found and places in the block.
-#[derive(Clone, Copy)]
+// As many symbols as any block has, for who lends no list of them.
+pub const ANY_SYMBOLS: usize = MAX_DEBUG_SYMBOLS_PER_FUNCTION as usize;
+
+// Counts, tags found and places in the block. A flag stands beside each tag's numbers, as in the C interface.
+#[derive(Clone, Copy, Debug, PartialEq, Eq)]
 pub struct StringTableDebugOwnershipParse {
     pub string_count: usize,
     pub string_table_end_offset: usize,
@@ -29,21 +32,6 @@ pub struct StringTableDebugOwnershipParse {
     pub instr_start_offset: usize,
 }
 
-#[derive(Clone, Copy)]
-pub enum Parse {
-    Whole(StringTableDebugOwnershipParse),
-    Refused(Refusal),
-}
-
-pub fn parse_refusal(answer: Parse) -> Refusal
-    ensures { refusal_out result ≡ refusal_of (parse_out answer) }
-{
-    match answer {
-        Parse::Refused(r) => r,
-        Parse::Whole(_) => refuse(0, 0),
-    }
-}
-
 // Families are only counted. The starts stand at the front of the lent tables, and past them what stood there; a refusal leaves anything, and its
 // offset is a place in the block.
 fn read_block(
@@ -53,67 +41,35 @@ fn read_block(
     strings: &mut [u64],
     paths: &mut [u64],
     families: usize,
-) -> Parse
+) -> Result<StringTableDebugOwnershipParse, Refusal>
     ensures { Lays (block_of header_rev (rooms (length strings.old) symbols (length paths.old) families) code.now)
-        strings.old paths.old strings.new paths.new (parse_out result) }
+        strings.old paths.old strings.new paths.new (answer_out layout_is result) }
 {
-    let first = string_table(code, 0, strings);
-    let Table::Whole {
-        start: _,
-        count: string_count,
-        end: string_table_end_offset,
-    } = first
-    else {
-        return Parse::Refused(table_refusal(first));
-    };
-    let second = debug_section(code, string_table_end_offset, symbols);
-    let Section::Whole {
-        found: has_debug_section,
-        start: debug_symbols_start,
-        count: debug_symbol_count,
-        end: debug_end,
-    } = second
-    else {
-        return Parse::Refused(section_refusal(second));
-    };
-    let third = ownership_section(code, debug_end, header_rev, paths);
-    let Section::Whole {
-        found: has_ownership_section,
-        start: _,
-        count: path_count,
-        end: ownership_end,
-    } = third
-    else {
-        return Parse::Refused(section_refusal(third));
-    };
-    let fourth = signature_section(
+    let strings_read = string_table(code, 0, strings)?;
+    let debug = debug_section(code, strings_read.end, symbols)?;
+    let symbols_read = table_of(debug, strings_read.end);
+    let ownership = ownership_section(code, symbols_read.end, header_rev, paths)?;
+    let paths_read = table_of(ownership, symbols_read.end);
+    let signature = signature_section(
         code,
-        ownership_end,
+        paths_read.end,
         header_rev,
-        has_ownership_section,
+        ownership.is_some(),
         families,
-    );
-    let Section::Whole {
-        found: has_signature,
-        start: families_start,
-        count: parameter_count,
-        end: instr_start_offset,
-    } = fourth
-    else {
-        return Parse::Refused(section_refusal(fourth));
-    };
-    Parse::Whole(StringTableDebugOwnershipParse {
-        string_count,
-        string_table_end_offset,
-        has_debug_section,
-        debug_symbol_count,
-        debug_symbols_start,
-        has_ownership_section,
-        path_count,
-        has_signature,
-        parameter_count,
-        families_start,
-        instr_start_offset,
+    )?;
+    let families_read = table_of(signature, paths_read.end);
+    Ok(StringTableDebugOwnershipParse {
+        string_count: strings_read.count,
+        string_table_end_offset: strings_read.end,
+        has_debug_section: debug.is_some(),
+        debug_symbol_count: symbols_read.count,
+        debug_symbols_start: symbols_read.start,
+        has_ownership_section: ownership.is_some(),
+        path_count: paths_read.count,
+        has_signature: signature.is_some(),
+        parameter_count: families_read.count,
+        families_start: families_read.start,
+        instr_start_offset: families_read.end,
     })
 }
 
@@ -125,20 +81,20 @@ pub fn parse_tables(
     strings: &mut [u64],
     paths: &mut [u64],
     families: usize,
-) -> Parse
+) -> Result<StringTableDebugOwnershipParse, Refusal>
     ensures { Begins (block_of header_rev (rooms (length strings.old) symbols (length paths.old) families) code.now)
-        strings.old paths.old strings.new paths.new (parse_out result) }
+        strings.old paths.old strings.new paths.new (answer_out layout_is result) }
 {
     let answer = read_block(code, header_rev, symbols, strings, paths, families);
-    let Parse::Whole(parsed) = answer else {
+    if answer.is_err() {
         clear(strings);
         clear(paths);
-        return Parse::Refused(parse_refusal(answer));
-    };
-    Parse::Whole(parsed)
+    }
+    answer
 }
 
 // A block at a base, with a lent list of so many symbols: string starts and path starts go to two lent tables, the families to a table of bytes.
+// The tables stand apart, as C lends them.
 pub fn parse_block(
     base_offset: usize,
     code: &[u8],
@@ -147,25 +103,28 @@ pub fn parse_block(
     strings: &mut [u64],
     paths: &mut [u64],
     families: &mut [u8],
-) -> Parse
+) -> Result<StringTableDebugOwnershipParse, Refusal>
     ensures { Decodes layout base_offset header_rev symbols code.now
         (tables strings.old paths.old families.old)
-        (tables strings.new paths.new families.new) (parse_out result) }
+        (tables strings.new paths.new families.new) (answer_out layout_is result) }
 {
-    let answer = read_block(code, header_rev, symbols, strings, paths, families.len());
-    let Parse::Whole(parsed) = answer else {
-        clear(strings);
-        clear(paths);
-        clear_bytes(families);
-        return Parse::Refused(based(parse_refusal(answer), base_offset));
-    };
-    clear_from(strings, parsed.string_count);
-    clear_from(paths, parsed.path_count);
-    copy_bytes(
-        families,
-        code,
-        parsed.families_start,
-        parsed.parameter_count,
-    );
-    Parse::Whole(parsed)
+    match read_block(code, header_rev, symbols, strings, paths, families.len()) {
+        Ok(parsed) => {
+            clear_from(strings, parsed.string_count);
+            clear_from(paths, parsed.path_count);
+            copy_bytes(
+                families,
+                code,
+                parsed.families_start,
+                parsed.parameter_count,
+            );
+            Ok(parsed)
+        }
+        Err(refused) => {
+            clear(strings);
+            clear(paths);
+            clear(families);
+            Err(based(refused, base_offset))
+        }
+    }
 }

@@ -1,79 +1,37 @@
 // The loop over a file's functions.
 ghost use Rattle.std.specs.Prelude.{◌≡◌, length};
-ghost use Rattle.local_format.specs.Maps.{refusal_of, refusal_out};
+ghost use Rattle.local_format.specs.Maps.{answer_out};
 ghost use Rattle.semcode_decode.specs.Layout.{rooms};
 ghost use Rattle.semcode_functions.specs.Function.{function_at, decode_functions};
 ghost use Rattle.semcode_functions.specs.File.{file, file_tables, DecodesFile};
-ghost use Rattle.semcode_decode.specs.Maps.{layout_is};
-ghost use Rattle.semcode_functions.specs.Maps.{last_is, file_is, functions_out, next_out};
-ghost use Rattle.semcode_functions.specs.Turn.{BeginsFunction, BeginsFile, last_code, last_layout, zeros, left_of};
+ghost use Rattle.semcode_functions.specs.Maps.{file_is, next_is};
+ghost use Rattle.semcode_functions.specs.Turn.{BeginsFunction, BeginsFile, zeros, left_of};
 
-use crate::head::{Function, function_refusal, read_function};
-use lent_table::{clear, clear_bytes, clear_from, copy_bytes};
+use crate::head::read_function;
+use lent_table::{clear, clear_from, copy_bytes};
+use local_format::field::Field;
 use local_format::part::tail;
 use local_format::refusal::{Refusal, based, refuse};
-use semcode_decode::decode::{Parse, StringTableDebugOwnershipParse, parse_refusal, parse_tables};
+use semcode_decode::decode::{StringTableDebugOwnershipParse, parse_tables};
 
 pub const MAX_FUNCTIONS: usize = 1024;
 
-// The last function's block: where it starts in the file, and its counts, tags and places.
-#[derive(Clone, Copy)]
-pub enum Last {
-    Nothing,
-    Block {
-        code: usize,
-        parsed: StringTableDebugOwnershipParse,
-    },
+// A function's block: where it starts in the file, and its counts, tags and places.
+#[derive(Clone, Copy, Debug, PartialEq, Eq)]
+pub struct FunctionBlock {
+    pub code: usize,
+    pub parsed: StringTableDebugOwnershipParse,
 }
 
 // How many functions there are, the cursor after them, and the last one's block.
-#[derive(Clone, Copy)]
+#[derive(Clone, Copy, Debug, PartialEq, Eq)]
 pub struct File {
     pub functions: usize,
     pub cursor: usize,
-    pub last: Last,
-}
-
-#[derive(Clone, Copy)]
-pub enum Functions {
-    Whole(File),
-    Refused(Refusal),
-}
-
-pub fn functions_refusal(answer: Functions) -> Refusal
-    ensures { refusal_out result ≡ refusal_of (functions_out answer) }
-{
-    match answer {
-        Functions::Refused(r) => r,
-        Functions::Whole(_) => refuse(0, 0),
-    }
+    pub last: Option<FunctionBlock>,
 }
 
 // ---- One function
-
-// Where the block starts, its counts, tags and places, and the place after it.
-#[derive(Drop)]
-enum Next {
-    Whole {
-        code: usize,
-        parsed: StringTableDebugOwnershipParse,
-        next: usize,
-    },
-    Refused(Refusal),
-}
-
-fn next_refusal(answer: Next) -> Refusal
-    ensures { refusal_out result ≡ refusal_of (next_out answer) }
-{
-    match answer {
-        Next::Refused(r) => r,
-        Next::Whole {
-            code: _,
-            parsed: _,
-            next: _,
-        } => refuse(0, 0),
-    }
-}
 
 // The head and the block. The block's starts stand at the front of the tables, and what stands past them is left; a refusal leaves zeros.
 fn next_function(
@@ -84,35 +42,35 @@ fn next_function(
     strings: &mut [u64],
     paths: &mut [u64],
     families: usize,
-) -> Next
+) -> Result<Field<FunctionBlock>, Refusal>
     ensures { BeginsFunction
         (function_at header_rev (rooms (length strings.old) symbols (length paths.old) families) bytes.now at)
-        strings.old paths.old strings.new paths.new (next_out result) }
+        strings.old paths.old strings.new paths.new (answer_out next_is result) }
 {
-    let function = read_function(bytes, at);
-    let Function::Whole { head, next } = function else {
-        clear(strings);
-        clear(paths);
-        return Next::Refused(function_refusal(function));
-    };
-    let code = head.code;
-    let answer = parse_tables(
-        &bytes[code..next],
-        header_rev,
-        symbols,
-        strings,
-        paths,
-        families,
-    );
-    let Parse::Whole(parsed) = answer else {
-        return Next::Refused(based(parse_refusal(answer), code));
-    };
-    Next::Whole { code, parsed, next }
+    match read_function(bytes, at) {
+        Ok(Field { value: head, next }) => {
+            let code = head.code;
+            let part = &bytes[code..next];
+            match parse_tables(part, header_rev, symbols, strings, paths, families) {
+                Ok(parsed) => Ok(Field {
+                    value: FunctionBlock { code, parsed },
+                    next,
+                }),
+                Err(refused) => Err(based(refused, code)),
+            }
+        }
+        Err(refused) => {
+            clear(strings);
+            clear(paths);
+            Err(refused)
+        }
+    }
 }
 
 // ---- All functions
 
-// The starts stand at the front of the tables, and what stands past them is left; a refusal leaves zeros in those of a block.
+// The starts stand at the front of the tables, and what stands past them is left; a refusal leaves zeros in those of a block. The loop goes by where
+// each function ends.
 fn each_function(
     bytes: &[u8],
     cursor: usize,
@@ -122,71 +80,40 @@ fn each_function(
     strings: &mut [u64],
     paths: &mut [u64],
     families: usize,
-) -> Functions
+) -> Result<File, Refusal>
     ensures { BeginsFile cursor
         (decode_functions header_rev (rooms (length strings.old) symbols (length paths.old) families)
         (length functions.old) bytes.now cursor)
-        functions.new strings.old paths.old strings.new paths.new (functions_out result) }
+        functions.new strings.old paths.old strings.new paths.new (answer_out file_is result) }
 {
     let mut at = cursor;
     let mut count: usize = 0;
-    let mut last = Last::Nothing;
+    let mut last = None;
     while at < bytes.len() {
         if MAX_FUNCTIONS <= count {
             clear(strings);
             clear(paths);
-            return Functions::Refused(refuse(65, at));
+            return Err(refuse(65, at));
         }
         if functions.len() <= count {
             clear(strings);
             clear(paths);
-            return Functions::Refused(refuse(61, at));
+            return Err(refuse(61, at));
         }
-        let answer = next_function(bytes, at, header_rev, symbols, strings, paths, families);
-        let Next::Whole { code, parsed, next } = answer else {
-            return Functions::Refused(next_refusal(answer));
-        };
+        let Field {
+            value: placed,
+            next,
+        } = next_function(bytes, at, header_rev, symbols, strings, paths, families)?;
         functions[count] = at as u64;
-        last = Last::Block { code, parsed };
+        last = Some(placed);
         at = next;
         count += 1;
     }
-    Functions::Whole(File {
+    Ok(File {
         functions: count,
         cursor: at,
         last,
     })
-}
-
-// The last block's place and what it holds, or zeros.
-#[derive(Drop)]
-struct LastBlock {
-    code: usize,
-    parsed: StringTableDebugOwnershipParse,
-}
-
-fn last_block(last: Last) -> LastBlock
-    ensures { (result.code ≡ last_code (last_is last)) × (layout_is result.parsed ≡ last_layout (last_is last)) }
-{
-    match last {
-        Last::Block { code, parsed } => LastBlock { code, parsed },
-        Last::Nothing => LastBlock {
-            code: 0,
-            parsed: StringTableDebugOwnershipParse {
-                string_count: 0,
-                string_table_end_offset: 0,
-                has_debug_section: false,
-                debug_symbol_count: 0,
-                debug_symbols_start: 0,
-                has_ownership_section: false,
-                path_count: 0,
-                has_signature: false,
-                parameter_count: 0,
-                families_start: 0,
-                instr_start_offset: 0,
-            },
-        },
-    }
 }
 
 // Zeros in all four tables.
@@ -197,7 +124,7 @@ pub fn clear_all(functions: &mut [u64], strings: &mut [u64], paths: &mut [u64], 
     clear(functions);
     clear(strings);
     clear(paths);
-    clear_bytes(families);
+    clear(families);
 }
 
 // Zeros past the starts, and the last function's families.
@@ -213,18 +140,24 @@ fn leave(
         left_of (file_is found) bytes.now
         (file_tables functions.old strings.old paths.old families.old) }
 {
-    let read = found.last;
-    let last = last_block(read);
-    let parsed = last.parsed;
     clear_from(functions, found.functions);
-    clear_from(strings, parsed.string_count);
-    clear_from(paths, parsed.path_count);
-    copy_bytes(
-        families,
-        tail(bytes, last.code),
-        parsed.families_start,
-        parsed.parameter_count,
-    );
+    match found.last {
+        Some(FunctionBlock { code, parsed }) => {
+            clear_from(strings, parsed.string_count);
+            clear_from(paths, parsed.path_count);
+            copy_bytes(
+                families,
+                tail(bytes, code),
+                parsed.families_start,
+                parsed.parameter_count,
+            );
+        }
+        None => {
+            clear(strings);
+            clear(paths);
+            clear(families);
+        }
+    }
 }
 
 // The functions from a cursor to the end, with a lent list of so many symbols: their starts go to a lent table, the last one's
@@ -238,26 +171,23 @@ pub fn read_functions(
     strings: &mut [u64],
     paths: &mut [u64],
     families: &mut [u8],
-) -> Functions
+) -> Result<File, Refusal>
     ensures { DecodesFile (file cursor) cursor header_rev symbols bytes.now
         (file_tables functions.old strings.old paths.old families.old)
-        (file_tables functions.new strings.new paths.new families.new) (functions_out result) }
+        (file_tables functions.new strings.new paths.new families.new) (answer_out file_is result) }
 {
-    let answer = each_function(
-        bytes,
-        cursor,
-        header_rev,
-        symbols,
-        functions,
-        strings,
-        paths,
-        families.len(),
-    );
-    let Functions::Whole(found) = answer else {
-        clear(functions);
-        clear_bytes(families);
-        return Functions::Refused(functions_refusal(answer));
-    };
-    leave(found, bytes, functions, strings, paths, families);
-    Functions::Whole(found)
+    let room = families.len();
+    match each_function(
+        bytes, cursor, header_rev, symbols, functions, strings, paths, room,
+    ) {
+        Ok(found) => {
+            leave(found, bytes, functions, strings, paths, families);
+            Ok(found)
+        }
+        Err(refused) => {
+            clear(functions);
+            clear(families);
+            Err(refused)
+        }
+    }
 }

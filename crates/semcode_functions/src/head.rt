@@ -1,106 +1,58 @@
 // A function's head: its name, and where its block starts and how long it is.
 ghost use Rattle.std.specs.Prelude.{◌≡◌};
-ghost use Rattle.local_format.specs.Maps.{text_out, refusal_of, refusal_out};
+ghost use Rattle.local_format.specs.Maps.{answer_out, span_out};
+ghost use Rattle.semcode_records.specs.Maps.{taken_out};
 ghost use Rattle.semcode_functions.specs.Function.{name_at, head_at};
-ghost use Rattle.semcode_functions.specs.Maps.{function_out};
+ghost use Rattle.semcode_functions.specs.Maps.{head_is};
 
-use local_format::field::{U16, U32, read_u16_le, read_u32_le};
-use local_format::refusal::{Refusal, refuse};
-use local_format::text::{Text, text_refusal};
-use utf8::Utf8;
+use local_format::field::{Field, field_at};
+use local_format::refusal::{Refusal, check, refuse};
+use local_format::text::Span;
 
 pub const MAX_FUNCTION_NAME_BYTES: usize = 1024;
 
 // Places in the file.
-#[derive(Drop)]
+#[derive(Clone, Copy, Debug, PartialEq, Eq)]
 pub struct Head {
-    pub name_start: usize,
-    pub name_len: usize,
-    pub name_chars: usize,
-    pub name_end: usize,
+    pub name: Span,
     pub code: usize,
     pub size: usize,
 }
 
-// The head, and the place after the block.
-#[derive(Drop)]
-pub enum Function {
-    Whole { head: Head, next: usize },
-    Refused(Refusal),
-}
-
-pub fn function_refusal(answer: Function) -> Refusal
-    ensures { refusal_out result ≡ refusal_of (function_out answer) }
-{
-    match answer {
-        Function::Refused(r) => r,
-        Function::Whole { head: _, next: _ } => refuse(0, 0),
-    }
-}
-
 // 1 to 1,024 bytes of UTF-8; control characters pass.
-fn read_name(bytes: &[u8], at: usize) -> Text
-    ensures { text_out result ≡ name_at bytes.now at }
+#[tactic(auto, unfolding(crate::specs::Function::name_at))]
+fn read_name(bytes: &[u8], at: usize) -> Result<Span, Refusal>
+    ensures { answer_out span_out result ≡ name_at bytes.now at }
 {
-    let size = read_u16_le(bytes, at);
-    let U16::Value { value, next: start } = size else {
-        return Text::Refused(refuse(63, at));
+    let Some(Field { value, next: start }) = field_at::<u16>(bytes, at) else {
+        return Err(refuse(63, at));
     };
     let len = value as usize;
-    if len < 1 {
-        return Text::Refused(refuse(64, start));
-    }
-    if MAX_FUNCTION_NAME_BYTES < len {
-        return Text::Refused(refuse(64, start));
-    }
-    let body = utf8::read_utf8(bytes, start, len);
-    match body {
-        Utf8::Text {
-            chars,
-            control: _,
-            next,
-        } => Text::Whole {
+    check((1 <= len) & (len <= MAX_FUNCTION_NAME_BYTES), 64, start)?;
+    match utf8::read_utf8(bytes, start, len) {
+        Ok(text) => Ok(Span {
             start,
             len,
-            chars,
-            next,
-        },
-        Utf8::NotUtf8 { next: _ } => Text::Refused(refuse(64, start)),
-        Utf8::Cut => Text::Refused(refuse(64, start)),
+            chars: text.chars,
+            next: text.next,
+        }),
+        Err(_) => Err(refuse(64, start)),
     }
 }
 
-// The head of a function at its start.
-pub fn read_function(bytes: &[u8], at: usize) -> Function
-    ensures { function_out result ≡ head_at bytes.now at }
+// The head of a function at its start, and the place after its block.
+#[tactic(auto, unfolding(crate::specs::Function::head_at))]
+pub fn read_function(bytes: &[u8], at: usize) -> Result<Field<Head>, Refusal>
+    ensures { answer_out (taken_out head_is) result ≡ head_at bytes.now at }
 {
-    let name = read_name(bytes, at);
-    let Text::Whole {
-        start,
-        len,
-        chars,
-        next: name_end,
-    } = name
-    else {
-        return Function::Refused(text_refusal(name));
-    };
-    let field = read_u32_le(bytes, name_end);
-    let U32::Value { value, next: code } = field else {
-        return Function::Refused(refuse(63, name_end));
+    let name = read_name(bytes, at)?;
+    let Some(Field { value, next: code }) = field_at::<u32>(bytes, name.next) else {
+        return Err(refuse(63, name.next));
     };
     let size = value as usize;
-    if bytes.len() - code < size {
-        return Function::Refused(refuse(63, code));
-    }
-    Function::Whole {
-        head: Head {
-            name_start: start,
-            name_len: len,
-            name_chars: chars,
-            name_end,
-            code,
-            size,
-        },
+    check(size <= bytes.len() - code, 63, code)?;
+    Ok(Field {
+        value: Head { name, code, size },
         next: code + size,
-    }
+    })
 }

@@ -4,8 +4,8 @@
 ghost use Rattle.std.specs.Prelude.{◌≡◌};
 ghost use Rattle.local_format.specs.Out.{refuse};
 ghost use Rattle.local_format.specs.Refusal.{refusal};
-ghost use Rattle.local_format.specs.Maps.{refusal_out, text_out};
-ghost use Rattle.semcode_records.specs.Maps.{symbol_out, component_out, path_out};
+ghost use Rattle.local_format.specs.Maps.{answer_out, refusal_out, span_out};
+ghost use Rattle.semcode_records.specs.Maps.{taken_out, symbol_is, component_is, head_is};
 ghost use Rattle.semcode_decode.specs.Layout.{tables, Leaves};
 ghost use Rattle.semcode_decode.specs.Number.{
   Reads,
@@ -19,18 +19,14 @@ ghost use Rattle.semcode_decode.specs.Number.{
 };
 ghost use Rattle.semcode_read.specs.After.{component_after};
 
-use lent_table::{clear, clear_bytes};
+use lent_table::clear;
+use local_format::field::Field;
 use local_format::refusal::{Refusal, refuse};
-use local_format::text::{Text, read_string};
-use semcode_decode::decode::{Parse, parse_block, parse_refusal};
-use semcode_records::component::{
-    Component, Components, components_refusal, read_component, skip_components,
-};
-use semcode_records::path::{Path, event_kind, path_refusal, read_path};
-use semcode_records::symbol::{Symbol, read_debug_symbol};
-
-// As many symbols as any block has: no list is lent for them.
-const SYMBOLS: usize = 8192;
+use local_format::text::{Span, string_at};
+use semcode_decode::decode::{ANY_SYMBOLS, parse_block};
+use semcode_records::component::{DecodedAccessPathComponent, read_component, skip_components};
+use semcode_records::path::{DecodedAccessPath, event_kind, read_path};
+use semcode_records::symbol::{DecodedDebugSymbol, read_debug_symbol};
 
 // A number that is not in the table: zeros in the lent tables.
 fn not_there(strings: &mut [u64], paths: &mut [u64], families: &mut [u8]) -> Refusal
@@ -40,10 +36,11 @@ fn not_there(strings: &mut [u64], paths: &mut [u64], families: &mut [u8]) -> Ref
 {
     clear(strings);
     clear(paths);
-    clear_bytes(families);
+    clear(families);
     refuse(62, 0)
 }
 
+// The four functions stay apart: they share two calls, and each has a count, a place and a reader of its own.
 pub fn string_number(
     base_offset: usize,
     code: &[u8],
@@ -52,27 +49,24 @@ pub fn string_number(
     strings: &mut [u64],
     paths: &mut [u64],
     families: &mut [u8],
-) -> Text
+) -> Result<Span, Refusal>
     ensures { Reads text_in (string_number number) base_offset header_rev code.now
         (tables strings.old paths.old families.old)
-        (tables strings.new paths.new families.new) (text_out result) }
+        (tables strings.new paths.new families.new) (answer_out span_out result) }
 {
-    let answer = parse_block(
+    let parsed = parse_block(
         base_offset,
         code,
         header_rev,
-        SYMBOLS,
+        ANY_SYMBOLS,
         strings,
         paths,
         families,
-    );
-    let Parse::Whole(parsed) = answer else {
-        return Text::Refused(parse_refusal(answer));
-    };
+    )?;
     if number < parsed.string_count {
-        return read_string(code, strings[number] as usize);
+        return string_at(code, strings[number] as usize);
     }
-    Text::Refused(not_there(strings, paths, families))
+    Err(not_there(strings, paths, families))
 }
 
 pub fn symbol_number(
@@ -83,27 +77,24 @@ pub fn symbol_number(
     strings: &mut [u64],
     paths: &mut [u64],
     families: &mut [u8],
-) -> Symbol
+) -> Result<Field<DecodedDebugSymbol>, Refusal>
     ensures { Reads taken_in (symbol_number number) base_offset header_rev code.now
         (tables strings.old paths.old families.old)
-        (tables strings.new paths.new families.new) (symbol_out result) }
+        (tables strings.new paths.new families.new) (answer_out (taken_out symbol_is) result) }
 {
-    let answer = parse_block(
+    let parsed = parse_block(
         base_offset,
         code,
         header_rev,
-        SYMBOLS,
+        ANY_SYMBOLS,
         strings,
         paths,
         families,
-    );
-    let Parse::Whole(parsed) = answer else {
-        return Symbol::Refused(parse_refusal(answer));
-    };
+    )?;
     if number < parsed.debug_symbol_count {
         return read_debug_symbol(code, parsed.debug_symbols_start + 10 * number);
     }
-    Symbol::Refused(not_there(strings, paths, families))
+    Err(not_there(strings, paths, families))
 }
 
 pub fn path_number(
@@ -114,39 +105,39 @@ pub fn path_number(
     strings: &mut [u64],
     paths: &mut [u64],
     families: &mut [u8],
-) -> Path
+) -> Result<Field<DecodedAccessPath>, Refusal>
     ensures { Reads head_in (path_number number) base_offset header_rev code.now
         (tables strings.old paths.old families.old)
-        (tables strings.new paths.new families.new) (path_out result) }
+        (tables strings.new paths.new families.new) (answer_out (taken_out head_is) result) }
 {
-    let answer = parse_block(
+    let parsed = parse_block(
         base_offset,
         code,
         header_rev,
-        SYMBOLS,
+        ANY_SYMBOLS,
         strings,
         paths,
         families,
-    );
-    let Parse::Whole(parsed) = answer else {
-        return Path::Refused(parse_refusal(answer));
-    };
+    )?;
     if number < parsed.path_count {
         return read_path(code, paths[number] as usize, header_rev);
     }
-    Path::Refused(not_there(strings, paths, families))
+    Err(not_there(strings, paths, families))
 }
 
 // The component after so many others.
-fn component_after(bytes: &[u8], at: usize, skipped: u16, header_rev: u16, kind: u8) -> Component
-    ensures { component_out result ≡
+fn component_after(
+    bytes: &[u8],
+    at: usize,
+    skipped: u16,
+    header_rev: u16,
+    kind: u8,
+) -> Result<Field<DecodedAccessPathComponent>, Refusal>
+    ensures { answer_out (taken_out component_is) result ≡
         component_after header_rev kind bytes.now skipped at }
 {
-    let components = skip_components(bytes, at, skipped, header_rev, kind);
-    let Components::Whole { end } = components else {
-        return Component::Refused(components_refusal(components));
-    };
-    read_component(bytes, end, header_rev, kind)
+    let place = skip_components(bytes, at, skipped, header_rev, kind)?;
+    read_component(bytes, place, header_rev, kind)
 }
 
 // Component `component` of path `number`.
@@ -159,12 +150,12 @@ pub fn component_number(
     strings: &mut [u64],
     paths: &mut [u64],
     families: &mut [u8],
-) -> Component
+) -> Result<Field<DecodedAccessPathComponent>, Refusal>
     ensures { Reads taken_in (component_number number component) base_offset header_rev code.now
         (tables strings.old paths.old families.old)
-        (tables strings.new paths.new families.new) (component_out result) }
+        (tables strings.new paths.new families.new) (answer_out (taken_out component_is) result) }
 {
-    let answer = path_number(
+    let found = path_number(
         base_offset,
         code,
         header_rev,
@@ -172,19 +163,12 @@ pub fn component_number(
         strings,
         paths,
         families,
-    );
-    let Path::Whole { path, next: _ } = answer else {
-        return Component::Refused(path_refusal(answer));
-    };
+    )?;
+    let path = found.value;
     if component < path.component_count as usize {
-        let event = path.event;
-        return component_after(
-            code,
-            path.components_start,
-            component as u16,
-            header_rev,
-            event_kind(event),
-        );
+        let kind = event_kind(path.event);
+        let start = path.components_start;
+        return component_after(code, start, component as u16, header_rev, kind);
     }
-    Component::Refused(not_there(strings, paths, families))
+    Err(not_there(strings, paths, families))
 }

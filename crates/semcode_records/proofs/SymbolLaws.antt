@@ -27,7 +27,8 @@ module _ (s : List ℕ) where
       let n : at + 4 + 4 + 2 ≡ at + 10 = omega arith in
       rw (field_there 37 4 s at p, field_there 38 4 s (at + 4) q, field_there 39 2 s (at + 4 + 4) r, n)
 
-  symbol_within : (at : ℕ) {t : Taken Symbol} → symbol_at s at ≡ ok t → at + 10 ≤ length s
+  -- one that is read is whole
+  pub symbol_within : (at : ℕ) {t : Taken Symbol} → symbol_at s at ≡ ok t → at + 10 ≤ length s
   unfolding symbol_at
   symbol_within at e =
       let p = bind_ok (field 37 4 s at) _ e in

@@ -1,20 +1,16 @@
 -- From the code's structs and enums to the definitions' types.
-use Rattle.std.specs.Prelude.{ℕ}
-use Rattle.local_format.specs.Out.{Out, ok, refused}
-use Rattle.local_format.specs.Maps.{refusal_out}
-use Rattle.semcode_records.specs.Records.{Taken, taken}
+use Rattle.std.specs.Prelude.{◌≡◌, ℕ, ◌<◌, ◌^◌, Option, Some, None, Result}
+use Rattle.local_format.specs.Out.{Out}
+use Rattle.local_format.specs.Maps.{answer_out}
+use Rattle.local_format.specs.declared.field.Field.{Field}
+use Rattle.local_format.specs.declared.refusal.Refusal.{Refusal}
+use Rattle.semcode_records.specs.Records.{Taken, next_of}
 use Rattle.semcode_records.specs.Symbol as of_symbol
 use Rattle.semcode_records.specs.Component as of_component
 use Rattle.semcode_records.specs.Path as of_path
 use Rattle.semcode_records.specs.declared.symbol.DecodedDebugSymbol.{DecodedDebugSymbol}
-use Rattle.semcode_records.specs.declared.symbol.Symbol.{Symbol}
-use Rattle.semcode_records.specs.declared.symbol.Symbol.TheVariants as symbol
 use Rattle.semcode_records.specs.declared.component.DecodedAccessPathComponent.{DecodedAccessPathComponent}
 use Rattle.semcode_records.specs.declared.component.DecodedAccessPathComponent.TheVariants.{TupleIndex, FieldSymbol, AdtPayload, SequenceIndexStatic}
-use Rattle.semcode_records.specs.declared.component.Component.{Component}
-use Rattle.semcode_records.specs.declared.component.Component.TheVariants as component
-use Rattle.semcode_records.specs.declared.component.Components.{Components}
-use Rattle.semcode_records.specs.declared.component.Components.TheVariants as components
 use Rattle.semcode_records.specs.declared.path.DecodedBorrowActivation.{DecodedBorrowActivation}
 use Rattle.semcode_records.specs.declared.path.DecodedBorrowActivation.TheVariants as activates
 use Rattle.semcode_records.specs.declared.path.DecodedWriteExecution.{DecodedWriteExecution}
@@ -22,14 +18,7 @@ use Rattle.semcode_records.specs.declared.path.DecodedWriteExecution.TheVariants
 use Rattle.semcode_records.specs.declared.path.DecodedEvent.{DecodedEvent}
 use Rattle.semcode_records.specs.declared.path.DecodedEvent.TheVariants.{Borrow, Write}
 use Rattle.semcode_records.specs.declared.path.DecodedAccessPath.{DecodedAccessPath}
-use Rattle.semcode_records.specs.declared.path.Kinded.{Kinded}
-use Rattle.semcode_records.specs.declared.path.Kinded.TheVariants.{Known, Unknown}
-use Rattle.semcode_records.specs.declared.path.Event.{Event}
-use Rattle.semcode_records.specs.declared.path.Event.TheVariants as event
 use Rattle.semcode_records.specs.declared.path.Front.{Front}
-use Rattle.semcode_records.specs.declared.path.Front.TheVariants as front
-use Rattle.semcode_records.specs.declared.path.Path.{Path}
-use Rattle.semcode_records.specs.declared.path.Path.TheVariants as path
 
 -- ---- Values
 
@@ -56,37 +45,24 @@ abbrev pub event_is : DecodedEvent → of_path.Event
 event_is (Borrow a) = of_path.borrow (activation_is a)
 event_is (Write e) = of_path.write (execution_is e)
 
-abbrev pub kinded_is : Kinded → of_path.Kinded
-kinded_is (Known e) = of_path.known (event_is e)
-kinded_is Unknown = of_path.unknown
+-- a path's event where its kind is known
+abbrev pub kinded_is : Option DecodedEvent → of_path.Kinded
+kinded_is (Some e) = of_path.known (event_is e)
+kinded_is None = of_path.unknown
+
+abbrev pub front_is : Front → of_path.Front
+front_is f =
+    record { kind = f.kind; kinded = kinded_is f.event; root = f.root_symbol_id; count = f.component_count; start = f.components_start }
 
 abbrev pub head_is : DecodedAccessPath → of_path.Head
 head_is p =
     record { event = event_is p.event; root = p.root_symbol_id; count = p.component_count; start = p.components_start }
 
--- ---- Answers
+-- ---- What was read, and the place after it
 
-abbrev pub symbol_out : Symbol → Out (Taken of_symbol.Symbol)
-symbol_out (symbol.Whole d n) = taken (symbol_is d) n
-symbol_out (symbol.Refused r) = refused (refusal_out r)
+abbrev pub taken_out : {T A : Type 0} → (T → A) → Field T → Taken A
+taken_out value f = record { value = value f.value; next = f.next }
 
-abbrev pub component_out : Component → Out (Taken of_component.Component)
-component_out (component.Whole c n) = taken (component_is c) n
-component_out (component.Refused r) = refused (refusal_out r)
-
-abbrev pub components_out : Components → Out ℕ
-components_out (components.Whole end) = ok end
-components_out (components.Refused r) = refused (refusal_out r)
-
-abbrev pub event_out : Event → Out (Taken of_path.Kinded)
-event_out (event.Whole k n) = taken (kinded_is k) n
-event_out (event.Refused r) = refused (refusal_out r)
-
-abbrev pub front_out : Front → Out of_path.Front
-front_out (front.Whole kind kinded root count start) =
-    ok (record { kind = kind; kinded = kinded_is kinded; root = root; count = count; start = start })
-front_out (front.Refused r) = refused (refusal_out r)
-
-abbrev pub path_out : Path → Out (Taken of_path.Head)
-path_out (path.Whole p n) = taken (head_is p) n
-path_out (path.Refused r) = refused (refusal_out r)
+-- these are the answers of a closure that tells where each record ends, of those that this reader reads
+abbrev pub Tells : {A : Type 0} → (ℕ → Out (Taken A)) → (ℕ → Result ℕ Refusal → Type 0) → Type 0
+Tells read answers = (place : ℕ) (r : Result ℕ Refusal) → place < 2 ^ 64 → answers place r → answer_out (λ end. end) r ≡ next_of (read place)

@@ -1,13 +1,14 @@
 // One component of a path.
 ghost use Rattle.std.specs.Prelude.{◌≡◌, ◌<◌};
-ghost use Rattle.local_format.specs.Maps.{refusal_of, refusal_out};
-ghost use Rattle.semcode_records.specs.Maps.{component_out, components_out};
-ghost use Rattle.semcode_records.specs.Records.{records, ends};
+ghost use Rattle.local_format.specs.Maps.{answer_out};
+ghost use Rattle.semcode_records.specs.Maps.{taken_out, component_is};
+ghost use Rattle.semcode_records.specs.Records.{records, ends, next_of};
 ghost use Rattle.semcode_records.specs.Component.{tuple_index_at, field_symbol_at, variant_at, sequence_index_at, component_of, component_at};
 ghost use Rattle.semcode_records.specs.Sizes.{sizes, size_in};
 
-use local_format::field::{U8, U16, U32, read_u8, read_u16_le, read_u32_le};
-use local_format::refusal::{Refusal, refuse};
+use crate::records::records_end;
+use local_format::field::{Field, field_at};
+use local_format::refusal::{Refusal, check, refuse};
 
 pub const OWNERSHIP_EVENT_KIND_BORROW: u8 = 0;
 
@@ -25,7 +26,7 @@ pub const SEMCODE_SEQUENCE_OWNERSHIP_MIN_REVISION: u16 = 22;
 
 pub const SEMCODE_ADT_BORROW_OWNERSHIP_MIN_REVISION: u16 = 22;
 
-#[derive(Drop)]
+#[derive(Clone, Copy, Debug, PartialEq, Eq)]
 pub enum DecodedAccessPathComponent {
     TupleIndex(u16),
     FieldSymbol(u32),
@@ -33,155 +34,135 @@ pub enum DecodedAccessPathComponent {
     SequenceIndexStatic(u32),
 }
 
-#[derive(Drop)]
-pub enum Component {
-    Whole {
-        component: DecodedAccessPathComponent,
-        next: usize,
-    },
-    Refused(Refusal),
-}
-
-pub fn component_refusal(answer: Component) -> Refusal
-    ensures { refusal_out result ≡ refusal_of (component_out answer) }
+// Each reader takes its number apart by itself, as the project asks of record readers.
+#[tactic(auto, unfolding(crate::specs::Component::tuple_index_at))]
+fn read_tuple_index(bytes: &[u8], at: usize) -> Result<Field<DecodedAccessPathComponent>, Refusal>
+    ensures { answer_out (taken_out component_is) result ≡ tuple_index_at bytes.now at }
 {
-    match answer {
-        Component::Refused(r) => r,
-        Component::Whole {
-            component: _,
-            next: _,
-        } => refuse(0, 0),
-    }
-}
-
-fn read_tuple_index(bytes: &[u8], at: usize) -> Component
-    ensures { component_out result ≡ tuple_index_at bytes.now at }
-{
-    let field = read_u16_le(bytes, at);
-    let U16::Value { value: index, next } = field else {
-        return Component::Refused(refuse(51, at));
+    let Some(Field { value: index, next }) = field_at::<u16>(bytes, at) else {
+        return Err(refuse(51, at));
     };
-    Component::Whole {
-        component: DecodedAccessPathComponent::TupleIndex(index),
+    Ok(Field {
+        value: DecodedAccessPathComponent::TupleIndex(index),
         next,
-    }
+    })
 }
 
-fn read_field_symbol(bytes: &[u8], at: usize) -> Component
-    ensures { component_out result ≡ field_symbol_at bytes.now at }
+#[tactic(auto, unfolding(crate::specs::Component::field_symbol_at))]
+fn read_field_symbol(bytes: &[u8], at: usize) -> Result<Field<DecodedAccessPathComponent>, Refusal>
+    ensures { answer_out (taken_out component_is) result ≡ field_symbol_at bytes.now at }
 {
-    let field = read_u32_le(bytes, at);
-    let U32::Value {
-        value: symbol,
-        next,
-    } = field
+    let Some(
+        Field {
+            value: symbol,
+            next,
+        },
+    ) = field_at::<u32>(bytes, at)
     else {
-        return Component::Refused(refuse(52, at));
+        return Err(refuse(52, at));
     };
-    Component::Whole {
-        component: DecodedAccessPathComponent::FieldSymbol(symbol),
+    Ok(Field {
+        value: DecodedAccessPathComponent::FieldSymbol(symbol),
         next,
-    }
+    })
 }
 
 // `kind` is the path's event kind.
 #[tactic(auto, unfolding(crate::specs::Component::variant_at))]
-fn read_adt_payload(bytes: &[u8], at: usize, header_rev: u16, kind: u8) -> Component
-    ensures { component_out result ≡ variant_at header_rev kind bytes.now at }
+fn read_adt_payload(
+    bytes: &[u8],
+    at: usize,
+    header_rev: u16,
+    kind: u8,
+) -> Result<Field<DecodedAccessPathComponent>, Refusal>
+    ensures { answer_out (taken_out component_is) result ≡ variant_at header_rev kind bytes.now at }
 {
-    if kind == OWNERSHIP_EVENT_KIND_WRITE {
-        return Component::Refused(refuse(53, at));
-    }
-    if header_rev < SEMCODE_ADT_BORROW_OWNERSHIP_MIN_REVISION {
-        return Component::Refused(refuse(54, at));
-    }
-    let first = read_u32_le(bytes, at);
-    let U32::Value {
-        value: variant,
-        next: index_at,
-    } = first
+    check(kind != OWNERSHIP_EVENT_KIND_WRITE, 53, at)?;
+    check(
+        SEMCODE_ADT_BORROW_OWNERSHIP_MIN_REVISION <= header_rev,
+        54,
+        at,
+    )?;
+    let Some(
+        Field {
+            value: variant,
+            next: index_at,
+        },
+    ) = field_at::<u32>(bytes, at)
     else {
-        return Component::Refused(refuse(55, at));
+        return Err(refuse(55, at));
     };
-    let second = read_u16_le(bytes, index_at);
-    let U16::Value { value: index, next } = second else {
-        return Component::Refused(refuse(56, index_at));
+    let Some(Field { value: index, next }) = field_at::<u16>(bytes, index_at) else {
+        return Err(refuse(56, index_at));
     };
-    Component::Whole {
-        component: DecodedAccessPathComponent::AdtPayload { variant, index },
+    Ok(Field {
+        value: DecodedAccessPathComponent::AdtPayload { variant, index },
         next,
-    }
+    })
 }
 
-fn read_sequence_index(bytes: &[u8], at: usize, header_rev: u16) -> Component
-    ensures { component_out result ≡ sequence_index_at header_rev bytes.now at }
+#[tactic(auto, unfolding(crate::specs::Component::sequence_index_at))]
+fn read_sequence_index(
+    bytes: &[u8],
+    at: usize,
+    header_rev: u16,
+) -> Result<Field<DecodedAccessPathComponent>, Refusal>
+    ensures { answer_out (taken_out component_is) result ≡ sequence_index_at header_rev bytes.now at }
 {
-    if header_rev < SEMCODE_SEQUENCE_OWNERSHIP_MIN_REVISION {
-        return Component::Refused(refuse(57, at));
-    }
-    let field = read_u32_le(bytes, at);
-    let U32::Value { value: index, next } = field else {
-        return Component::Refused(refuse(58, at));
+    check(
+        SEMCODE_SEQUENCE_OWNERSHIP_MIN_REVISION <= header_rev,
+        57,
+        at,
+    )?;
+    let Some(Field { value: index, next }) = field_at::<u32>(bytes, at) else {
+        return Err(refuse(58, at));
     };
-    Component::Whole {
-        component: DecodedAccessPathComponent::SequenceIndexStatic(index),
+    Ok(Field {
+        value: DecodedAccessPathComponent::SequenceIndexStatic(index),
         next,
-    }
+    })
 }
 
 // What follows the component kind.
+#[tactic(auto, unfolding(crate::specs::Component::component_of))]
 fn after_component_kind(
     component_kind: u8,
     bytes: &[u8],
     at: usize,
     header_rev: u16,
     kind: u8,
-) -> Component
-    ensures { component_out result ≡ component_of component_kind header_rev kind bytes.now at }
+) -> Result<Field<DecodedAccessPathComponent>, Refusal>
+    ensures { answer_out (taken_out component_is) result ≡ component_of component_kind header_rev kind bytes.now at }
 {
-    if component_kind == OWNERSHIP_PATH_COMPONENT_TUPLE_INDEX {
-        return read_tuple_index(bytes, at);
+    match component_kind {
+        OWNERSHIP_PATH_COMPONENT_TUPLE_INDEX => read_tuple_index(bytes, at),
+        OWNERSHIP_PATH_COMPONENT_FIELD_SYMBOL => read_field_symbol(bytes, at),
+        OWNERSHIP_PATH_COMPONENT_ADT_PAYLOAD => read_adt_payload(bytes, at, header_rev, kind),
+        OWNERSHIP_PATH_COMPONENT_SEQUENCE_INDEX => read_sequence_index(bytes, at, header_rev),
+        _ => Err(refuse(59, at)),
     }
-    if component_kind == OWNERSHIP_PATH_COMPONENT_FIELD_SYMBOL {
-        return read_field_symbol(bytes, at);
-    }
-    if component_kind == OWNERSHIP_PATH_COMPONENT_ADT_PAYLOAD {
-        return read_adt_payload(bytes, at, header_rev, kind);
-    }
-    if component_kind == OWNERSHIP_PATH_COMPONENT_SEQUENCE_INDEX {
-        return read_sequence_index(bytes, at, header_rev);
-    }
-    Component::Refused(refuse(59, at))
 }
 
 // A component of a path with this event kind.
-pub fn read_component(bytes: &[u8], at: usize, header_rev: u16, kind: u8) -> Component
-    ensures { component_out result ≡ component_at header_rev kind bytes.now at }
+#[tactic(auto, unfolding(crate::specs::Component::component_at))]
+pub fn read_component(
+    bytes: &[u8],
+    at: usize,
+    header_rev: u16,
+    kind: u8,
+) -> Result<Field<DecodedAccessPathComponent>, Refusal>
+    ensures { answer_out (taken_out component_is) result ≡ component_at header_rev kind bytes.now at }
 {
-    let field = read_u8(bytes, at);
-    let U8::Value {
-        value: component_kind,
-        next,
-    } = field
+    let Some(
+        Field {
+            value: component_kind,
+            next,
+        },
+    ) = field_at::<u8>(bytes, at)
     else {
-        return Component::Refused(refuse(50, at));
+        return Err(refuse(50, at));
     };
     after_component_kind(component_kind, bytes, next, header_rev, kind)
-}
-
-#[derive(Drop)]
-pub enum Components {
-    Whole { end: usize },
-    Refused(Refusal),
-}
-
-pub fn components_refusal(answer: Components) -> Refusal
-    ensures { refusal_out result ≡ refusal_of (components_out answer) }
-{
-    match answer {
-        Components::Refused(r) => r,
-        Components::Whole { end: _ } => refuse(0, 0),
-    }
 }
 
 // The place after so many components, by reading each.
@@ -191,26 +172,24 @@ pub fn skip_components(
     component_count: u16,
     header_rev: u16,
     kind: u8,
-) -> Components
-    ensures { components_out result ≡
+) -> Result<usize, Refusal>
+    ensures { answer_out (λ end. end) result ≡
         ends (records (component_at header_rev kind bytes.now) component_count at) }
 {
-    let mut cursor = at;
-    let mut i: u16 = 0;
-    while i < component_count {
-        let answer = read_component(bytes, cursor, header_rev, kind);
-        let Component::Whole { component: _, next } = answer else {
-            return Components::Refused(component_refusal(answer));
-        };
-        cursor = next;
-        i += 1;
-    }
-    Components::Whole { end: cursor }
+    records_end(
+        at,
+        component_count,
+        |place: usize| -> Result<usize, Refusal>
+            ensures { answer_out (λ end. end) result ≡
+                next_of (component_at header_rev kind bytes.entry.now place) }
+        { Ok(read_component(bytes, place, header_rev, kind)?.next) },
+    )
 }
 
 // ---- Components passed by their sizes
 
 // The bytes of a component of each kind that a path with this event kind can have, 8 bits for a kind; 0 where it can't.
+#[tactic(auto, unfolding(crate::specs::Sizes::sizes))]
 pub fn component_sizes(header_rev: u16, kind: u8) -> u64
     ensures { result ≡ sizes header_rev kind }
 {
@@ -223,6 +202,7 @@ pub fn component_sizes(header_rev: u16, kind: u8) -> u64
     0x05000503
 }
 
+#[tactic(auto, unfolding(crate::specs::Sizes::size_in))]
 pub fn component_size(table: u64, component_kind: u8) -> usize
     ensures { (result ≡ size_in table component_kind) × (result < 256) }
 {
@@ -233,7 +213,7 @@ pub fn component_size(table: u64, component_kind: u8) -> usize
 }
 
 // The components that are left, and where they start.
-#[derive(Drop)]
+#[derive(Clone, Copy, Debug, PartialEq, Eq)]
 pub struct Passed {
     pub left: u16,
     pub next: usize,
@@ -252,21 +232,30 @@ pub fn pass_components(
         ≡ ends (records (component_at header_rev kind bytes.now) result.left result.next) }
 {
     let mut cursor = at;
-    let mut left = component_count;
     if bytes.len() < 7 {
-        return Passed { left, next: cursor };
+        return Passed {
+            left: component_count,
+            next: cursor,
+        };
     }
     let last = bytes.len() - 7;
     if last < cursor {
-        return Passed { left, next: cursor };
+        return Passed {
+            left: component_count,
+            next: cursor,
+        };
     }
     let table = component_sizes(header_rev, kind);
     let mut known = bytes[cursor];
     let mut size = component_size(table, known);
     if size == 0 {
-        return Passed { left, next: cursor };
+        return Passed {
+            left: component_count,
+            next: cursor,
+        };
     }
-    while 0 < left {
+    for passed in 0..component_count {
+        let left = component_count - passed;
         if last < cursor {
             return Passed { left, next: cursor };
         }
@@ -279,9 +268,11 @@ pub fn pass_components(
             }
         }
         cursor += size;
-        left -= 1;
     }
-    Passed { left, next: cursor }
+    Passed {
+        left: 0,
+        next: cursor,
+    }
 }
 
 // The place after so many components: most are passed by their sizes.
@@ -291,13 +282,10 @@ pub fn components_end(
     component_count: u16,
     header_rev: u16,
     kind: u8,
-) -> Components
-    ensures { components_out result ≡
+) -> Result<usize, Refusal>
+    ensures { answer_out (λ end. end) result ≡
         ends (records (component_at header_rev kind bytes.now) component_count at) }
 {
     let passed = pass_components(bytes, at, component_count, header_rev, kind);
-    if passed.left == 0 {
-        return Components::Whole { end: passed.next };
-    }
     skip_components(bytes, passed.next, passed.left, header_rev, kind)
 }

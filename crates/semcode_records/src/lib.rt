@@ -3,4 +3,5 @@
 
 pub mod component;
 pub mod path;
+pub mod records;
 pub mod symbol;

@@ -1,18 +1,17 @@
 // One path of an ownership section.
-ghost use Rattle.std.specs.Prelude.{◌≡◌, ◌+◌, ◌≤◌, ◌<◌};
+ghost use Rattle.std.specs.Prelude.{◌≡◌, ◌+◌, ◌≤◌, ℕ};
 ghost use Rattle.local_format.specs.Out.{ok};
-ghost use Rattle.local_format.specs.Maps.{refusal_of, refusal_out};
-ghost use Rattle.semcode_records.specs.Maps.{activation_is, execution_is, event_is, event_out, front_out, path_out, components_out};
-ghost use Rattle.semcode_records.specs.Records.{taken, next_of};
+ghost use Rattle.local_format.specs.Maps.{answer_out};
+ghost use Rattle.semcode_records.specs.Maps.{taken_out, activation_is, execution_is, event_is, kinded_is, front_is, head_is};
+ghost use Rattle.semcode_records.specs.Records.{next_of};
 ghost use Rattle.semcode_records.specs.Sizes.{site_size};
-ghost use Rattle.semcode_records.specs.Path.{borrowed, kind_of_event, written, activation_at, execution_at, event_of, front_at, path_at, head_at};
+ghost use Rattle.semcode_records.specs.Path.{kind_of_event, activation_at, execution_at, event_of, front_at, path_at, head_at};
 
 use crate::component::{
-    Components, OWNERSHIP_EVENT_KIND_BORROW, OWNERSHIP_EVENT_KIND_WRITE, components_end,
-    components_refusal, pass_components,
+    OWNERSHIP_EVENT_KIND_BORROW, OWNERSHIP_EVENT_KIND_WRITE, components_end, pass_components,
 };
-use local_format::field::{U8, U16, U32, read_u8, read_u16_le, read_u32_le, u16_at};
-use local_format::refusal::{Refusal, refuse};
+use local_format::field::{Field, LittleEndian, field_at};
+use local_format::refusal::{Refusal, check, refuse};
 
 pub const SEMCODE_OWNERSHIP_ANCHOR_MIN_REVISION: u16 = 21;
 
@@ -24,27 +23,27 @@ pub const WRITE_EXECUTION_MODE_STORE_VAR_SITE: u8 = 0;
 
 pub const WRITE_EXECUTION_MODE_MAKE_RECORD_SITE: u8 = 1;
 
-#[derive(Clone, Copy)]
+#[derive(Clone, Copy, Debug, PartialEq, Eq)]
 pub enum DecodedBorrowActivation {
     None,
     FrameEntry,
     StoreVarSite(u32),
 }
 
-#[derive(Clone, Copy)]
+#[derive(Clone, Copy, Debug, PartialEq, Eq)]
 pub enum DecodedWriteExecution {
     None,
     StoreVarSite(u32),
     MakeRecordSite(u32),
 }
 
-#[derive(Clone, Copy)]
+#[derive(Clone, Copy, Debug, PartialEq, Eq)]
 pub enum DecodedEvent {
     Borrow(DecodedBorrowActivation),
     Write(DecodedWriteExecution),
 }
 
-#[derive(Drop)]
+#[derive(Clone, Copy, Debug, PartialEq, Eq)]
 pub struct DecodedAccessPath {
     pub event: DecodedEvent,
     pub root_symbol_id: u32,
@@ -54,100 +53,70 @@ pub struct DecodedAccessPath {
 
 // ---- The event
 
-// An event by its kind.
-#[derive(Drop)]
-pub enum Kinded {
-    Known(DecodedEvent),
-    Unknown,
-}
-
-#[derive(Drop)]
-pub enum Event {
-    Whole { kinded: Kinded, next: usize },
-    Refused(Refusal),
-}
-
-pub fn event_refusal(answer: Event) -> Refusal
-    ensures { refusal_out result ≡ refusal_of (event_out answer) }
+#[tactic(auto, unfolding(crate::specs::Path::activation_at))]
+fn read_activation(bytes: &[u8], at: usize) -> Result<Field<DecodedBorrowActivation>, Refusal>
+    ensures { answer_out (taken_out activation_is) result ≡ activation_at bytes.now at }
 {
-    match answer {
-        Event::Refused(r) => r,
-        Event::Whole { kinded: _, next: _ } => refuse(0, 0),
-    }
-}
-
-fn borrow_of(activation: DecodedBorrowActivation, next: usize) -> Event
-    ensures { event_out result ≡ borrowed (taken (activation_is activation) next) }
-{
-    Event::Whole {
-        kinded: Kinded::Known(DecodedEvent::Borrow(activation)),
-        next,
-    }
-}
-
-fn write_of(execution: DecodedWriteExecution, next: usize) -> Event
-    ensures { event_out result ≡ written (taken (execution_is execution) next) }
-{
-    Event::Whole {
-        kinded: Kinded::Known(DecodedEvent::Write(execution)),
-        next,
-    }
-}
-
-fn read_activation(bytes: &[u8], at: usize) -> Event
-    ensures { event_out result ≡ borrowed (activation_at bytes.now at) }
-{
-    let first = read_u8(bytes, at);
-    let U8::Value {
-        value: mode,
-        next: anchor_at,
-    } = first
+    let Some(
+        Field {
+            value: mode,
+            next: anchor_at,
+        },
+    ) = field_at::<u8>(bytes, at)
     else {
-        return Event::Refused(refuse(42, at));
+        return Err(refuse(42, at));
     };
-    if ACTIVATION_MODE_STORE_VAR_SITE < mode {
-        return Event::Refused(refuse(44, anchor_at));
-    }
+    check(mode <= ACTIVATION_MODE_STORE_VAR_SITE, 44, anchor_at)?;
     if mode == ACTIVATION_MODE_FRAME_ENTRY {
-        return borrow_of(DecodedBorrowActivation::FrameEntry, anchor_at);
+        return Ok(Field {
+            value: DecodedBorrowActivation::FrameEntry,
+            next: anchor_at,
+        });
     }
-    let second = read_u32_le(bytes, anchor_at);
-    let U32::Value {
-        value: anchor,
-        next,
-    } = second
+    let Some(
+        Field {
+            value: anchor,
+            next,
+        },
+    ) = field_at::<u32>(bytes, anchor_at)
     else {
-        return Event::Refused(refuse(43, anchor_at));
+        return Err(refuse(43, anchor_at));
     };
-    borrow_of(DecodedBorrowActivation::StoreVarSite(anchor), next)
+    Ok(Field {
+        value: DecodedBorrowActivation::StoreVarSite(anchor),
+        next,
+    })
 }
 
-fn read_execution(bytes: &[u8], at: usize) -> Event
-    ensures { event_out result ≡ written (execution_at bytes.now at) }
+#[tactic(auto, unfolding(crate::specs::Path::execution_at))]
+fn read_execution(bytes: &[u8], at: usize) -> Result<Field<DecodedWriteExecution>, Refusal>
+    ensures { answer_out (taken_out execution_is) result ≡ execution_at bytes.now at }
 {
-    let first = read_u8(bytes, at);
-    let U8::Value {
-        value: mode,
-        next: anchor_at,
-    } = first
+    let Some(
+        Field {
+            value: mode,
+            next: anchor_at,
+        },
+    ) = field_at::<u8>(bytes, at)
     else {
-        return Event::Refused(refuse(45, at));
+        return Err(refuse(45, at));
     };
-    if WRITE_EXECUTION_MODE_MAKE_RECORD_SITE < mode {
-        return Event::Refused(refuse(47, anchor_at));
-    }
-    let second = read_u32_le(bytes, anchor_at);
-    let U32::Value {
-        value: anchor,
-        next,
-    } = second
+    check(mode <= WRITE_EXECUTION_MODE_MAKE_RECORD_SITE, 47, anchor_at)?;
+    let Some(
+        Field {
+            value: anchor,
+            next,
+        },
+    ) = field_at::<u32>(bytes, anchor_at)
     else {
-        return Event::Refused(refuse(46, anchor_at));
+        return Err(refuse(46, anchor_at));
     };
-    if mode == WRITE_EXECUTION_MODE_STORE_VAR_SITE {
-        return write_of(DecodedWriteExecution::StoreVarSite(anchor), next);
-    }
-    write_of(DecodedWriteExecution::MakeRecordSite(anchor), next)
+    let value = if mode == WRITE_EXECUTION_MODE_STORE_VAR_SITE {
+        DecodedWriteExecution::StoreVarSite(anchor)
+    } else {
+        DecodedWriteExecution::MakeRecordSite(anchor)
+    };
+    Ok(Field { value, next })
 }
 
 // The byte of an event's kind.
@@ -160,152 +129,140 @@ pub fn event_kind(event: DecodedEvent) -> u8
     }
 }
 
-// What follows the event kind; an unknown kind brings no mode.
-pub fn after_event_kind(kind: u8, bytes: &[u8], at: usize, header_rev: u16) -> Event
-    ensures { event_out result ≡ event_of kind header_rev bytes.now at }
+// What follows the event kind; an unknown kind has no event, and brings no mode. The kind stays a byte, since an unknown one is refused only behind
+// the components.
+#[tactic(auto, unfolding(crate::specs::Path::event_of))]
+pub fn after_event_kind(
+    kind: u8,
+    bytes: &[u8],
+    at: usize,
+    header_rev: u16,
+) -> Result<Field<Option<DecodedEvent>>, Refusal>
+    ensures { answer_out (taken_out kinded_is) result ≡ event_of kind header_rev bytes.now at }
 {
-    if kind == OWNERSHIP_EVENT_KIND_BORROW {
-        if header_rev < SEMCODE_OWNERSHIP_ANCHOR_MIN_REVISION {
-            return borrow_of(DecodedBorrowActivation::None, at);
+    let moded = SEMCODE_OWNERSHIP_ANCHOR_MIN_REVISION <= header_rev;
+    match kind {
+        OWNERSHIP_EVENT_KIND_BORROW => {
+            let Field { value, next } = if moded {
+                read_activation(bytes, at)?
+            } else {
+                Field {
+                    value: DecodedBorrowActivation::None,
+                    next: at,
+                }
+            };
+            Ok(Field {
+                value: Some(DecodedEvent::Borrow(value)),
+                next,
+            })
         }
-        return read_activation(bytes, at);
-    }
-    if kind == OWNERSHIP_EVENT_KIND_WRITE {
-        if header_rev < SEMCODE_OWNERSHIP_ANCHOR_MIN_REVISION {
-            return write_of(DecodedWriteExecution::None, at);
+        OWNERSHIP_EVENT_KIND_WRITE => {
+            let Field { value, next } = if moded {
+                read_execution(bytes, at)?
+            } else {
+                Field {
+                    value: DecodedWriteExecution::None,
+                    next: at,
+                }
+            };
+            Ok(Field {
+                value: Some(DecodedEvent::Write(value)),
+                next,
+            })
         }
-        return read_execution(bytes, at);
-    }
-    Event::Whole {
-        kinded: Kinded::Unknown,
-        next: at,
+        _ => Ok(Field {
+            value: None,
+            next: at,
+        }),
     }
 }
 
 // ---- The path
 
-// What stands in front of a path's components: the byte of its event's kind, its event, its root, how many components it has, and where they
-// start.
-#[derive(Drop)]
-pub enum Front {
-    Whole {
-        kind: u8,
-        kinded: Kinded,
-        root_symbol_id: u32,
-        component_count: u16,
-        components_start: usize,
-    },
-    Refused(Refusal),
-}
-
-fn front_refusal(answer: Front) -> Refusal
-    ensures { refusal_out result ≡ refusal_of (front_out answer) }
-{
-    match answer {
-        Front::Refused(r) => r,
-        Front::Whole {
-            kind: _,
-            kinded: _,
-            root_symbol_id: _,
-            component_count: _,
-            components_start: _,
-        } => refuse(0, 0),
-    }
+// What stands in front of a path's components: the byte of its event's kind, its event where the kind is known, its root, how many components it has,
+// and where they start.
+#[derive(Clone, Copy, Debug, PartialEq, Eq)]
+struct Front {
+    kind: u8,
+    event: Option<DecodedEvent>,
+    root_symbol_id: u32,
+    component_count: u16,
+    components_start: usize,
 }
 
 // It has one caller, so that it is compiled into it.
-fn read_front(bytes: &[u8], at: usize, header_rev: u16) -> Front
-    ensures { front_out result ≡ front_at header_rev bytes.now at }
+#[tactic(auto, unfolding(crate::specs::Path::front_at))]
+fn read_front(bytes: &[u8], at: usize, header_rev: u16) -> Result<Front, Refusal>
+    ensures { answer_out front_is result ≡ front_at header_rev bytes.now at }
 {
-    let first = read_u8(bytes, at);
-    let U8::Value {
-        value: kind,
-        next: mode_at,
-    } = first
+    let Some(
+        Field {
+            value: kind,
+            next: mode_at,
+        },
+    ) = field_at::<u8>(bytes, at)
     else {
-        return Front::Refused(refuse(41, at));
+        return Err(refuse(41, at));
     };
-    let moded = after_event_kind(kind, bytes, mode_at, header_rev);
-    let Event::Whole {
-        kinded,
+    let Field {
+        value: event,
         next: root_at,
-    } = moded
+    } = after_event_kind(kind, bytes, mode_at, header_rev)?;
+    let Some(
+        Field {
+            value: root_symbol_id,
+            next: count_at,
+        },
+    ) = field_at::<u32>(bytes, root_at)
     else {
-        return Front::Refused(event_refusal(moded));
+        return Err(refuse(48, root_at));
     };
-    let root = read_u32_le(bytes, root_at);
-    let U32::Value {
-        value: root_symbol_id,
-        next: count_at,
-    } = root
+    let Some(
+        Field {
+            value: component_count,
+            next: components_start,
+        },
+    ) = field_at::<u16>(bytes, count_at)
     else {
-        return Front::Refused(refuse(48, root_at));
+        return Err(refuse(49, count_at));
     };
-    let count = read_u16_le(bytes, count_at);
-    let U16::Value {
-        value: component_count,
-        next: components_start,
-    } = count
-    else {
-        return Front::Refused(refuse(49, count_at));
-    };
-    Front::Whole {
+    Ok(Front {
         kind,
-        kinded,
+        event,
         root_symbol_id,
         component_count,
         components_start,
-    }
+    })
 }
 
-#[derive(Drop)]
-pub enum Path {
-    Whole {
-        path: DecodedAccessPath,
-        next: usize,
-    },
-    Refused(Refusal),
-}
-
-pub fn path_refusal(answer: Path) -> Refusal
-    ensures { refusal_out result ≡ refusal_of (path_out answer) }
+#[tactic(auto, using(crate::proofs::PathLaws::head_steps))]
+pub fn read_path(
+    bytes: &[u8],
+    at: usize,
+    header_rev: u16,
+) -> Result<Field<DecodedAccessPath>, Refusal>
+    ensures { answer_out (taken_out head_is) result ≡ head_at header_rev bytes.now at }
 {
-    match answer {
-        Path::Refused(r) => r,
-        Path::Whole { path: _, next: _ } => refuse(0, 0),
-    }
-}
-
-pub fn read_path(bytes: &[u8], at: usize, header_rev: u16) -> Path
-    ensures { path_out result ≡ head_at header_rev bytes.now at }
-{
-    let front = read_front(bytes, at, header_rev);
-    let Front::Whole {
+    let Front {
         kind,
-        kinded,
+        event,
         root_symbol_id,
         component_count,
         components_start,
-    } = front
-    else {
-        return Path::Refused(front_refusal(front));
+    } = read_front(bytes, at, header_rev)?;
+    let next = components_end(bytes, components_start, component_count, header_rev, kind)?;
+    let Some(event) = event else {
+        return Err(refuse(60, next));
     };
-    let components = components_end(bytes, components_start, component_count, header_rev, kind);
-    let Components::Whole { end } = components else {
-        return Path::Refused(components_refusal(components));
-    };
-    let Kinded::Known(event) = kinded else {
-        return Path::Refused(refuse(60, end));
-    };
-    Path::Whole {
-        path: DecodedAccessPath {
+    Ok(Field {
+        value: DecodedAccessPath {
             event,
             root_symbol_id,
             component_count,
             components_start,
         },
-        next: end,
-    }
+        next,
+    })
 }
 
 // ---- The place after a path
@@ -318,45 +275,45 @@ pub fn site_size(kind: u8, mode: u8) -> usize
     if kind + mode == 0 { 0 } else { 4 }
 }
 
-// The place after a path, or 0 where it is not seen so: where modes stand, and each part of any length would be there whole. No branch is for the
+// The place after a path, or none where it is not seen so: where modes stand, and each part of any length would be there whole. No branch is for the
 // event or for a component's kind.
-fn seen_end(bytes: &[u8], at: usize, header_rev: u16) -> usize
-    ensures { 0 < result → next_of (path_at header_rev bytes.now at) ≡ ok result }
+fn seen_end(bytes: &[u8], at: usize, header_rev: u16) -> Option<usize>
+    ensures { (end : ℕ) → result ≡ Some end → next_of (path_at header_rev bytes.now at) ≡ ok end }
 {
     if header_rev < SEMCODE_OWNERSHIP_ANCHOR_MIN_REVISION {
-        return 0;
+        return None;
     }
     if bytes.len() < 12 {
-        return 0;
+        return None;
     }
     if bytes.len() - 12 < at {
-        return 0;
+        return None;
     }
     let kind = bytes[at];
     let mode = bytes[at + 1];
     if 1 < kind {
-        return 0;
+        return None;
     }
     if 1 < mode {
-        return 0;
+        return None;
     }
     let size = site_size(kind, mode);
-    let count = u16_at(bytes, at + 6 + size);
+    let count = u16::le_at(bytes, at + 6 + size);
     let passed = pass_components(bytes, at + 8 + size, count, header_rev, kind);
-    if passed.left == 0 { passed.next } else { 0 }
+    if passed.left == 0 {
+        Some(passed.next)
+    } else {
+        None
+    }
 }
 
 // The place after a path.
-pub fn path_end(bytes: &[u8], at: usize, header_rev: u16) -> Components
-    ensures { components_out result ≡ next_of (path_at header_rev bytes.now at) }
+#[tactic(auto, using(crate::proofs::PathLaws::path_refused, crate::proofs::PathLaws::path_read))]
+pub fn path_end(bytes: &[u8], at: usize, header_rev: u16) -> Result<usize, Refusal>
+    ensures { answer_out (λ end. end) result ≡ next_of (path_at header_rev bytes.now at) }
 {
-    let seen = seen_end(bytes, at, header_rev);
-    if 0 < seen {
-        return Components::Whole { end: seen };
+    if let Some(end) = seen_end(bytes, at, header_rev) {
+        return Ok(end);
     }
-    let answer = read_path(bytes, at, header_rev);
-    let Path::Whole { path: _, next } = answer else {
-        return Components::Refused(path_refusal(answer));
-    };
-    Components::Whole { end: next }
+    Ok(read_path(bytes, at, header_rev)?.next)
 }

@@ -8,7 +8,6 @@ use Rattle.local_format.specs.Out.{Out, ok}
 use Rattle.local_format.specs.Field.{le}
 use Rattle.local_format.specs.Number.{numbered}
 use Rattle.local_format.proofs.OutLaws.{never, ok_same, bind_ok}
-use Rattle.local_format.proofs.FieldLaws.{le_2, le_4}
 use Rattle.semcode_records.specs.Records.{Taken, Entry, Table, records}
 use Rattle.semcode_records.specs.Symbol.{Symbol, symbol_at}
 use Rattle.semcode_records.proofs.RecordsLaws.{as_many}
@@ -22,21 +21,6 @@ numbered_value i [] d h = absurd (never h)
 numbered_value zero (x ∷ xs) d h = ap (λ e. e.value) (ok_same h)
 numbered_value (suc i) (x ∷ xs) d h = numbered_value i xs d h
 
--- the line and the column of a symbol at p, byte by byte
-module _ (s : List ℕ) (p : ℕ) where
-  line_bytes : get_or s (p + 4) 0 + 256 * (get_or s (p + 5) 0 + 256 * (get_or s (p + 6) 0 + 256 * get_or s (p + 7) 0)) ≡ le 4 s (p + 4)
-  line_bytes =
-      let a : p + 5 ≡ p + 4 + 1 = omega arith in
-      let b : p + 6 ≡ p + 4 + 2 = omega arith in
-      let c : p + 7 ≡ p + 4 + 3 = omega arith in
-      rw (a, b, c) (le_4 s (p + 4))
-
-  column_bytes : get_or s (p + 8) 0 + 256 * get_or s (p + 9) 0 ≡ le 2 s (p + 4 + 4)
-  column_bytes =
-      let a : p + 8 ≡ p + 4 + 4 = omega arith in
-      let b : p + 9 ≡ p + 4 + 4 + 1 = omega arith in
-      rw (a, b) (le_2 s (p + 4 + 4))
-
 module _ (s : List ℕ) (at count : ℕ) (inside : 10 * count ≤ length s - at) where
   pub all_read : (t : Table Symbol) × (records (symbol_at s) count at ≡ ok t)
   all_read = let w = bind_ok (records (symbol_at s) count at) _ (symbols_whole s count at inside) in (w.0, w.1)
@@ -46,9 +30,7 @@ module _ (s : List ℕ) (at count : ℕ) (inside : 10 * count ≤ length s - at)
 
   pub symbol_here : (i : ℕ) → i < count → {pc line column : ℕ}
       → let p = at + 10 * i in
-      pc ≡ get_or s p 0 + 256 * (get_or s (p + 1) 0 + 256 * (get_or s (p + 2) 0 + 256 * get_or s (p + 3) 0))
-      → line ≡ get_or s (p + 4) 0 + 256 * (get_or s (p + 5) 0 + 256 * (get_or s (p + 6) 0 + 256 * get_or s (p + 7) 0))
-      → column ≡ get_or s (p + 8) 0 + 256 * get_or s (p + 9) 0
+      pc ≡ le 4 s p → line ≡ le 4 s (p + 4) → column ≡ le 2 s (p + 8)
       → record { pc = pc; line = line; column = column } ≡ get_or (symbols_in (records (symbol_at s) count at)) i no_symbol
   symbol_here i h a b c =
       let p = at + 10 * i in
@@ -57,7 +39,8 @@ module _ (s : List ℕ) (at count : ℕ) (inside : 10 * count ≤ length s - at)
       let e = there (symbol_at s) count at i t all_read.1 (omega (arith, many, h)) in
       let start : e.entry.start ≡ at + 10 * i = ok_same (sym e.passed ∙ symbols_whole s i at (omega (arith, inside, h))) in
       let again = sym (symbol_there_lem s (at + 10 * i) (omega (arith, inside, h))) ∙ ap (symbol_at s) (sym start) ∙ e.again in
-      (λ j. record { pc = (a ∙ le_4 s p) j; line = (b ∙ line_bytes s p) j; column = (c ∙ column_bytes s p) j })
+      let eight : p + 8 ≡ p + 4 + 4 = omega arith in
+      (λ j. record { pc = a j; line = b j; column = (rw eight at c) j })
       ∙ ap (λ (t : Taken Symbol). t.value) (ok_same again)
       ∙ sym (numbered_value i t.entries no_symbol e.found)
       ∙ ap (λ (x : Out (Table Symbol)). get_or (symbols_in x) i no_symbol) (sym all_read.1)

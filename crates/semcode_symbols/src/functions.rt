@@ -1,8 +1,9 @@
 // All functions of a file, with the last one's debug symbols in a lent list of records.
 ghost use Rattle.std.specs.Prelude.{◌≡◌, ◌<◌, ◌^◌};
+ghost use Rattle.local_format.specs.Maps.{answer_out};
 ghost use Rattle.semcode_records.specs.Maps.{symbol_is};
 ghost use Rattle.semcode_functions.specs.File.{file, file_tables};
-ghost use Rattle.semcode_functions.specs.Maps.{last_is, functions_out};
+ghost use Rattle.semcode_functions.specs.Maps.{last_is, file_is};
 ghost use Rattle.semcode_symbols.specs.FileSymbols.{
   last_in,
   last_count,
@@ -12,48 +13,36 @@ ghost use Rattle.semcode_symbols.specs.FileSymbols.{
   FillsFile,
 };
 
-use crate::fill_symbols;
-use semcode_functions::functions::{Functions, Last, read_functions};
+use crate::{Located, fill_symbols};
+use local_format::refusal::Refusal;
+use semcode_functions::functions::{File, FunctionBlock, read_functions};
 use semcode_records::symbol::DecodedDebugSymbol;
 
 // ---- What the core says of the last function's symbols
 
-fn last_of(answer: Functions) -> Last
-    ensures { last_is result ≡ last_in (functions_out answer) }
+fn last_of(answer: Result<File, Refusal>) -> Option<FunctionBlock>
+    ensures { last_is result ≡ last_in (answer_out file_is answer) }
 {
-    match answer {
-        Functions::Whole(found) => found.last,
-        Functions::Refused(_) => Last::Nothing,
-    }
+    answer.ok()?.last
 }
 
-fn last_symbol_count(last: Last) -> usize
+fn last_symbol_count(last: Option<FunctionBlock>) -> usize
     ensures { result ≡ last_count (last_is last) }
 {
-    match last {
-        Last::Nothing => 0,
-        Last::Block { code: _, parsed } => parsed.debug_symbol_count,
-    }
+    last.map_or(0, |block| block.parsed.debug_symbol_count)
 }
 
-fn last_symbols_start(last: Last) -> usize
+fn last_symbols_start(last: Option<FunctionBlock>) -> usize
     requires { last_start (last_is last) < 2 ^ 64 }
     ensures { result ≡ last_start (last_is last) }
 {
     match last {
-        Last::Nothing => 0,
-        Last::Block { code, parsed } => code + parsed.debug_symbols_start,
+        Some(FunctionBlock { code, parsed }) => code + parsed.debug_symbols_start,
+        None => 0,
     }
 }
 
 // The answer, and where in the file how many symbols of the last function start; 0 where there are none.
-#[derive(Drop)]
-struct PlacedFunctions {
-    answer: Functions,
-    at: usize,
-    count: usize,
-}
-
 fn functions_placed(
     bytes: &[u8],
     cursor: usize,
@@ -63,11 +52,11 @@ fn functions_placed(
     strings: &mut [u64],
     paths: &mut [u64],
     families: &mut [u8],
-) -> PlacedFunctions
+) -> Located<File>
     ensures { PlacedFile cursor header_rev symbols bytes.now
         (file_tables functions.old strings.old paths.old families.old)
         (file_tables functions.new strings.new paths.new families.new)
-        (functions_out result.answer) result.at result.count }
+        (answer_out file_is result.answer) result.at result.count }
 {
     let answer = read_functions(
         bytes, cursor, header_rev, symbols, functions, strings, paths, families,
@@ -75,14 +64,14 @@ fn functions_placed(
     let last = last_of(answer);
     let count = last_symbol_count(last);
     if count < 1 {
-        return PlacedFunctions {
+        return Located {
             answer,
             at: 0,
             count: 0,
         };
     }
     let at = last_symbols_start(last);
-    PlacedFunctions { answer, at, count }
+    Located { answer, at, count }
 }
 
 // ---- The list
@@ -98,10 +87,10 @@ pub fn decode_functions(
     strings: &mut [u64],
     paths: &mut [u64],
     families: &mut [u8],
-) -> Functions
+) -> Result<File, Refusal>
     ensures { FillsFile symbol_is (file cursor) cursor header_rev bytes.now
         (file_lists symbols.old functions.old strings.old paths.old families.old)
-        (file_lists symbols.new functions.new strings.new paths.new families.new) (functions_out result) }
+        (file_lists symbols.new functions.new strings.new paths.new families.new) (answer_out file_is result) }
 {
     let placed = functions_placed(
         bytes,

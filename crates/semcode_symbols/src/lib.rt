@@ -3,52 +3,34 @@
 #![tactic(auto)]
 
 ghost use Rattle.std.specs.Prelude.{◌≡◌, map, ◌-◌, ◌*◌, ◌≤◌, ◌<◌, length, get_or, set};
+ghost use Rattle.local_format.specs.Maps.{answer_out};
 ghost use Rattle.semcode_records.specs.Records.{records};
 ghost use Rattle.semcode_records.specs.Symbol.{symbol_at};
 ghost use Rattle.semcode_records.specs.Maps.{symbol_is};
 ghost use Rattle.semcode_decode.specs.Layout.{layout, tables};
-ghost use Rattle.semcode_decode.specs.Maps.{parse_out};
+ghost use Rattle.semcode_decode.specs.Maps.{layout_is};
 ghost use Rattle.semcode_symbols.specs.Symbols.{
   no_symbol,
   symbols_in,
   lent_symbols,
-  symbol_count,
-  symbols_start,
   Placed,
   lists,
   Fills,
 };
 
-use local_format::field::{le16, le32};
-use semcode_decode::decode::{Parse, parse_block};
+use local_format::field::LittleEndian;
+use local_format::refusal::Refusal;
+use semcode_decode::decode::{StringTableDebugOwnershipParse, parse_block};
 use semcode_records::symbol::DecodedDebugSymbol;
 
 pub mod functions;
 
 // ---- What the core says of the symbols
 
-fn symbol_count(answer: Parse) -> usize
-    ensures { result ≡ symbol_count (parse_out answer) }
-{
-    match answer {
-        Parse::Whole(parsed) => parsed.debug_symbol_count,
-        Parse::Refused(_) => 0,
-    }
-}
-
-fn symbols_start(answer: Parse) -> usize
-    ensures { result ≡ symbols_start (parse_out answer) }
-{
-    match answer {
-        Parse::Whole(parsed) => parsed.debug_symbols_start,
-        Parse::Refused(_) => 0,
-    }
-}
-
 // The answer, and where how many symbols start; a refusal has none.
-#[derive(Drop)]
-struct PlacedParse {
-    answer: Parse,
+#[derive(Clone, Copy)]
+struct Located<T> {
+    answer: Result<T, Refusal>,
     at: usize,
     count: usize,
 }
@@ -61,10 +43,10 @@ fn parse_placed(
     strings: &mut [u64],
     paths: &mut [u64],
     families: &mut [u8],
-) -> PlacedParse
+) -> Located<StringTableDebugOwnershipParse>
     ensures { Placed base_offset header_rev symbols code.now
         (tables strings.old paths.old families.old)
-        (tables strings.new paths.new families.new) (parse_out result.answer) result.at result.count }
+        (tables strings.new paths.new families.new) (answer_out layout_is result.answer) result.at result.count }
 {
     let answer = parse_block(
         base_offset,
@@ -75,21 +57,23 @@ fn parse_placed(
         paths,
         families,
     );
-    let at = symbols_start(answer);
-    let count = symbol_count(answer);
-    PlacedParse { answer, at, count }
+    let (at, count) = match answer {
+        Ok(parsed) => (parsed.debug_symbols_start, parsed.debug_symbol_count),
+        Err(_) => (0, 0),
+    };
+    Located { answer, at, count }
 }
 
-// Symbol `i` of so many from a place on; zeros past them.
+// Symbol `i` of so many from a place on; zeros past them. Its 10 bytes are there, so it is read without the tests of a reader.
 fn symbol_at(code: &[u8], at: usize, count: usize, i: usize) -> DecodedDebugSymbol
     requires { 10 * count ≤ length code.now - at }
     ensures { symbol_is result ≡ get_or (symbols_in (records (symbol_at code.now) count at)) i no_symbol }
 {
     if i < count {
         let p = at + 10 * i;
-        let pc = le32(code[p], code[p + 1], code[p + 2], code[p + 3]);
-        let line = le32(code[p + 4], code[p + 5], code[p + 6], code[p + 7]);
-        let col = le16(code[p + 8], code[p + 9]);
+        let pc = u32::le_at(code, p);
+        let line = u32::le_at(code, p + 4);
+        let col = u16::le_at(code, p + 8);
         DecodedDebugSymbol {
             pc: pc as usize,
             line,
@@ -106,6 +90,7 @@ fn symbol_at(code: &[u8], at: usize, count: usize, i: usize) -> DecodedDebugSymb
 
 // ---- The list
 
+// It stands alone, so that one function changes the list.
 fn store_symbol(symbols: &mut [DecodedDebugSymbol], i: usize, pc: usize, line: u32, col: u16)
     requires { i < length symbols.old }
     ensures { symbols.new ≡ set symbols.old i (record { pc = pc; line = line; col = col }) }
@@ -119,11 +104,9 @@ fn fill_symbols(symbols: &mut [DecodedDebugSymbol], code: &[u8], at: usize, coun
     ensures { map symbol_is symbols.new ≡
         lent_symbols (length symbols.old) (symbols_in (records (symbol_at code.now) count at)) }
 {
-    let mut i = 0;
-    while i < symbols.len() {
+    for i in 0..symbols.len() {
         let v = symbol_at(code, at, count, i);
         store_symbol(symbols, i, v.pc, v.line, v.col);
-        i += 1;
     }
 }
 
@@ -136,10 +119,10 @@ pub fn parse_string_table_debug_and_ownership(
     strings: &mut [u64],
     paths: &mut [u64],
     families: &mut [u8],
-) -> Parse
+) -> Result<StringTableDebugOwnershipParse, Refusal>
     ensures { Fills symbol_is layout base_offset header_rev code.now
         (lists symbols.old strings.old paths.old families.old)
-        (lists symbols.new strings.new paths.new families.new) (parse_out result) }
+        (lists symbols.new strings.new paths.new families.new) (answer_out layout_is result) }
 {
     let placed = parse_placed(
         base_offset,

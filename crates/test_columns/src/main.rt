@@ -2,11 +2,10 @@
 // written, or the refusal, and the whole output. tools/columns/make.py writes the list, and what is to be printed by plain lines of its own.
 #![tactic(auto)]
 
-use columns_answer::ColumnsAnswer;
 use columns_take::take::take_columns;
 use columns_write::write::write_columns;
-use local_format::field::le16;
-use local_format::refusal::diag_offset;
+use local_format::field::LittleEndian;
+use local_format::refusal::{Refusal, diag_offset};
 
 const STDIN: i32 = 0;
 
@@ -33,20 +32,18 @@ fn put_byte(byte: u8) {
 }
 
 fn put_output(output: &[u8]) {
-    let mut i: usize = 0;
-    while i < output.len() {
-        put_byte(output[i]);
-        i += 1;
+    for &byte in output {
+        put_byte(byte);
     }
 }
 
-fn put_answer(answer: ColumnsAnswer) {
+fn put_answer(answer: Result<usize, Refusal>) {
     match answer {
-        ColumnsAnswer::Written(length) => {
+        Ok(length) => {
             put(b"written ");
             io::print_decimal(STDOUT, length as u64);
         }
-        ColumnsAnswer::Refused(refused) => {
+        Err(refused) => {
             put(b"refused ");
             io::print_decimal(STDOUT, refused.number as u64);
             put(b" ");
@@ -56,28 +53,23 @@ fn put_answer(answer: ColumnsAnswer) {
     put(b":");
 }
 
-fn show_written(section: &[u8], output: &mut [u8]) {
+// Columns are taken back, a section is written as its columns.
+fn show(is_columns: bool, bytes: &[u8], output: &mut [u8]) {
     let mut propositions = [OLD; ENTRIES];
     let mut proofs = [OLD; ENTRIES];
     let mut depths = [OLD; ENTRIES];
-    let answer = write_columns(
-        section,
-        0,
-        &mut propositions,
-        &mut proofs,
-        &mut depths,
-        output,
-    );
-    put_answer(answer);
-    put_output(output);
-    put(b"\n");
-}
-
-fn show_taken(columns: &[u8], output: &mut [u8]) {
-    let mut propositions = [OLD; ENTRIES];
-    let mut proofs = [OLD; ENTRIES];
-    let mut depths = [OLD; ENTRIES];
-    let answer = take_columns(columns, &mut propositions, &mut proofs, &mut depths, output);
+    let answer = if is_columns {
+        take_columns(bytes, &mut propositions, &mut proofs, &mut depths, output)
+    } else {
+        write_columns(
+            bytes,
+            0,
+            &mut propositions,
+            &mut proofs,
+            &mut depths,
+            output,
+        )
+    };
     put_answer(answer);
     put_output(output);
     put(b"\n");
@@ -89,8 +81,8 @@ fn entry(list: &[u8], at: usize) -> usize {
     if rest.len() < 5 {
         return list.len();
     }
-    let lent = le16(rest[1], rest[2]) as usize;
-    let end = 5 + (le16(rest[3], rest[4]) as usize);
+    let lent = u16::le_at(rest, 1) as usize;
+    let end = 5 + (u16::le_at(rest, 3) as usize);
     if rest.len() < end {
         return list.len();
     }
@@ -98,11 +90,7 @@ fn entry(list: &[u8], at: usize) -> usize {
         return list.len();
     }
     let mut output = [OLD_BYTE; OUTPUT];
-    if rest[0] == 0 {
-        show_written(&rest[5..end], &mut output[..lent]);
-    } else {
-        show_taken(&rest[5..end], &mut output[..lent]);
-    }
+    show(rest[0] != 0, &rest[5..end], &mut output[..lent]);
     diag_offset(at, end)
 }
 
@@ -111,13 +99,10 @@ fn main() {
     let mut list = [0u8; LIST];
     let len = io::read_full(STDIN, &mut list);
     let mut at: usize = 0;
-    let mut turns: usize = len;
-    while turns > 0 {
-        turns -= 1;
-        if at < len {
-            at = entry(&list[..len], at);
-        } else {
-            turns = 0;
+    for _turn in 0..len {
+        if len <= at {
+            return;
         }
+        at = entry(&list[..len], at);
     }
 }

@@ -3,10 +3,13 @@
 // tools/sections/pairs.py writes the list, and what is to be printed by plain lines of its own.
 #![tactic(auto)]
 
-use compare_sections::compare::{Comparison, compare_sections_given};
+ghost use Rattle.std.specs.Prelude.{◌<◌, length};
+
+use compare_sections::compare::{Fault, compare_sections};
 use evr0_rules::settle::Rules;
-use local_format::field::le16;
-use local_format::refusal::{Refusal, diag_offset};
+use local_format::field::LittleEndian;
+use local_format::refusal::Refusal;
+use section_pair::totals::Totals;
 
 const STDIN: i32 = 0;
 
@@ -38,52 +41,39 @@ fn put_byte(byte: u8) {
 }
 
 fn put_bytes(bytes: &[u8]) {
-    let mut i: usize = 0;
-    while i < bytes.len() {
-        put_byte(bytes[i]);
-        i += 1;
+    for byte in bytes {
+        put_byte(*byte);
     }
 }
 
-fn put_refusal(refused: Refusal) {
+fn put_refusal(whose: &[u8], refused: Refusal) {
+    put(whose);
     put(b" refused ");
     io::print_decimal(STDOUT, refused.number as u64);
     put_number(refused.offset);
 }
 
-fn put_answer(answer: Comparison) {
+fn put_answer(answer: Result<Totals, Fault>) {
     match answer {
-        Comparison::Held(totals) => {
+        Ok(totals) => {
             put(b"compared");
             put_number(totals.agreed);
             put_number(totals.contradicted);
             put_number(totals.first_only);
             put_number(totals.second_only);
         }
-        Comparison::RulesRefused(refused) => {
-            put(b"rules");
-            put_refusal(refused);
-        }
-        Comparison::FirstRefused(refused) => {
-            put(b"first");
-            put_refusal(refused);
-        }
-        Comparison::SecondRefused(refused) => {
-            put(b"second");
-            put_refusal(refused);
-        }
-        Comparison::PairRefused(refused) => {
-            put(b"pair");
-            put_refusal(refused);
-        }
+        Err(Fault::Rules(refused)) => put_refusal(b"rules", refused),
+        Err(Fault::First(refused)) => put_refusal(b"first", refused),
+        Err(Fault::Second(refused)) => put_refusal(b"second", refused),
+        Err(Fault::Pair(refused)) => put_refusal(b"pair", refused),
     }
 }
 
-fn rules_of(table: &[u8]) -> Rules {
-    if table.len() == 0 {
+fn rules_of(table: &[u8]) -> Rules<'_> {
+    if table.is_empty() {
         return Rules::Four;
     }
-    Rules::Table
+    Rules::Table(table)
 }
 
 fn show(table: &[u8], first: &[u8], second: &[u8], second_cursor: usize, verdicts: &mut [u8]) {
@@ -97,9 +87,8 @@ fn show(table: &[u8], first: &[u8], second: &[u8], second_cursor: usize, verdict
     let mut second_depths = [OLD; ENTRIES];
     let mut second_marks = [OLD_BYTE; ENTRIES];
     let mut second_authorised = [OLD_BYTE; ENTRIES];
-    let answer = compare_sections_given(
+    let answer = compare_sections(
         rules_of(table),
-        table,
         first,
         0,
         &mut first_propositions,
@@ -130,51 +119,39 @@ fn show(table: &[u8], first: &[u8], second: &[u8], second_cursor: usize, verdict
     put(b"\n");
 }
 
-fn wide(byte: u8) -> usize {
-    byte as usize
-}
-
-// The entry at `at`: how many verdicts are lent and the second section's cursor (1 byte each), how many bytes the table of rules and both sections have (2
-// each; no table means the four), and these. The place after it.
-fn entry(list: &[u8], at: usize) -> usize {
-    let rest = local_format::part::tail(list, at);
-    if rest.len() < 8 {
-        return list.len();
+// The first entry of a list: how many verdicts are lent and the second section's cursor (1 byte each), how many bytes the table of rules and both sections
+// have (2 each; no table means the four), and these. What is left of the list after it: nothing where the entry is cut.
+fn entry(list: &[u8]) -> &[u8]
+    requires { 0 < length list.now }
+    ensures { length result.now < length list.now }
+{
+    if list.len() < 8 {
+        return &list[..0];
     }
-    let lent = wide(rest[0]);
-    let cursor = wide(rest[1]);
-    let first = 8 + (le16(rest[2], rest[3]) as usize);
-    let second = first + (le16(rest[4], rest[5]) as usize);
-    let end = second + (le16(rest[6], rest[7]) as usize);
-    if rest.len() < end {
-        return list.len();
-    }
-    if VERDICTS < lent {
-        return list.len();
+    let lent = list[0] as usize;
+    let cursor = list[1] as usize;
+    let first = 8 + u16::le_at(list, 2) as usize;
+    let second = first + u16::le_at(list, 4) as usize;
+    let end = second + u16::le_at(list, 6) as usize;
+    if list.len() < end || VERDICTS < lent {
+        return &list[..0];
     }
     let mut verdicts = [OLD_BYTE; VERDICTS];
     show(
-        &rest[8..first],
-        &rest[first..second],
-        &rest[second..end],
+        &list[8..first],
+        &list[first..second],
+        &list[second..end],
         cursor,
         &mut verdicts[..lent],
     );
-    diag_offset(at, end)
+    &list[end..]
 }
 
-// No list has more entries than bytes.
 fn main() {
     let mut list = [0u8; LIST];
     let len = io::read_full(STDIN, &mut list);
-    let mut at: usize = 0;
-    let mut turns: usize = len;
-    while turns > 0 {
-        turns -= 1;
-        if at < len {
-            at = entry(&list[..len], at);
-        } else {
-            turns = 0;
-        }
+    let mut rest = &list[..len];
+    while !rest.is_empty() {
+        rest = entry(rest);
     }
 }

@@ -2,31 +2,15 @@
 // byte more than it takes.
 #![tactic(auto)]
 
-ghost use Rattle.std.specs.Io.{ReadsAtMost};
-
+use evidence_output::input::read_full;
 use std::io;
-use std::io::{Read, Stdin, Write};
+use std::io::Write;
 
 const FIRST: usize = 295;
 
 const INPUT: usize = 65537;
 
 const OUTPUT: usize = 103020;
-
-// Reads until the buffer is full or the input ends.
-fn read_full(mut from: Stdin, buf: &mut [u8]) -> io::Result<usize>
-    ensures { ReadsAtMost result buf.new }
-{
-    let mut len: usize = 0;
-    while len < buf.len() {
-        let more = from.read(&mut buf[len..])?;
-        if more == 0 {
-            return Ok(len);
-        }
-        len += more;
-    }
-    Ok(len)
-}
 
 fn print(rt: &HostRuntime, input: &[u8]) -> io::Result<()> {
     let mut output = [0u8; OUTPUT];
@@ -36,10 +20,10 @@ fn print(rt: &HostRuntime, input: &[u8]) -> io::Result<()> {
 
 fn main(rt: HostRuntime) -> io::Result<()> {
     let mut first = [0u8; FIRST];
-    let taken = read_full(rt.stdin(), &mut first)?;
+    let taken = read_full(&mut rt.stdin(), &mut first)?;
     print(&rt, &first[..taken])?;
     let mut input = [0u8; INPUT];
-    let read = read_full(rt.stdin(), &mut input)?;
+    let read = read_full(&mut rt.stdin(), &mut input)?;
     print(&rt, &input[..read])?;
     print(&rt, &input[..0])?;
     print(&rt, &input)

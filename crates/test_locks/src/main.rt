@@ -3,10 +3,10 @@
 #![tactic(auto)]
 
 use local_format::refusal::Refusal;
-use lock_register::read::{LockRead, PartRead, held, lock_number, lock_part};
+use lock_register::read::{held, lock_number, lock_part};
 use lock_register::release::release;
 use lock_words::source::source_bytes;
-use locks::claim::{Answer, claim};
+use locks::claim::claim;
 
 const STDOUT: i32 = 1;
 
@@ -44,11 +44,11 @@ fn claims(register: &mut [u64; 6145], title: &[u8], owner: u32, code: &[u8], sou
     number(b"owner ", owner as u64);
     io::write_all(STDOUT, title);
     match answer {
-        Answer::Held(n) => {
+        Ok(n) => {
             number(b"held ", n as u64);
             line();
         }
-        Answer::Refused(r) => refused(r),
+        Err(r) => refused(r),
     }
 }
 
@@ -60,29 +60,25 @@ fn releases(register: &mut [u64; 6145], owner: u32) {
 }
 
 fn part(register: &[u64; 6145], lock: usize, k: usize) {
-    let answer = lock_part(register, lock, k);
-    match answer {
-        PartRead::Whole(p) => {
+    match lock_part(register, lock, k) {
+        Ok(p) => {
             number(b", component ", p.kind as u64);
             number(b" ", p.first as u64);
             number(b" ", p.second as u64);
         }
-        PartRead::Refused(r) => refused(r),
+        Err(r) => refused(r),
     }
 }
 
 fn parts(register: &[u64; 6145], lock: usize, n: usize) {
-    let mut k = 0;
-    while k < n {
+    for k in 0..n {
         part(register, lock, k);
-        k += 1;
     }
 }
 
 fn lock(register: &[u64; 6145], i: usize) {
-    let answer = lock_number(register, i);
-    match answer {
-        LockRead::Whole(l) => {
+    match lock_number(register, i) {
+        Ok(l) => {
             number(b"lock ", i as u64);
             number(b": owner ", l.owner as u64);
             if l.write {
@@ -96,16 +92,13 @@ fn lock(register: &[u64; 6145], i: usize) {
             parts(register, i, l.parts);
             line();
         }
-        LockRead::Refused(r) => refused(r),
+        Err(r) => refused(r),
     }
 }
 
 fn locks_held(register: &[u64; 6145]) {
-    let n = held(register);
-    let mut i = 0;
-    while i < n {
+    for i in 0..held(register) {
         lock(register, i);
-        i += 1;
     }
 }
 

@@ -1,34 +1,74 @@
 // A block of the list: decoded, and every part of the answer compared.
 use crate::asked::Asked;
-use crate::held::Held;
-use semcode_decode::decode::{Parse, StringTableDebugOwnershipParse};
-use semcode_records::symbol::Symbol;
+use crate::held::{byte_table, numbers, refusal, table};
+use semcode_decode::decode::{StringTableDebugOwnershipParse, parse_block};
+use semcode_records::symbol::read_debug_symbol;
 
-const STRINGS: usize = 300;
+pub const STRINGS: usize = 300;
 
-const PATHS: usize = 65536;
+pub const PATHS: usize = 65536;
 
-const FAMILIES: usize = 4100;
+pub const FAMILIES: usize = 4100;
 
 // What a lent table holds before the call.
-const OLD: u64 = 11936128518282651045;
+pub const OLD: u64 = 11936128518282651045;
 
-const OLD_BYTE: u8 = 165;
+pub const OLD_BYTE: u8 = 165;
 
-fn flag(value: bool) -> usize {
-    if value { 1 } else { 0 }
+// The tables of a block after the call.
+#[derive(Clone, Copy)]
+pub struct Tables<'a> {
+    pub strings: &'a [u64],
+    pub paths: &'a [u64],
+    pub families: &'a [u8],
+}
+
+impl Tables<'_> {
+    // With zeros alone.
+    pub fn none<'b>(self, list: &'b [u8]) -> Option<&'b [u8]> {
+        self.counted(list, 0, 0, 0)
+    }
+
+    fn counted<'b>(
+        self,
+        list: &'b [u8],
+        strings: usize,
+        paths: usize,
+        families: usize,
+    ) -> Option<&'b [u8]> {
+        let rest = table(list, self.strings, strings)?;
+        let rest = table(rest, self.paths, paths)?;
+        byte_table(rest, self.families, families)
+    }
+
+    // The layout of an accepted block, its tables, and its symbols, which stand in the code from a place on.
+    pub fn whole<'b>(
+        self,
+        list: &'b [u8],
+        code: &[u8],
+        symbols_at: usize,
+        block: StringTableDebugOwnershipParse,
+    ) -> Option<&'b [u8]> {
+        let rest = layout(list, block)?;
+        let rest = self.counted(
+            rest,
+            block.string_count,
+            block.path_count,
+            block.parameter_count,
+        )?;
+        symbols(rest, code, symbols_at, block.debug_symbol_count)
+    }
 }
 
 // Number 0, the tags, the counts and the places.
-pub fn layout(list: &[u8], held: Held, block: StringTableDebugOwnershipParse) -> Held {
-    crate::held::numbers(
+fn layout(list: &[u8], block: StringTableDebugOwnershipParse) -> Option<&[u8]> {
+    numbers(
         list,
-        held,
         &[
             0,
-            flag(block.has_debug_section),
-            flag(block.has_ownership_section),
-            flag(block.has_signature),
+            block.has_debug_section as usize,
+            block.has_ownership_section as usize,
+            block.has_signature as usize,
             block.string_count,
             block.string_table_end_offset,
             block.debug_symbol_count,
@@ -41,128 +81,47 @@ pub fn layout(list: &[u8], held: Held, block: StringTableDebugOwnershipParse) ->
     )
 }
 
-// The symbol at `at`: pc, line and column. One that is cut is not the same.
-fn symbol(list: &[u8], held: Held, code: &[u8], at: usize) -> Held {
-    let read = semcode_records::symbol::read_debug_symbol(code, at);
-    let Symbol::Whole { symbol: s, next: _ } = read else {
-        return Held {
-            at: held.at,
-            same: false,
-        };
-    };
-    crate::held::numbers(list, held, &[s.pc, s.line as usize, s.col as usize])
-}
-
-// So many symbols, one after the other from `start` on.
-pub fn symbols(list: &[u8], held: Held, code: &[u8], start: usize, count: usize) -> Held {
-    let mut so_far = held;
+// So many symbols, one after the other from `start` on: pc, line and column. One that is cut is not the same.
+fn symbols<'a>(list: &'a [u8], code: &[u8], start: usize, count: usize) -> Option<&'a [u8]> {
+    let mut rest = list;
     let mut at = start;
-    let mut i: usize = 0;
-    while i < count {
-        so_far = symbol(list, so_far, code, at);
-        at = local_format::refusal::diag_offset(at, 10);
-        i += 1;
+    for _ in 0..count {
+        let read = read_debug_symbol(code, at).ok()?;
+        let symbol = read.value;
+        rest = numbers(
+            rest,
+            &[symbol.pc, symbol.line as usize, symbol.col as usize],
+        )?;
+        at = read.next;
     }
-    so_far
-}
-
-pub fn tables(
-    list: &[u8],
-    held: Held,
-    string_count: usize,
-    path_count: usize,
-    parameter_count: usize,
-    strings: &[u64],
-    paths: &[u64],
-    families: &[u8],
-) -> Held {
-    let placed = crate::held::table(list, held, strings, string_count);
-    let paths_held = crate::held::table(list, placed, paths, path_count);
-    crate::held::byte_table(list, paths_held, families, parameter_count)
-}
-
-// The whole answer, which stands in the list from `at` on.
-fn answer(
-    list: &[u8],
-    at: usize,
-    input: &[u8],
-    parsed: Parse,
-    strings: &[u64],
-    paths: &[u64],
-    families: &[u8],
-) -> Held {
-    let start = Held { at, same: true };
-    match parsed {
-        Parse::Refused(refused) => {
-            let told = crate::held::refusal(list, start, refused);
-            tables(list, told, 0, 0, 0, strings, paths, families)
-        }
-        Parse::Whole(b) => {
-            let told = layout(list, start, b);
-            let placed = tables(
-                list,
-                told,
-                b.string_count,
-                b.path_count,
-                b.parameter_count,
-                strings,
-                paths,
-                families,
-            );
-            symbols(
-                list,
-                placed,
-                input,
-                b.debug_symbols_start,
-                b.debug_symbol_count,
-            )
-        }
-    }
-}
-
-fn parsed(
-    list: &[u8],
-    at: usize,
-    input: &[u8],
-    asked: Asked,
-    strings: &mut [u64],
-    paths: &mut [u64],
-    families: &mut [u8],
-) -> Held {
-    let parsed = semcode_decode::decode::parse_block(
-        asked.origin,
-        input,
-        asked.revision,
-        asked.second,
-        strings,
-        paths,
-        families,
-    );
-    answer(list, at, input, parsed, strings, paths, families)
+    Some(rest)
 }
 
 // An entry that asks for longer tables than there are is not the same.
-pub fn block(list: &[u8], at: usize, input: &[u8], asked: Asked) -> Held {
-    let a = asked.first;
-    let c = asked.third;
-    let d = asked.fourth;
-    if a <= STRINGS {
-        if c <= PATHS {
-            if d <= FAMILIES {
-                let mut strings = [OLD; STRINGS];
-                let mut paths = [OLD; PATHS];
-                let mut families = [OLD_BYTE; FAMILIES];
-                return parsed(
-                    list,
-                    at,
-                    input,
-                    asked,
-                    &mut strings[..a],
-                    &mut paths[..c],
-                    &mut families[..d],
-                );
-            }
-        }
+pub fn block(asked: Asked) -> Option<&[u8]> {
+    let [a, b, c, d] = asked.lengths;
+    if STRINGS < a || PATHS < c || FAMILIES < d {
+        return None;
     }
-    Held { at, same: false }
+    let mut strings = [OLD; STRINGS];
+    let mut paths = [OLD; PATHS];
+    let mut families = [OLD_BYTE; FAMILIES];
+    let parsed = parse_block(
+        asked.origin,
+        asked.input,
+        asked.revision,
+        b,
+        &mut strings[..a],
+        &mut paths[..c],
+        &mut families[..d],
+    );
+    let tables = Tables {
+        strings: &strings[..a],
+        paths: &paths[..c],
+        families: &families[..d],
+    };
+    match parsed {
+        Ok(block) => tables.whole(asked.rest, asked.input, block.debug_symbols_start, block),
+        Err(refused) => tables.none(refusal(asked.rest, refused)?),
+    }
 }

@@ -3,11 +3,13 @@
 // says, and its table of depths. tools/rounds/make.py writes the list, and what is to be printed by plain lines of its own.
 #![tactic(auto)]
 
+ghost use Rattle.std.specs.Prelude.{◌<◌, length};
+
 use evr0::section::decode_evr0_by;
-use evr0_rounds::section::depth_by_rounds_given;
+use evr0_rounds::section::depth_by_rounds;
 use evr0_rules::settle::Rules;
-use local_format::field::le16;
-use local_format::refusal::{Refusal, diag_offset};
+use local_format::field::LittleEndian;
+use local_format::refusal::Refusal;
 
 const STDIN: i32 = 0;
 
@@ -30,24 +32,14 @@ fn put_number(number: u64) {
 }
 
 fn put_numbers(numbers: &[u64]) {
-    let mut i: usize = 0;
-    while i < numbers.len() {
-        put_number(numbers[i]);
-        i += 1;
+    for number in numbers {
+        put_number(*number);
     }
 }
 
 // How many entries are no zero.
 fn filled(table: &[u64]) -> u64 {
-    let mut count: u64 = 0;
-    let mut k: usize = 0;
-    while k < table.len() {
-        if table[k] != 0 {
-            count += 1;
-        }
-        k += 1;
-    }
-    count
+    table.iter().filter(|entry| **entry != 0).count() as u64
 }
 
 fn put_refusal(refused: Refusal) {
@@ -57,30 +49,18 @@ fn put_refusal(refused: Refusal) {
     put(b":");
 }
 
-fn by_rounds(rules: Rules, table: &[u8], input: &[u8], rounds: &mut [u64]) {
+fn by_rounds(rules: Rules, input: &[u8], rounds: &mut [u64]) {
     let mut propositions = [OLD; ENTRIES];
     let mut proofs = [OLD; ENTRIES];
-    let found = depth_by_rounds_given(
-        rules,
-        table,
-        input,
-        0,
-        &mut propositions,
-        &mut proofs,
-        rounds,
-    );
-    let cursor = found.cursor;
-    let outcome = found.outcome;
-    match outcome {
-        evr0_rounds::section::Outcome::Marked(count) => {
+    let found = depth_by_rounds(rules, input, 0, &mut propositions, &mut proofs, rounds);
+    match found {
+        Ok(marked) => {
             put(b"marked");
-            put_number(count as u64);
-            put_number(cursor as u64);
+            put_number(marked.proofs as u64);
+            put_number(marked.cursor as u64);
             put(b":");
         }
-        evr0_rounds::section::Outcome::Refused(refused) => {
-            put_refusal(refused);
-        }
+        Err(refused) => put_refusal(refused),
     }
     put_numbers(rounds);
     put(b";");
@@ -89,81 +69,52 @@ fn by_rounds(rules: Rules, table: &[u8], input: &[u8], rounds: &mut [u64]) {
     put(b"\n");
 }
 
-fn by_decoder(rules: Rules, table: &[u8], input: &[u8], depths: &mut [u64]) {
+fn by_decoder(rules: Rules, input: &[u8], depths: &mut [u64]) {
     let mut propositions = [OLD; ENTRIES];
     let mut proofs = [OLD; ENTRIES];
-    let decoded = decode_evr0_by(
-        rules,
-        table,
-        input,
-        0,
-        &mut propositions,
-        &mut proofs,
-        depths,
-    );
-    let outcome = decoded.outcome;
-    match outcome {
-        evr0::section::Outcome::Accepted(_) => {
-            put(b"accepted:");
-        }
-        evr0::section::Outcome::Refused(refused) => {
-            put_refusal(refused);
-        }
+    let decoded = decode_evr0_by(rules, input, 0, &mut propositions, &mut proofs, depths);
+    match decoded.outcome {
+        Ok(_) => put(b"accepted:"),
+        Err(refused) => put_refusal(refused),
     }
     put_numbers(depths);
     put(b"\n");
 }
 
-fn both(rules: Rules, table: &[u8], input: &[u8], rounds: &mut [u64], depths: &mut [u64]) {
-    by_rounds(rules, table, input, rounds);
-    by_decoder(rules, table, input, depths);
-}
-
-// The entry at `at`: how many rounds are lent, how many bytes the table and the section have (2 bytes each), the table, and the section. No table
-// means the four. The place after it.
-fn entry(list: &[u8], at: usize) -> usize {
-    let rest = local_format::part::tail(list, at);
-    if rest.len() < 6 {
-        return list.len();
+// The first entry of a list: how many rounds are lent, how many bytes the table and the section have (2 bytes each), the table, and the section. No
+// table means the four. What is left of the list after it: nothing where the entry is cut.
+fn entry(list: &[u8]) -> &[u8]
+    requires { 0 < length list.now }
+    ensures { length result.now < length list.now }
+{
+    if list.len() < 6 {
+        return &list[..0];
     }
-    let lent = le16(rest[0], rest[1]) as usize;
-    let middle = 6 + (le16(rest[2], rest[3]) as usize);
-    let end = middle + (le16(rest[4], rest[5]) as usize);
-    if rest.len() < end {
-        return list.len();
+    let lent = u16::le_at(list, 0) as usize;
+    let middle = 6 + u16::le_at(list, 2) as usize;
+    let end = middle + u16::le_at(list, 4) as usize;
+    if list.len() < end || ENTRIES < lent {
+        return &list[..0];
     }
-    if ENTRIES < lent {
-        return list.len();
-    }
-    let mut rounds = [OLD; ENTRIES];
-    let mut depths = [OLD; ENTRIES];
-    let rules = if middle == 6 {
+    let table = &list[6..middle];
+    let rules = if table.is_empty() {
         Rules::Four
     } else {
-        Rules::Table
+        Rules::Table(table)
     };
-    both(
-        rules,
-        &rest[6..middle],
-        &rest[middle..end],
-        &mut rounds[..lent],
-        &mut depths[..lent],
-    );
-    diag_offset(at, end)
+    let input = &list[middle..end];
+    let mut rounds = [OLD; ENTRIES];
+    by_rounds(rules, input, &mut rounds[..lent]);
+    let mut depths = [OLD; ENTRIES];
+    by_decoder(rules, input, &mut depths[..lent]);
+    &list[end..]
 }
 
-// No list has more entries than bytes.
 fn main() {
     let mut list = [0u8; LIST];
     let len = io::read_full(STDIN, &mut list);
-    let mut at: usize = 0;
-    let mut turns: usize = len;
-    while turns > 0 {
-        turns -= 1;
-        if at < len {
-            at = entry(&list[..len], at);
-        } else {
-            turns = 0;
-        }
+    let mut rest = &list[..len];
+    while !rest.is_empty() {
+        rest = entry(rest);
     }
 }

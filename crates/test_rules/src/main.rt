@@ -3,10 +3,11 @@
 // own.
 #![tactic(auto)]
 
-use evr0::section::{Outcome, decode_evr0_by};
+ghost use Rattle.std.specs.Prelude.{ℕ, Some, ◌≡◌, ◌<◌, length};
+
+use evr0::section::decode_evr0_by;
 use evr0_rules::settle::Rules;
-use local_format::field::le16;
-use local_format::refusal::diag_offset;
+use local_format::field::LittleEndian;
 
 const STDIN: i32 = 0;
 
@@ -23,16 +24,14 @@ fn put(text: &[u8]) {
     io::write_all(STDOUT, text);
 }
 
-fn put_depth(depth: u64) {
-    put(b" ");
-    io::print_decimal(STDOUT, depth);
+fn put_number(number: u64) {
+    io::print_decimal(STDOUT, number);
 }
 
 fn put_depths(depths: &[u64]) {
-    let mut i: usize = 0;
-    while i < depths.len() {
-        put_depth(depths[i]);
-        i += 1;
+    for depth in depths {
+        put(b" ");
+        put_number(*depth);
     }
 }
 
@@ -41,24 +40,20 @@ fn show(table: &[u8], input: &[u8]) {
     let mut proofs = [OLD; ENTRIES];
     let mut depths = [OLD; ENTRIES];
     let decoded = decode_evr0_by(
-        Rules::Table,
-        table,
+        Rules::Table(table),
         input,
         0,
         &mut propositions,
         &mut proofs,
         &mut depths,
     );
-    let outcome = decoded.outcome;
-    match outcome {
-        Outcome::Accepted(_) => {
-            put(b"accepted:");
-        }
-        Outcome::Refused(refused) => {
+    match decoded.outcome {
+        Ok(_) => put(b"accepted:"),
+        Err(refused) => {
             put(b"refused ");
-            io::print_decimal(STDOUT, refused.number as u64);
+            put_number(refused.number as u64);
             put(b" ");
-            io::print_decimal(STDOUT, refused.offset as u64);
+            put_number(refused.offset as u64);
             put(b":");
         }
     }
@@ -66,33 +61,26 @@ fn show(table: &[u8], input: &[u8]) {
     put(b"\n");
 }
 
-// The entry at `at`: how many bytes the table and the section have (2 bytes each), the table, and the section. The place after it.
-fn entry(list: &[u8], at: usize) -> usize {
-    let rest = local_format::part::tail(list, at);
-    if rest.len() < 4 {
-        return list.len();
+// The entry at the front of a list: how many bytes the table and the section have (2 bytes each), the table, and the section. What comes after it, where it
+// is whole.
+fn entry(list: &[u8]) -> Option<&[u8]>
+    ensures { (left : _) → result ≡ Some left → length left.now < length list.now }
+{
+    let sizes = list.first_chunk::<4>()?;
+    let middle = 4 + u16::le_at(sizes, 0) as usize;
+    let end = middle + u16::le_at(sizes, 2) as usize;
+    if list.len() < end {
+        return None;
     }
-    let middle = 4 + (le16(rest[0], rest[1]) as usize);
-    let end = middle + (le16(rest[2], rest[3]) as usize);
-    if rest.len() < end {
-        return list.len();
-    }
-    show(&rest[4..middle], &rest[middle..end]);
-    diag_offset(at, end)
+    show(&list[4..middle], &list[middle..end]);
+    Some(&list[end..])
 }
 
-// No list has more entries than bytes.
 fn main() {
     let mut list = [0u8; LIST];
     let len = io::read_full(STDIN, &mut list);
-    let mut at: usize = 0;
-    let mut turns: usize = len;
-    while turns > 0 {
-        turns -= 1;
-        if at < len {
-            at = entry(&list[..len], at);
-        } else {
-            turns = 0;
-        }
+    let mut rest = &list[..len];
+    while let Some(left) = entry(rest) {
+        rest = left;
     }
 }

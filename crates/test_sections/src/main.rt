@@ -3,12 +3,13 @@
 // writes the list, and what is to be printed by plain lines of its own.
 #![tactic(auto)]
 
-use evr0::section::Outcome;
-use evr0_authorised::authorised::AuthorisedAnswer;
+ghost use Rattle.std.specs.Prelude.{◌<◌, length};
+
+use evr0_authorised::authorised::authorised;
 use evr0_fields::number::PropositionIndex;
 use evr0_marks::section::decode_evr0_section;
-use local_format::field::le16;
-use local_format::refusal::diag_offset;
+use evr0_rules::settle::Rules;
+use local_format::field::LittleEndian;
 
 const STDIN: i32 = 0;
 
@@ -27,16 +28,10 @@ fn put(text: &[u8]) {
     io::write_all(STDOUT, text);
 }
 
-fn put_mark(mark: u8) {
-    put(b" ");
-    io::print_decimal(STDOUT, mark as u64);
-}
-
 fn put_marks(marks: &[u8]) {
-    let mut i: usize = 0;
-    while i < marks.len() {
-        put_mark(marks[i]);
-        i += 1;
+    for mark in marks {
+        put(b" ");
+        io::print_decimal(STDOUT, *mark as u64);
     }
 }
 
@@ -45,12 +40,9 @@ fn show(input: &[u8], marks: &mut [u8]) {
     let mut proofs = [OLD; ENTRIES];
     let mut depths = [OLD; ENTRIES];
     let decoded = decode_evr0_section(input, 0, &mut propositions, &mut proofs, &mut depths, marks);
-    let outcome = decoded.outcome;
-    match outcome {
-        Outcome::Accepted(_) => {
-            put(b"accepted:");
-        }
-        Outcome::Refused(refused) => {
+    match decoded.outcome {
+        Ok(_) => put(b"accepted:"),
+        Err(refused) => {
             put(b"refused ");
             io::print_decimal(STDOUT, refused.number as u64);
             put(b" ");
@@ -65,7 +57,8 @@ fn show_authorised(input: &[u8], marks: &mut [u8]) {
     let mut propositions = [OLD; ENTRIES];
     let mut proofs = [OLD; ENTRIES];
     let mut depths = [OLD; ENTRIES];
-    let answer = evr0_authorised::authorised::authorised(
+    let answer = authorised(
+        Rules::Four,
         input,
         0,
         PropositionIndex(0),
@@ -75,14 +68,9 @@ fn show_authorised(input: &[u8], marks: &mut [u8]) {
         marks,
     );
     match answer {
-        AuthorisedAnswer::Answer(authorised) => {
-            if authorised {
-                put(b"; authorised:");
-            } else {
-                put(b"; not:");
-            }
-        }
-        AuthorisedAnswer::Refused(refused) => {
+        Ok(true) => put(b"; authorised:"),
+        Ok(false) => put(b"; not:"),
+        Err(refused) => {
             put(b"; refused ");
             io::print_decimal(STDOUT, refused.number as u64);
             put(b":");
@@ -92,43 +80,33 @@ fn show_authorised(input: &[u8], marks: &mut [u8]) {
     put(b"\n");
 }
 
-fn wide(byte: u8) -> usize {
-    byte as usize
-}
-
-// The entry at `at`: how many marks are lent (1 byte), how many bytes the section has (2), and the section. The place after it.
-fn entry(list: &[u8], at: usize) -> usize {
-    let rest = local_format::part::tail(list, at);
-    if rest.len() < 3 {
-        return list.len();
+// The first entry of a list: how many marks are lent (1 byte), how many bytes the section has (2), and the section. What is left of the list
+// after it: nothing where the entry is cut.
+fn entry(list: &[u8]) -> &[u8]
+    requires { 0 < length list.now }
+    ensures { length result.now < length list.now }
+{
+    if list.len() < 3 {
+        return &list[..0];
     }
-    let lent = wide(rest[0]);
-    let end = 3 + (le16(rest[1], rest[2]) as usize);
-    if rest.len() < end {
-        return list.len();
+    let lent = list[0] as usize;
+    let end = 3 + u16::le_at(list, 1) as usize;
+    if list.len() < end || ENTRIES < lent {
+        return &list[..0];
     }
-    if ENTRIES < lent {
-        return list.len();
-    }
+    let section = &list[3..end];
     let mut marks = [OLD_BYTE; ENTRIES];
-    show(&rest[3..end], &mut marks[..lent]);
+    show(section, &mut marks[..lent]);
     let mut again = [OLD_BYTE; ENTRIES];
-    show_authorised(&rest[3..end], &mut again[..lent]);
-    diag_offset(at, end)
+    show_authorised(section, &mut again[..lent]);
+    &list[end..]
 }
 
-// No list has more entries than bytes.
 fn main() {
     let mut list = [0u8; LIST];
     let len = io::read_full(STDIN, &mut list);
-    let mut at: usize = 0;
-    let mut turns: usize = len;
-    while turns > 0 {
-        turns -= 1;
-        if at < len {
-            at = entry(&list[..len], at);
-        } else {
-            turns = 0;
-        }
+    let mut rest = &list[..len];
+    while !rest.is_empty() {
+        rest = entry(rest);
     }
 }

@@ -26,7 +26,7 @@ fn entry(
     requires { i < 4 }
 {
     let mut symbols = [OLD; 4];
-    semcode_symbols::parse_string_table_debug_and_ownership(
+    let _ = semcode_symbols::parse_string_table_debug_and_ownership(
         0,
         code,
         19,
@@ -35,12 +35,7 @@ fn entry(
         paths,
         families,
     );
-    let symbol = &symbols[i];
-    DecodedDebugSymbol {
-        pc: symbol.pc,
-        line: symbol.line,
-        col: symbol.col,
-    }
+    symbols[i]
 }
 
 fn print_entry(code: &[u8], i: usize)
@@ -60,10 +55,9 @@ fn print_entry(code: &[u8], i: usize)
 
 fn show(title: &[u8], code: &[u8]) {
     io::write_all(STDOUT, title);
-    print_entry(code, 0);
-    print_entry(code, 1);
-    print_entry(code, 2);
-    print_entry(code, 3);
+    for i in 0..4 {
+        print_entry(code, i);
+    }
 }
 
 fn main() {
@@ -74,13 +68,6 @@ fn main() {
     show(b"two symbols\n", &two);
     show(b"the second cut\n", &two[..27]);
     let mut five = [1u8; 58];
-    five[0] = 0;
-    five[1] = 0;
-    five[2] = 68;
-    five[3] = 66;
-    five[4] = 71;
-    five[5] = 48;
-    five[6] = 5;
-    five[7] = 0;
+    five[..8].copy_from_slice(&[0, 0, 68, 66, 71, 48, 5, 0]);
     show(b"five symbols\n", &five);
 }

@@ -2,7 +2,7 @@
 use mathlib.Core.Path.{◌≡◌, refl, ap, ap₂, sym, ◌∙◌}
 use Prim.Native.Nat.{ℕ, suc, ◌+◌, ◌-◌, ◌%◌, ◌≤◌, ◌<◌, max}
 use native.Mathlib.Omega.{arith}
-use native.Mathlib.Nat.{zero-add, add-zero, add_assoc}
+use native.Mathlib.Nat.{add-zero, add_assoc}
 use native.Mathlib.Numerals.{add-one}
 use mathlib.Core.List.{List, [], ◌∷◌}
 use mathlib.Core.Bool.{Bool, true, false, ◌||◌, ◌&&◌, and-true, or-false}
@@ -15,22 +15,16 @@ use Rattle.utf8.specs.Scan.{Scanned, text, not_utf8, scan_of, utf8_at, joined, p
 use Rattle.utf8.specs.Scan as scan
 use Rattle.utf8.proofs.BoolLaws.{both}
 use Rattle.utf8.specs.Maps.{Reads}
-use Rattle.utf8.specs.declared.Char.TheVariants.{Whole, Ill}
+use Rattle.utf8.specs.declared.Char.{Char}
+use Rattle.std.proofs.Common.{Some, None}
+use Rattle.std.proofs.Math.Bool.{or_assoc, and_assoc}
 use Rattle.utf8.proofs.Utf8Laws.{lead_1}
-use Rattle.utf8.proofs.CharLaws.{lead_char}
+use Rattle.utf8.proofs.CharLaws.{whole, lead_char}
 
 -- ---- Counts and marks
-or_assoc : (a b c : Bool) → (a || (b || c)) ≡ ((a || b) || c)
-or_assoc true b c = refl
-or_assoc false b c = refl
-
 joined_joined : (n m : ℕ) (c d : Bool) (x : Scanned) → joined n c (joined m d x) ≡ joined (n + m) (c || d) x
-joined_joined n m c d (text k e) = ap₂ text (sym (add_assoc n m k)) (or_assoc c d e)
+joined_joined n m c d (text k e) = ap₂ text (sym (add_assoc n m k)) (sym (or_assoc c d e))
 joined_joined n m c d not_utf8 = refl
-
-joined_none : (x : Scanned) → joined 0 false x ≡ x
-joined_none (text k e) = ap (λ (n : ℕ). text n e) (zero-add k)
-joined_none not_utf8 = refl
 
 printable_control : (b : ℕ) → printable b ≡ true → (b ≤ 0x7E) × (is_control b ≡ false)
 unfolding printable is_control
@@ -41,7 +35,7 @@ printable_control b e =
     (h, simp (lt-leb b 0x1F (omega arith), lt-leb 0x7F b (omega arith)))
 
 -- ---- Printable ASCII
-pub printable_on : (s : List ℕ) (i : ℕ) → i < length s → printable (get_or s i 0) ≡ true → Reads s i fresh (Whole false (i + 1))
+printable_on : (s : List ℕ) (i : ℕ) → i < length s → printable (get_or s i 0) ≡ true → Reads s i fresh (Some (whole false (i + 1)))
 printable_on s i h e = let p = printable_control (get_or s i 0) e in lead_char s i h (omega arith) (sym p.1)
 
 -- printable ASCII is its own code points, none of them a control character
@@ -84,10 +78,6 @@ pub printable_turn : (s : List ℕ) (i high x : ℕ) → i < length s → leb x 
 unfolding all_printable
 printable_turn s i high x h e =
     rw (add-one, drop-cons s i 0 h, leb_max 0x5E high x, e) (and_assoc (leb high 0x5E) (printable (get_or s i 0)) (all_printable (drop (suc i) s)))
-  where
-    and_assoc : (p q r : Bool) → ((p && q) && r) ≡ (p && (q && r))
-    and_assoc true q r = refl
-    and_assoc false q r = refl
 
 pub printable_end : (s : List ℕ) (i high : ℕ) → length s ≤ i → leb high 0x5E ≡ printable_from high s i
 unfolding all_printable
@@ -99,18 +89,19 @@ pub record Passed (s : List ℕ) (i n : ℕ) (c : Bool) : Type 0 where
   pub few : n ≤ i
   pub told : joined n c (scan_of (decode (drop i s))) ≡ scan_of (decode s)
 
-pub scan_start : (s : List ℕ) → Passed s 0 0 false
-scan_start s = record { inside = omega arith; few = omega arith; told = joined_none (scan_of (decode s)) }
-
-pub scan_turn : {s : List ℕ} {i k n : ℕ} {c d e : Bool} → Passed s i n c → Reads s i fresh (Whole d k) → e ≡ (c || d) → Passed s k (n + 1) e
+pub scan_turn : {s : List ℕ} {i n : ℕ} {c : Bool} {one : Char} → Passed s i n c → Reads s i fresh (Some one)
+    → Passed s one.next (n + 1) (c || one.control)
 unfolding decode
-scan_turn {s} {i} {k} {n} {c} {d} p r q = record {
+scan_turn {s} {i} {n} {c} {one} p r = record {
   inside = r.within.1;
   few = omega arith;
-  told = rw q (sym (joined_joined n 1 c d (scan_of (decode (drop k s)))) ∙ ap (joined n c) r.told ∙ p.told);
+  told = sym (joined_joined n 1 c one.control (scan_of (decode (drop one.next s)))) ∙ ap (joined n c) r.told ∙ p.told;
 }
 
-pub scan_ill : {s : List ℕ} {i n : ℕ} {c : Bool} → Passed s i n c → Reads s i fresh Ill → not_utf8 ≡ scan_of (decode s)
+pub scan_printable : {s : List ℕ} {i n : ℕ} {c : Bool} → Passed s i n c → i < length s → true ≡ printable (get_or s i 0) → Passed s (i + 1) (n + 1) c
+scan_printable {s} {i} {n} {c} p h e = rw or-false at (scan_turn p (printable_on s i h (sym e)))
+
+pub scan_ill : {s : List ℕ} {i n : ℕ} {c : Bool} → Passed s i n c → Reads s i fresh None → not_utf8 ≡ scan_of (decode s)
 unfolding decode
 scan_ill {n = n} {c} p r = ap (joined n c) r.told ∙ p.told
 
@@ -118,6 +109,8 @@ pub scan_end : {s : List ℕ} {i n : ℕ} {c : Bool} → Passed s i n c → leng
 unfolding decode decode_from any_control
 scan_end {s} {i} {n} {c} p h =
     ap₂ text (sym (add-zero n)) (sym (or-false c)) ∙ rw (drop_of_length-le s {i = i} h) at p.told
+
+pub ruleset turns = (scan_printable, scan_turn, scan_ill, scan_end)
 
 -- ---- Bytes at a place
 module _ (s : List ℕ) (at len : ℕ) where

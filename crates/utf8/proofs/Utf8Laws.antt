@@ -95,6 +95,18 @@ module _ (b : ℕ) where
   unfolding table
   lead_ed e = lead_has 4 table b (omega arith)
 
+  pub lead_f0 : b ≡ 0xF0 → lead_of table b ≡ more (part 3 0x90 0xBF (b % 8))
+  unfolding table
+  lead_f0 e = lead_has 6 table b (omega arith)
+
+  pub lead_f1 : 0xF0 < b → b ≤ 0xF3 → lead_of table b ≡ more (part 3 0x80 0xBF (b % 8))
+  unfolding table
+  lead_f1 g h = lead_has 7 table b (omega arith)
+
+  pub lead_f4 : b ≡ 0xF4 → lead_of table b ≡ more (part 3 0x80 0x8F (b % 8))
+  unfolding table
+  lead_f4 e = lead_has 8 table b (omega arith)
+
   pub lead_past : 0xF4 < b → lead_of table b ≡ bad
   unfolding table
   lead_past g = lead_lacks 9 table b (omega arith)

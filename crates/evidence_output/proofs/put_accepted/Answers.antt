@@ -2,7 +2,7 @@
 use mathlib.Core.Path.{sym}
 use native.Mathlib.Omega.{arith}
 use lib.Seq.{length-take-le}
-use Rattle.evidence_output.proofs.WrittenLaws.{written_append}
+use Rattle.byte_output.proofs.WrittenLaws.{writes_append}
 use Rattle.evidence_output.proofs.put_accepted.Goals as goal
 
 pub slice_bounds-put_proofs-end-2 : goal.slice_bounds-put_proofs-end-2
@@ -15,4 +15,4 @@ slice_bounds-put_proofs-end-3 c =
 
 pub returns : goal.returns
 returns c =
-    written_append c.put_head-next.ensures c.put_proofs.ensures
+    writes_append c.put_head.ensures c.put_proofs.ensures

@@ -1,11 +1,6 @@
--- Meets its contract. The invariant: the first i entries are zeros.
-use Prim.Native.Nat.{◌-◌}
-use lib.ListN.{length}
-use Rattle.lent_table.proofs.Laws.{Zeroed}
+-- Meets its contract. The invariant: the entries that the loop has passed are zeros.
+use Rattle.std.proofs.Common.{take, replicate, ◌≡◌}
 use Rattle.lent_table.proofs.clear_many.Given as goal
 
-abbrev pub invariant-loop-i : goal.invariant-loop-i
-invariant-loop-i l = Zeroed l.initial.table l.i l.table
-
-abbrev pub decreases-loop-i : goal.decreases-loop-i
-decreases-loop-i l = length l.initial.table - l.i
+abbrev pub invariant-loop-entry : goal.invariant-loop-entry
+invariant-loop-entry g l = take l.entry-index l.entry-items ≡ replicate l.entry-index g.T.Zero.ZERO

@@ -1,4 +1,4 @@
--- Meets its contract: where 7 bytes are there, the component's size decides its word.
+-- Where 7 bytes are there, the component's size decides its word.
 use Prim.Native.Nat.{ℕ, ◌<◌}
 use native.Mathlib.Omega.{arith}
 use lib.ListN.{get_or}
@@ -6,20 +6,8 @@ use Rattle.semcode_records.proofs.SizeLaws.{Sized, sized}
 use Rattle.path_words.proofs.Laws.{size_within, step_sized}
 use Rattle.path_words.proofs.read_step.Goals as goal
 
-pub returns-then-code-lt7 : goal.returns-then-code-lt7
-returns-then-code-lt7 c =
-    c.slow_step.ensures
-
-pub returns-then-code-at : goal.returns-then-code-at
-returns-then-code-at c =
-    c.slow_step-then-code-at.ensures
-
-pub returns-then-size-eq0 : goal.returns-then-size-eq0
-returns-then-size-eq0 c =
-    c.slow_step-then-size-eq0.ensures
-
-pub sized_word-word-requires : goal.sized_word-word-requires
-sized_word-word-requires c =
+pub sized_word-value-requires : goal.sized_word-value-requires
+sized_word-value-requires c =
     let bytes : (k : ℕ) → get_or c.args.code.now k 0 < 256 = λ k. (c.type_inv.code k).fits in
     let by_size : let a = c.args in Sized a.header_rev a.kind a.code.now a.at c.component_size-size.result =
     let a = c.args in
@@ -34,5 +22,5 @@ returns c =
     let a = c.args in
     sized a.header_rev a.kind a.code.now a.at (omega arith) _ (rw c.component_sizes.ensures at c.component_size-size.ensures.0)
     (omega arith) in
-    rw (c.sized_word-word.ensures, c.u16_at.ensures, c.u32_at.ensures)
+    rw (c.sized_word-value.ensures, c.le_at-2.ensures, c.le_at.ensures)
     (step_sized _ _ _ _ _ bytes by_size)

@@ -14,7 +14,7 @@ loop-i-preserved c =
     let a = c.args in (
       omega arith,
       simp length-set c.loop-i.invariant.1,
-      rw c.u32_at.ensures
+      rw c.le_at.ensures
           (fill_more a.bytes.now a.at a.to c.loop-i.i c.loop-i.words a.words.now (omega arith) c.loop-i.invariant.2),
     )
 

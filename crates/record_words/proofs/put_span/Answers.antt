@@ -6,8 +6,8 @@ use Rattle.evr0_section.proofs.Schemas.{wide, narrow}
 use Rattle.record_words.proofs.Laws.{span_puts, narrow_span}
 use Rattle.record_words.proofs.put_span.Goals as goal
 
-pub u64_at-requires : goal.u64_at-requires
-u64_at-requires c =
+pub le_at-requires : goal.le_at-requires
+le_at-requires c =
     let ends-8 : span_width c.args.schema ≡ 8 = wide c.if-schema-eq2.true in
     omega (arith, ends-8)
 
@@ -16,8 +16,8 @@ overflow_add-at c =
     let ends-8 : span_width c.args.schema ≡ 8 = wide c.if-schema-eq2.true in
     omega (arith, ends-8)
 
-pub u64_at-requires-then-schema-eq2 : goal.u64_at-requires-then-schema-eq2
-u64_at-requires-then-schema-eq2 c =
+pub le_at-requires-then-schema-eq2 : goal.le_at-requires-then-schema-eq2
+le_at-requires-then-schema-eq2 c =
     let ends-8 : span_width c.args.schema ≡ 8 = wide c.if-schema-eq2.true in
     omega (arith, ends-8)
 
@@ -25,7 +25,7 @@ pub returns-then-schema-eq2 : goal.returns-then-schema-eq2
 returns-then-schema-eq2 c =
     let ends-8 : span_width c.args.schema ≡ 8 = wide c.if-schema-eq2.true in
     rw ends-8
-    (span_puts 8 _ _ c.u64_at.ensures c.u64_at-then-schema-eq2.ensures c.put_word.ensures c.put_word-then-schema-eq2.ensures)
+    (span_puts 8 _ _ c.le_at.ensures c.le_at-then-schema-eq2.ensures c.put_word.ensures c.put_word-then-schema-eq2.ensures)
 
 pub put_fields-requires : goal.put_fields-requires
 put_fields-requires c =

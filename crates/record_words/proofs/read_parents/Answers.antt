@@ -3,16 +3,16 @@ use native.Mathlib.Omega.{arith}
 use Rattle.record_words.proofs.Laws.{runs_none, runs_all}
 use Rattle.record_words.proofs.read_parents.Goals as goal
 
-pub returns-then-left-count : goal.returns-then-left-count
-returns-then-left-count c =
+pub returns-then-saturating_sub-count : goal.returns-then-saturating_sub-count
+returns-then-saturating_sub-count c =
     let a = c.args in
-    runs_none a.payload.now a.at a.words.now _ (omega (arith, c.left.ensures)) c.clear_many.ensures
+    runs_none a.payload.now a.at a.words.now _ (omega (arith, c.saturating_sub.ensures)) c.clear.ensures
 
 pub put_fields-requires : goal.put_fields-requires
 put_fields-requires c =
-    (omega (arith, c.left.ensures), omega arith)
+    (omega (arith, c.saturating_sub.ensures), omega arith)
 
 pub returns : goal.returns
 returns c =
     let a = c.args in
-    runs_all a.payload.now a.at a.words.now _ (omega (arith, c.left.ensures)) c.put_fields.ensures
+    runs_all a.payload.now a.at a.words.now _ (omega (arith, c.saturating_sub.ensures)) c.put_fields.ensures

@@ -1,29 +1,27 @@
--- Meets its contract: the block is decoded anew, and the symbol is read at its place among the symbols.
+-- The block is decoded anew, and the symbol is read at its place among the symbols.
 use native.Mathlib.Omega.{arith}
-use mathlib.Core.Path.{refl, ap, ◌∙◌}
+use mathlib.Core.Path.{refl, ap}
 use Prim.Native.Nat.{◌+◌, ◌*◌, ◌≤◌}
 use lib.ListN.{length}
+use Rattle.std.proofs.Common.{rules}
 use Rattle.local_format.specs.Out.{refused}
 use Rattle.local_format.specs.Number.{numbered}
-use Rattle.local_format.specs.Maps.{refusal_of}
-use Rattle.semcode_decode.specs.declared.decode.Parse.{Parse}
 use Rattle.semcode_decode.specs.Layout.{Lent, tables}
 use Rattle.semcode_decode.specs.Number.{decode_anew, symbol_number, taken_in}
-use Rattle.semcode_decode.specs.Maps.{parse_out}
 use Rattle.semcode_read.proofs.AnswerLaws.{cleared, refused_anew, symbol_anew, missing_anew}
 use Rattle.semcode_read.proofs.symbol_number.Goals as goal
 
-pub returns-in_default : goal.returns-in_default
+pub returns-in_err-parsed : goal.returns-in_err-parsed
 unfolding symbol_number
-returns-in_default c =
+returns-in_err-parsed c =
     let brought : Lent =
     let a = c.args in
     tables a.strings.now a.paths.now a.families.now in
-    let left : Lent = let l = c.parse_block-answer.new in tables l.strings l.paths l.families in
+    let left : Lent = let l = c.parse_block.new in tables l.strings l.paths l.families in
     let a = c.args in
-    refused_anew a.base_offset a.header_rev a.code.now brought left c.parse_block-answer.ensures taken_in
-    (λ b. numbered a.number b.debug.table.entries) (ap parse_out c.in_default.is)
-    (ap refused (c.parse_refusal.ensures ∙ ap (λ (x : Parse). refusal_of (parse_out x)) c.in_default.is))
+    refused_anew a.base_offset a.header_rev a.code.now brought left c.in_err-parsed.ensures taken_in
+    (λ b. numbered a.number b.debug.table.entries) refl
+    (search rules)
 
 pub overflow_mul-number : goal.overflow_mul-number
 unfolding symbol_number
@@ -31,10 +29,10 @@ overflow_mul-number c =
     let brought : Lent =
     let a = c.args in
     tables a.strings.now a.paths.now a.families.now in
-    let left : Lent = let l = c.parse_block-answer.new in tables l.strings l.paths l.families in
-    let within : let a = c.args in c.in-Whole.parsed.debug_symbols_start + 10 * a.number + 10 ≤ length a.code.now =
+    let left : Lent = let l = c.parse_block.new in tables l.strings l.paths l.families in
+    let within : let a = c.args in c.in_ok-parsed.parsed.debug_symbols_start + 10 * a.number + 10 ≤ length a.code.now =
     let a = c.args in
-    (symbol_anew a.base_offset a.header_rev a.code.now brought left c.parse_block-answer.ensures (ap parse_out c.in-Whole.is)
+    (symbol_anew a.base_offset a.header_rev a.code.now brought left c.in_ok-parsed.ensures refl
     a.number c.if-number-parsed.true).0 in
     record { fits = omega arith }
 
@@ -44,10 +42,10 @@ overflow_add-parsed c =
     let brought : Lent =
     let a = c.args in
     tables a.strings.now a.paths.now a.families.now in
-    let left : Lent = let l = c.parse_block-answer.new in tables l.strings l.paths l.families in
-    let within : let a = c.args in c.in-Whole.parsed.debug_symbols_start + 10 * a.number + 10 ≤ length a.code.now =
+    let left : Lent = let l = c.parse_block.new in tables l.strings l.paths l.families in
+    let within : let a = c.args in c.in_ok-parsed.parsed.debug_symbols_start + 10 * a.number + 10 ≤ length a.code.now =
     let a = c.args in
-    (symbol_anew a.base_offset a.header_rev a.code.now brought left c.parse_block-answer.ensures (ap parse_out c.in-Whole.is)
+    (symbol_anew a.base_offset a.header_rev a.code.now brought left c.in_ok-parsed.ensures refl
     a.number c.if-number-parsed.true).0 in
     record { fits = omega arith }
 
@@ -57,9 +55,9 @@ returns-then-number-parsed c =
     let brought : Lent =
     let a = c.args in
     tables a.strings.now a.paths.now a.families.now in
-    let left : Lent = let l = c.parse_block-answer.new in tables l.strings l.paths l.families in
+    let left : Lent = let l = c.parse_block.new in tables l.strings l.paths l.families in
     let a = c.args in
-    (symbol_anew a.base_offset a.header_rev a.code.now brought left c.parse_block-answer.ensures (ap parse_out c.in-Whole.is)
+    (symbol_anew a.base_offset a.header_rev a.code.now brought left c.in_ok-parsed.ensures refl
     a.number c.if-number-parsed.true).1 _ c.read_debug_symbol.ensures
 
 pub returns : goal.returns
@@ -68,12 +66,12 @@ returns c =
     let brought : Lent =
     let a = c.args in
     tables a.strings.now a.paths.now a.families.now in
-    let left : Lent = let l = c.parse_block-answer.new in tables l.strings l.paths l.families in
+    let left : Lent = let l = c.parse_block.new in tables l.strings l.paths l.families in
     let a = c.args in
     let e =
-    missing_anew a.base_offset a.header_rev a.code.now brought left c.parse_block-answer.ensures (ap parse_out c.in-Whole.is)
+    missing_anew a.base_offset a.header_rev a.code.now brought left c.in_ok-parsed.ensures refl
     a.number (λ b. b.debug.table.entries) (λ l. l.symbols) (λ b. refl) c.if-number-parsed.false
     in
     cleared taken_in (symbol_number a.number (decode_anew a.base_offset a.header_rev a.code.now brought)) brought left
-    c.not_there.ensures e c.parse_block-answer.auto.strings c.parse_block-answer.auto.paths
-    c.parse_block-answer.auto.families (ap refused c.not_there.ensures.answer)
+    c.not_there.ensures e c.parse_block.auto.strings c.parse_block.auto.paths
+    c.parse_block.auto.families (ap refused c.not_there.ensures.answer)

@@ -20,7 +20,6 @@ loop-i-preserved c =
     let stored : c.store_symbol.new.symbols ≡ set l i (get_or (wanted n xs) i none) =
     c.store_symbol.ensures ∙ ap (set l i) (is_wanted n xs i _ c.symbol_at-v.ensures) in
     record {
-      most = omega arith;
       long = c.store_symbol.auto.symbols ∙ long;
       front =
           ap (take (i + 1)) stored
@@ -34,5 +33,5 @@ returns c =
     let xs = symbols_in (records (symbol_at a.code.now) a.count a.at) in
     let held = c.loop-i.invariant in
     let full : length (wanted n xs) ≡ n = wanted_long n xs (omega (arith, how_many a.code.now a.at a.count c.requires.0, c.requires.1)) in
-    let t : Filled (wanted n xs) none n full = record { i = c.loop-i.i; l = c.loop-i.symbols; most = held.most; long = held.long; front = held.front } in
+    let t : Filled (wanted n xs) none n full = record { i = c.loop-i.i; l = c.loop-i.symbols; most = omega arith; long = held.long; front = held.front } in
     wanted_is n xs (whole (wanted n xs) none n full t (omega arith))

@@ -5,7 +5,7 @@ use Rattle.semcode_symbols.proofs.symbol_at.Goals as goal
 pub returns-then-i-count : goal.returns-then-i-count
 returns-then-i-count c =
     let a = c.args in
-    symbol_here a.code.now a.at a.count c.requires a.i c.if-i-count.true c.le32-pc.ensures c.le32-line.ensures c.le16-col.ensures
+    symbol_here a.code.now a.at a.count c.requires a.i c.if-i-count.true c.le_at-pc.ensures c.le_at-line.ensures c.le_at-col.ensures
 
 pub returns-else-i-count : goal.returns-else-i-count
 returns-else-i-count c = let a = c.args in none_past a.code.now a.at a.count c.requires a.i c.if-i-count.false

@@ -1,5 +1,6 @@
--- Safe and ending: the turns left fall.
+-- Ends: what is left of the list is shorter after each entry.
+use Rattle.std.proofs.Common.{length}
 use Rattle.test_rules.proofs.main.Given as goal
 
-abbrev pub decreases-loop-turns : goal.decreases-loop-turns
-decreases-loop-turns l = l.turns
+abbrev pub decreases-loop-left : goal.decreases-loop-left
+decreases-loop-left l = length l.rest

@@ -1,4 +1,4 @@
--- Meets its contract: each number from where its column stands.
+-- Each number from where its column stands.
 use mathlib.Core.Path.{refl}
 use native.Mathlib.Omega.{arith}
 use Rattle.columns_rebuild.proofs.HeadLaws.{head_count, head_span, four_same}

@@ -1,28 +1,28 @@
--- Meets its contract. The invariant: the first i rows are written, and each column stands at the next.
+-- The invariant: the rows before this one are written, and each column stands at the next.
 use mathlib.Core.Path.{refl, ◌∙◌}
 use native.Mathlib.Omega.{arith}
+use Rattle.byte_output.proofs.WrittenLaws.{same_none, same_more}
 use Rattle.columns_rebuild.proofs.RowLaws.{taking_first, taking_more, taking_all}
 use Rattle.columns_rebuild.proofs.row.take_rows.Goals as goal
 
-pub loop-i-init : goal.loop-i-init
-loop-i-init c =
-    (refl, refl, λ rows h s. taking_first _ _ (omega arith) (omega arith) s)
+pub loop-row-init : goal.loop-row-init
+loop-row-init c =
+    (refl, same_none _, λ rows h s. taking_first _ (omega arith) c.requires s)
 
-pub loop-i-preserved : goal.loop-i-preserved
-loop-i-preserved c = (
-  c.take_row-next.auto.cursors ∙ c.loop-i.invariant.0,
-  c.take_row-next.auto.out ∙ c.loop-i.invariant.1,
-  λ rows h s. taking_more (c.loop-i.invariant.2 rows h s) (omega (arith, c.loop-i-test.true)) c.take_row-next.ensures,
+pub take_row-requires : goal.take_row-requires
+take_row-requires c =
+    c.loop-row.invariant.1.stands c.requires
+
+pub loop-row-preserved : goal.loop-row-preserved
+loop-row-preserved c = (
+  c.take_row.auto.cursors ∙ c.loop-row.invariant.0,
+  same_more c.loop-row.invariant.1 c.take_row.ensures.same,
+  λ rows h s. taking_more (c.loop-row.invariant.2 rows h s) (omega (arith, c.loop-row-test.true)) c.take_row.ensures.took,
 )
 
-pub shape_of-cursors : goal.shape_of-cursors
-shape_of-cursors c =
-    c.loop-i.invariant.0
-
-pub shape_of-out : goal.shape_of-out
-shape_of-out c =
-    c.loop-i.invariant.1
-
 pub returns : goal.returns
-returns c rows h s =
-    taking_all (c.loop-i.invariant.2 rows h s) (omega (arith, c.loop-i-test.false))
+returns c =
+    record {
+      same = c.loop-row.invariant.1;
+      took = λ rows h s. taking_all (c.loop-row.invariant.2 rows h s) (omega (arith, c.loop-row-test.false));
+    }

@@ -1,4 +1,4 @@
--- Meets its contract: what is written of the columns fits the output or not, by `CopyLaws`.
+-- What is written of the columns fits the output or not, by `CopyLaws`.
 use mathlib.Core.Path.{refl}
 use native.Mathlib.Omega.{arith}
 use Rattle.byte_output.proofs.WrittenLaws.{written_length}
@@ -17,4 +17,4 @@ pub returns : goal.returns
 returns c =
     λ full columns e.
     let w = put_as c.put_accepted-length.ensures e in
-    long_enough full.section columns w (omega arith) (omega arith) full.filled c.clear_bytes_from.ensures
+    long_enough full.section columns w (omega arith) (omega arith) full.filled c.clear_from.ensures

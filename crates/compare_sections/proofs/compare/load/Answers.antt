@@ -6,8 +6,3 @@ pub returns-in-Four : goal.returns-in-Four
 unfolding four_rules
 returns-in-Four c =
     rw c.in-Four.is
-
-pub returns-in-Table : goal.returns-in-Table
-unfolding four_rules
-returns-in-Table c =
-    rw c.in-Table.is c.load_rules.ensures

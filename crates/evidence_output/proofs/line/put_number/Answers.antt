@@ -3,5 +3,4 @@ use Rattle.evidence_output.proofs.LineLaws.{number_written}
 use Rattle.evidence_output.proofs.line.put_number.Goals as goal
 
 pub returns : goal.returns
-returns c =
-    number_written c.args.n c.put-next.ensures c.put_decimal.ensures
+returns c = number_written c.args.n c.put.ensures c.put_decimal.ensures

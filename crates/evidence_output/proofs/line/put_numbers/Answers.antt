@@ -1,28 +1,6 @@
--- Meets its contract. The invariant: the first i numbers are written.
-use native.Mathlib.Omega.{arith}
-use native.Mathlib.Numerals.{add-one}
-use lib.Seq.{take-suc, take_all}
-use Rattle.evidence_output.specs.Output.{spaced}
-use Rattle.evidence_output.proofs.WrittenLaws.{written_none, written_length, written_append}
-use Rattle.evidence_output.proofs.LineLaws.{spaced_append}
+-- Meets its contract: the number, then the rest.
+use Rattle.evidence_output.proofs.LineLaws.{line_written}
 use Rattle.evidence_output.proofs.line.put_numbers.Goals as goal
 
-pub loop-i-init : goal.loop-i-init
-unfolding spaced
-loop-i-init c =
-    (omega arith, written_none _ _)
-
-pub loop-i-preserved : goal.loop-i-preserved
-loop-i-preserved c =
-    let numbers = c.args.numbers.now in
-    let i = c.loop-i.i in
-    (omega arith, rw (add-one i, take-suc numbers i 0 (omega arith), spaced_append) (written_append c.loop-i.invariant.1 c.put_number-next.ensures))
-
-pub shape_of-out : goal.shape_of-out
-shape_of-out c =
-    written_length c.loop-i.invariant.1
-
 pub returns : goal.returns
-returns c =
-    let numbers = c.args.numbers.now in
-    rw (take_all c.loop-i.i numbers (omega arith)) at c.loop-i.invariant.1
+returns c = line_written _ c.put_decimal.ensures c.end_line.ensures

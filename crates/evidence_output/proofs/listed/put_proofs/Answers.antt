@@ -1,36 +1,42 @@
--- Meets its contract. The invariant: the lines of the first i starts and depths are written.
+-- Meets its contract. The invariant: the lines of the starts and depths before are written.
+use mathlib.Core.Path.{◌≡◌}
+use mathlib.Core.List.{[], ◌∷◌}
 use native.Mathlib.Omega.{arith}
-use Rattle.evidence_output.proofs.WrittenLaws.{written_length, written_append}
-use Rattle.evidence_output.proofs.ListedLaws.{no_lines, one_more_line, all_lines}
+use lib.ListN.{length, length-append}
+use Rattle.std.proofs.Common.{rules}
+use Rattle.std.proofs.lemmas.Slice.Zip.{zip_turn, zip_end}
+use Rattle.byte_output.proofs.WrittenLaws.{writes_none, writes_append}
+use Rattle.evidence_output.specs.Listed.{lines_at}
+use Rattle.evidence_output.proofs.ListedLaws.{one_more_line, all_lines}
 use Rattle.evidence_output.proofs.listed.put_proofs.Goals as goal
 
-pub loop-i-init : goal.loop-i-init
-loop-i-init c =
-    (omega arith, omega arith, no_lines _ _ _)
+pub loop-start-init : goal.loop-start-init
+unfolding lines_at
+loop-start-init c = writes_none _ (omega arith)
 
-pub shape_of-out-then-depths-i : goal.shape_of-out-then-depths-i
-shape_of-out-then-depths-i c =
-    written_length c.loop-i.invariant.2
-
-pub returns-then-depths-i : goal.returns-then-depths-i
-returns-then-depths-i c =
+pub loop-start-preserved : goal.loop-start-preserved
+loop-start-preserved c =
     let a = c.args in
-    rw (all_lines a.payload.now c.loop-i.i a.starts.now a.depths.now (omega arith)) at c.loop-i.invariant.2
-
-pub loop-i-preserved : goal.loop-i-preserved
-loop-i-preserved c =
-    let a = c.args in (
-      omega arith,
-      omega arith,
-      rw (one_more_line a.payload.now a.starts.now a.depths.now c.loop-i.i (omega arith) (omega arith))
-          (written_append c.loop-i.invariant.2 c.put_record-next.ensures),
+    let xs = c.loop-start.yielded in
+    let first : c.into_iter-start-iterator.result.a.rest.now ≡ a.starts.now = search rules in
+    let second : c.into_iter-start-iterator.result.b.rest.now ≡ a.depths.now = search rules in
+    let turn = zip_turn a.starts.now a.depths.now xs c.into_iter-start-iterator.result c.loop-start.start-iterator c.next.new.self
+    c.next.result first second c.loop-start.yielded_by (c.in-Some.start, c.in-Some.depth) c.in-Some.is c.next.ensures.steps
+    in
+    rw (
+      length-append xs ((c.in-Some.start, c.in-Some.depth) ∷ []),
+      one_more_line a.payload.now a.starts.now a.depths.now (length xs) turn.0 turn.1,
+      ← turn.2 0,
+      ← turn.3 0,
     )
-
-pub shape_of-out : goal.shape_of-out
-shape_of-out c =
-    written_length c.loop-i.invariant.2
+    (writes_append c.loop-start.invariant c.put_record.ensures)
 
 pub returns : goal.returns
 returns c =
     let a = c.args in
-    rw (all_lines a.payload.now c.loop-i.i a.starts.now a.depths.now (omega arith)) at c.loop-i.invariant.2
+    let first : c.into_iter-start-iterator.result.a.rest.now ≡ a.starts.now = search rules in
+    let second : c.into_iter-start-iterator.result.b.rest.now ≡ a.depths.now = search rules in
+    let n = zip_end a.starts.now a.depths.now c.loop-start.yielded c.into_iter-start-iterator.result c.loop-start.start-iterator
+    c.next.new.self c.next.result first second c.loop-start.yielded_by c.in-None.is c.next.ensures.steps
+    in
+    rw (all_lines a.payload.now (length c.loop-start.yielded) a.starts.now a.depths.now (omega (arith, n))) at c.loop-start.invariant

@@ -1,13 +1,9 @@
--- Meets its contract. The invariant: the lines of the first i starts and depths are written.
-use Prim.Native.Nat.{◌≤◌, ◌-◌}
+-- Meets its contract. The invariant: the lines of the starts and depths before are written.
 use lib.ListN.{length, take}
+use Rattle.byte_output.specs.Maps.{Writes}
 use Rattle.evidence_output.specs.Listed.{lines_at}
-use Rattle.evidence_output.specs.Written.{Written}
 use Rattle.evidence_output.proofs.listed.put_proofs.Given as goal
 
-abbrev pub invariant-loop-i : goal.invariant-loop-i
-invariant-loop-i l = (l.i ≤ length l.starts) × (l.i ≤ length l.depths) × Written l.initial.out l.at
-    (lines_at l.payload (take l.i l.starts) (take l.i l.depths)) l.out l.next
-
-abbrev pub decreases-loop-i : goal.decreases-loop-i
-decreases-loop-i l = length l.starts - l.i
+abbrev pub invariant-loop-start : goal.invariant-loop-start
+invariant-loop-start l =
+    Writes l.initial.out (lines_at l.payload (take (length l.yielded) l.starts) (take (length l.yielded) l.depths)) l.out

@@ -11,19 +11,19 @@ loop-i-init c rules =
 
 pub operates-requires : goal.operates-requires
 operates-requires c =
-    c.requires.inside c.loop-i.i c.loop-i-test.true
+    (c.args.tables.there.proofs c.loop-i.i c.loop-i-test.true).inside
 
 pub returns-then-operates : goal.returns-then-operates
 returns-then-operates c rules =
-    found_here (proof_view rules c.args.payload.now) c.args.starts.now c.args.marks.now c.args.proposition c.loop-i.i
-    (c.loop-i.invariant rules) c.loop-i-test.true c.requires.starts_in_bounds (sym (c.operates.ensures rules) ∙ c.if-operates.true)
+    found_here (proof_view rules c.args.tables.payload.now) c.args.tables.starts.now c.args.marks.now c.args.proposition c.loop-i.i
+    (c.loop-i.invariant rules) c.loop-i-test.true c.requires (sym (c.operates.ensures rules) ∙ c.if-operates.true)
 
 pub loop-i-preserved : goal.loop-i-preserved
 loop-i-preserved c rules =
-    goes_on (proof_view rules c.args.payload.now) c.args.starts.now c.args.marks.now c.args.proposition c.loop-i.i
-    (c.loop-i.invariant rules) c.loop-i-test.true c.requires.starts_in_bounds (sym (c.operates.ensures rules) ∙ c.if-operates.false)
+    goes_on (proof_view rules c.args.tables.payload.now) c.args.tables.starts.now c.args.marks.now c.args.proposition c.loop-i.i
+    (c.loop-i.invariant rules) c.loop-i-test.true c.requires (sym (c.operates.ensures rules) ∙ c.if-operates.false)
 
 pub returns : goal.returns
 returns c rules =
-    none_left_lem (proof_view rules c.args.payload.now) c.args.starts.now c.args.marks.now c.args.proposition c.loop-i.i
+    none_left_lem (proof_view rules c.args.tables.payload.now) c.args.tables.starts.now c.args.marks.now c.args.proposition c.loop-i.i
     (c.loop-i.invariant rules) c.loop-i-test.false

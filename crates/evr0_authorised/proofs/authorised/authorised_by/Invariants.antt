@@ -1,6 +1,4 @@
 -- Meets its contract. The invariant: the first i proofs have nothing to say.
-use Prim.Native.Nat.{◌-◌}
-use lib.ListN.{length}
 use mathlib.Core.List.{List}
 use Rattle.derivation.specs.Rule.{Rule}
 use Rattle.evr0_pass.specs.View.{proof_view}
@@ -8,7 +6,4 @@ use Rattle.evr0_authorised.proofs.OperatesLaws.{LeftFrom}
 use Rattle.evr0_authorised.proofs.authorised.authorised_by.Given as goal
 
 abbrev pub invariant-loop-i : goal.invariant-loop-i
-invariant-loop-i l = (rules : List Rule) → LeftFrom (proof_view rules l.payload) l.starts l.marks l.proposition l.i
-
-abbrev pub decreases-loop-i : goal.decreases-loop-i
-decreases-loop-i l = length l.starts - l.i
+invariant-loop-i l = (rules : List Rule) → LeftFrom (proof_view rules l.tables.payload.now) l.tables.starts.now l.marks l.proposition l.i

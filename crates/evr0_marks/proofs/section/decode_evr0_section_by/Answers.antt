@@ -1,80 +1,40 @@
--- Meets its contract: what the decoder without marks leaves, with the rest of the depths and the marks, by `LeavesLaws`.
-use Prim.Native.Nat.{min}
-use mathlib.Core.Path.{◌≡◌, sym, ap, ◌∙◌}
-use lib.ListN.{length, take}
-use Rattle.evr0.specs.Answer as unmarked
-use Rattle.rule_table.specs.ByTable.{Given}
-use Rattle.evr0.specs.AnswerMaps.{outcome_out, answer_out, given_out}
-use Rattle.evr0_marks.specs.Answer.{Lent, with_marks}
-use Rattle.evr0_marks.proofs.LeavesLaws.{cut_length, whole, none, due_of, some}
+-- What the decoder without marks leaves, with the rest of the depths and the marks, by `LeavesLaws`.
+use mathlib.Core.Path.{ap, ◌∙◌}
+use native.Mathlib.Omega.{arith}
+use lib.ListN.{length}
+use Rattle.lent_table.specs.Lent.{lent}
+use Rattle.derivation.specs.Section.{Section}
+use Rattle.derivation.specs.Mark.{marks}
+use Rattle.local_format.specs.Maps.{answer_out}
+use Rattle.evr0.specs.AnswerMaps.{accepted_out}
+use Rattle.evr0_marks.proofs.LeavesLaws.{due_of, left_refused, left_accepted}
 use Rattle.evr0_marks.proofs.section.decode_evr0_section_by.Goals as goal
 
-pub slice_bounds-decode_evr0_by-end-2 : goal.slice_bounds-decode_evr0_by-end-2
-slice_bounds-decode_evr0_by-end-2 c =
-    let which : Given = let a = c.args in given_out a.rules a.table.now in
-    let brought : Lent =
+pub tables_of-tables-requires : goal.tables_of-tables-requires
+tables_of-tables-requires c =
     let a = c.args in
-    with_marks (unmarked.lent_of a.propositions.now a.proofs.now a.depths.now) a.marks.now in
-    sym (cut_length which c.args.bytes.now c.args.cursor brought c.least-room.ensures)
-
-pub fill_marks-requires : goal.fill_marks-requires
-fill_marks-requires c =
-    let which : Given = let a = c.args in given_out a.rules a.table.now in
-    let brought : Lent =
-    let a = c.args in
-    with_marks (unmarked.lent_of a.propositions.now a.proofs.now a.depths.now) a.marks.now in
-    let fewest : c.least-room.result ≡ min (length brought.others.depths) (length brought.marks) = c.least-room.ensures in
-    let left : unmarked.Lent =
     let d = c.decode_evr0_by-decoded in
-    unmarked.lent_of d.new.propositions d.new.proofs d.new.depths in
-    let leaves : let a = c.args in
-    unmarked.LeavesBy which a.bytes.now a.cursor (unmarked.lent_of a.propositions.now a.proofs.now (take c.least-room.result a.depths.now)) left
-    (answer_out c.decode_evr0_by-decoded.result) =
-    c.decode_evr0_by-decoded.ensures in
-    let kept : length left.depths ≡ c.least-room.result =
-    c.decode_evr0_by-decoded.auto.depths ∙ cut_length which c.args.bytes.now
-    c.args.cursor brought fewest in
-    due_of which _ _ brought fewest leaves kept (ap outcome_out c.in-Accepted.is)
+    (c.args.marks.now, due_of a.depths.now a.marks.now c.min-room.ensures d.ensures d.auto.depths (ap (answer_out accepted_out) c.in-Ok.is))
 
-pub returns-in-Refused : goal.returns-in-Refused
-returns-in-Refused c =
-    let which : Given = let a = c.args in given_out a.rules a.table.now in
-    let brought : Lent =
+pub mark_proofs-requires : goal.mark_proofs-requires
+mark_proofs-requires c =
     let a = c.args in
-    with_marks (unmarked.lent_of a.propositions.now a.proofs.now a.depths.now) a.marks.now in
-    let fewest : c.least-room.result ≡ min (length brought.others.depths) (length brought.marks) = c.least-room.ensures in
-    let left : unmarked.Lent =
     let d = c.decode_evr0_by-decoded in
-    unmarked.lent_of d.new.propositions d.new.proofs d.new.depths in
-    let leaves : let a = c.args in
-    unmarked.LeavesBy which a.bytes.now a.cursor (unmarked.lent_of a.propositions.now a.proofs.now (take c.least-room.result a.depths.now)) left
-    (answer_out c.decode_evr0_by-decoded.result) =
-    c.decode_evr0_by-decoded.ensures in
-    let kept : length left.depths ≡ c.least-room.result =
-    c.decode_evr0_by-decoded.auto.depths ∙ cut_length which c.args.bytes.now
-    c.args.cursor brought fewest in
-    whole which _ _ brought fewest leaves kept c.clear_from.ensures
-    (none which _ _ brought fewest leaves kept (ap outcome_out c.in-Refused.is)
-    c.clear_bytes_from.ensures)
+    let of = due_of a.depths.now a.marks.now c.min-room.ensures d.ensures d.auto.depths (ap (answer_out accepted_out) c.in-Ok.is) in
+    omega (arith, of.due.fits, c.tables_of-tables.ensures.total)
 
-pub returns-in-Accepted : goal.returns-in-Accepted
-returns-in-Accepted c =
-    let which : Given = let a = c.args in given_out a.rules a.table.now in
-    let brought : Lent =
+pub returns-in-Err : goal.returns-in-Err
+returns-in-Err c =
     let a = c.args in
-    with_marks (unmarked.lent_of a.propositions.now a.proofs.now a.depths.now) a.marks.now in
-    let fewest : c.least-room.result ≡ min (length brought.others.depths) (length brought.marks) = c.least-room.ensures in
-    let left : unmarked.Lent =
     let d = c.decode_evr0_by-decoded in
-    unmarked.lent_of d.new.propositions d.new.proofs d.new.depths in
-    let leaves : let a = c.args in
-    unmarked.LeavesBy which a.bytes.now a.cursor (unmarked.lent_of a.propositions.now a.proofs.now (take c.least-room.result a.depths.now)) left
-    (answer_out c.decode_evr0_by-decoded.result) =
-    c.decode_evr0_by-decoded.ensures in
-    let kept : length left.depths ≡ c.least-room.result =
-    c.decode_evr0_by-decoded.auto.depths ∙ cut_length which c.args.bytes.now
-    c.args.cursor brought fewest in
-    let accepted = ap outcome_out c.in-Accepted.is in
-    whole which _ _ brought fewest leaves kept c.clear_from.ensures
-    (some which _ _ brought fewest leaves kept accepted
-    (c.fill_marks.ensures (due_of which _ _ brought fewest leaves kept accepted)))
+    left_refused a.depths.now a.marks.now c.min-room.ensures d.ensures d.auto.depths c.clear_from.ensures (ap (answer_out accepted_out) c.in-Err.is)
+    c.clear_from-in-Err.ensures
+
+pub returns-in-Ok : goal.returns-in-Ok
+returns-in-Ok c =
+    let a = c.args in
+    let d = c.decode_evr0_by-decoded in
+    let e = ap (answer_out accepted_out) c.in-Ok.is in
+    let of = due_of a.depths.now a.marks.now c.min-room.ensures d.ensures d.auto.depths e in
+    left_accepted a.depths.now a.marks.now c.min-room.ensures d.ensures d.auto.depths e c.clear_from.ensures
+    (c.mark_proofs.ensures of.due.rules ∙ ap (λ (s : Section). lent (length a.marks.now) (marks s)) (c.tables_of-tables.ensures.is _ of))

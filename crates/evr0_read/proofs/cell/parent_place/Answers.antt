@@ -1,13 +1,11 @@
--- Meets its contract: so many cells before the end, or 0.
-use native.Mathlib.Omega.{arith}
+-- So many cells before the end, or 0.
 use Rattle.evr0_read.proofs.PlaceLaws.{parent_there, parent_none}
 use Rattle.evr0_read.proofs.cell.parent_place.Goals as goal
 
 pub returns-then-counts-i : goal.returns-then-counts-i
 returns-then-counts-i c =
-    parent_none _ _ _ (omega (arith, c.if-counts-i.true, c.wide-i.ensures))
+    parent_none _ _ _ c.if-counts-i.true
 
 pub returns : goal.returns
 returns c =
-    let w = c.wide-i.ensures in
-    parent_there _ _ _ (omega (arith, c.if-counts-i.false, w)) (omega (arith, c.before_parents.ensures, w))
+    parent_there _ _ _ c.if-counts-i.false c.before_parents.ensures

@@ -1,85 +1,63 @@
--- Meets its contract: the numbers of the record are read at their places, and its cells are checked, by `KinLaws`.
+-- Each turn is one step of the definition: what is answered from the cell reached on is the whole answer.
 use borrow.Author.Rules.{rules}
-use Prim.Native.Nat.{◌+◌, ◌≤◌}
-use mathlib.Core.Path.{◌≡◌, ◌∙◌}
+use Prim.Native.Nat.{ℕ, ◌+◌, ◌-◌}
+use mathlib.Core.Path.{◌≡◌, sym, ap, ◌∙◌}
+use mathlib.Core.List.{[]}
 use native.Mathlib.Omega.{arith}
-use lib.ListN.{length, get_or}
-use Rattle.local_format.specs.Field.{le}
-use Rattle.evr0_pass.specs.View.{ProofThere}
+use Rattle.local_format.specs.Out.{Out, ok, refused, ◌>>◌}
+use Rattle.local_format.specs.Maps.{answer_out, refusal_out}
+use Rattle.derivation.specs.Section.{proof_at}
+use Rattle.derivation.proofs.Laws.{parents_none}
 use Rattle.evr0_pass.specs.Maps.{layout_out}
-use Rattle.evr0_rounds.proofs.KinLaws.{kin_read}
-use Rattle.evr0_rounds.proofs.MarkLaws.{parents_there}
+use Rattle.evr0_pass.specs.Tables.{tables_by}
+use Rattle.evr0_rounds.proofs.TablesLaws.{number_is}
+use Rattle.evr0_rounds.proofs.KinLaws.{begins, step_25, step_26, step_on}
 use Rattle.evr0_rounds.proofs.kin.check_parents.Goals as goal
 
-pub after_name-rest-requires : goal.after_name-rest-requires
-after_name-rest-requires c =
-    let there : ProofThere c.args.payload.now (layout_out c.args.tables) (get_or c.args.starts.now c.args.i 0) c.args.i =
-    c.requires.0.proofs c.args.i c.requires.1 in
-    omega (arith, there.inside)
+abbrev pass : Out ℕ → Out (Unit {0})
+pass x = x >> ok tt
 
-pub overflow_add-start : goal.overflow_add-start
-overflow_add-start c =
-    let there : ProofThere c.args.payload.now (layout_out c.args.tables) (get_or c.args.starts.now c.args.i 0) c.args.i =
-    c.requires.0.proofs c.args.i c.requires.1 in
-    let inside : c.after_name-rest.result + 24 ≤ length c.args.payload.now = omega (arith, there.inside, c.after_name-rest.ensures) in
-    omega (arith, inside)
+pub loop-cell-init : goal.loop-cell-init
+loop-cell-init c rs =
+    let t = c.args.tables in
+    begins t.layout.parents_at (tables_by rs t) (proof_at (tables_by rs t) c.args.i)
+    (number_is rs t.payload.now t.starts.now (layout_out t.layout) c.args.i c.requires (t.there.proofs c.args.i c.requires))
+    (c.cells-first.ensures.numbers rs).0 (c.cells-first.ensures.numbers rs).1
 
-pub u32_at-requires : goal.u32_at-requires
-u32_at-requires c =
-    let there : ProofThere c.args.payload.now (layout_out c.args.tables) (get_or c.args.starts.now c.args.i 0) c.args.i =
-    c.requires.0.proofs c.args.i c.requires.1 in
-    let inside : c.after_name-rest.result + 24 ≤ length c.args.payload.now = omega (arith, there.inside, c.after_name-rest.ensures) in
-    omega (arith, inside, there.inside)
+pub returns-in_err-check : goal.returns-in_err-check
+returns-in_err-check c rs =
+    let t = c.args.tables in
+    let e : answer_out (λ done. done) c.from_residual.result ≡ refused (refusal_out c.in_err-check.field-0.0) = search rules in
+    let number = number_is rs t.payload.now t.starts.now (layout_out t.layout) c.args.i c.requires (t.there.proofs c.args.i c.requires) in
+    rw e
+    (ap pass (sym (step_25 t.layout.parents_at (tables_by rs t) (proof_at (tables_by rs t) c.args.i) number _ c.loop-cell.cell c.loop-cell.least
+    (omega arith) (c.parent-found.ensures rs) c.in_err-check.ensures)
+    ∙ c.loop-cell.invariant rs))
 
-pub u32_at-requires-2 : goal.u32_at-requires-2
-u32_at-requires-2 c =
-    let there : ProofThere c.args.payload.now (layout_out c.args.tables) (get_or c.args.starts.now c.args.i 0) c.args.i =
-    c.requires.0.proofs c.args.i c.requires.1 in
-    let inside : c.after_name-rest.result + 24 ≤ length c.args.payload.now = omega (arith, there.inside, c.after_name-rest.ensures) in
-    omega (arith, inside)
+pub returns-in_err-check-2 : goal.returns-in_err-check-2
+returns-in_err-check-2 c rs =
+    let t = c.args.tables in
+    let e : answer_out (λ done. done) c.from_residual-in_err-check-2.result ≡ refused (refusal_out c.in_err-check-2.field-0.0) = search rules in
+    let number = number_is rs t.payload.now t.starts.now (layout_out t.layout) c.args.i c.requires (t.there.proofs c.args.i c.requires) in
+    rw e
+    (ap pass (sym (step_26 t.layout.parents_at (tables_by rs t) (proof_at (tables_by rs t) c.args.i) number _ c.loop-cell.cell c.loop-cell.least
+    (omega arith) (c.parent-found.ensures rs) c.in_ok-check.ensures (c.agree.ensures rs) c.in_err-check-2.ensures)
+    ∙ c.loop-cell.invariant rs))
 
-pub overflow_add-rest : goal.overflow_add-rest
-overflow_add-rest c =
-    let there : ProofThere c.args.payload.now (layout_out c.args.tables) (get_or c.args.starts.now c.args.i 0) c.args.i =
-    c.requires.0.proofs c.args.i c.requires.1 in
-    let inside : c.after_name-rest.result + 24 ≤ length c.args.payload.now = omega (arith, there.inside, c.after_name-rest.ensures) in
-    omega (arith, inside)
-
-pub u32_at-requires-3 : goal.u32_at-requires-3
-u32_at-requires-3 c =
-    let there : ProofThere c.args.payload.now (layout_out c.args.tables) (get_or c.args.starts.now c.args.i 0) c.args.i =
-    c.requires.0.proofs c.args.i c.requires.1 in
-    let inside : c.after_name-rest.result + 24 ≤ length c.args.payload.now = omega (arith, there.inside, c.after_name-rest.ensures) in
-    omega (arith, inside)
-
-pub overflow_add-rest-2 : goal.overflow_add-rest-2
-overflow_add-rest-2 c =
-    let there : ProofThere c.args.payload.now (layout_out c.args.tables) (get_or c.args.starts.now c.args.i 0) c.args.i =
-    c.requires.0.proofs c.args.i c.requires.1 in
-    let inside : c.after_name-rest.result + 24 ≤ length c.args.payload.now = omega (arith, there.inside, c.after_name-rest.ensures) in
-    omega (arith, inside)
-
-pub u32_at-requires-4 : goal.u32_at-requires-4
-u32_at-requires-4 c =
-    let there : ProofThere c.args.payload.now (layout_out c.args.tables) (get_or c.args.starts.now c.args.i 0) c.args.i =
-    c.requires.0.proofs c.args.i c.requires.1 in
-    let inside : c.after_name-rest.result + 24 ≤ length c.args.payload.now = omega (arith, there.inside, c.after_name-rest.ensures) in
-    omega (arith, inside)
-
-pub check_cells-requires : goal.check_cells-requires
-check_cells-requires c =
-    let there : ProofThere c.args.payload.now (layout_out c.args.tables) (get_or c.args.starts.now c.args.i 0) c.args.i =
-    c.requires.0.proofs c.args.i c.requires.1 in
-    let first-is : c.wide.result ≡ le 4 c.args.payload.now (c.after_name-rest.result + 12) = c.wide.ensures ∙ c.u32_at-3.ensures in
-    let count_is : c.wide-2.result ≡ le 4 c.args.payload.now (c.after_name-rest.result + 16) = c.wide-2.ensures ∙ c.u32_at-4.ensures in
-    record { tables_there = (c.requires.0, omega (arith, c.requires.1)); count_bound = parents_there there c.after_name-rest.ensures first-is count_is }
+pub loop-cell-preserved : goal.loop-cell-preserved
+loop-cell-preserved c rs =
+    let t = c.args.tables in
+    let l = c.loop-cell in
+    let number = number_is rs t.payload.now t.starts.now (layout_out t.layout) c.args.i c.requires (t.there.proofs c.args.i c.requires) in
+    let left : c.cells-first.result.1 - (l.cell + 1) ≡ c.cells-first.result.1 - l.cell - 1 = omega arith in
+    rw left
+    (sym (step_on t.layout.parents_at (tables_by rs t) (proof_at (tables_by rs t) c.args.i) number (c.cells-first.result.1 - l.cell) l.cell l.least
+    (omega arith) (c.parent-found.ensures rs) c.in_ok-check.ensures (c.agree.ensures rs) c.in_ok-check-2.ensures)
+    ∙ l.invariant rs)
 
 pub returns : goal.returns
-returns c rules =
-    let there : ProofThere c.args.payload.now (layout_out c.args.tables) (get_or c.args.starts.now c.args.i 0) c.args.i =
-    c.requires.0.proofs c.args.i c.requires.1 in
-    let first-is : c.wide.result ≡ le 4 c.args.payload.now (c.after_name-rest.result + 12) = c.wide.ensures ∙ c.u32_at-3.ensures in
-    let count_is : c.wide-2.result ≡ le 4 c.args.payload.now (c.after_name-rest.result + 16) = c.wide-2.ensures ∙ c.u32_at-4.ensures in
-    let a = c.args in
-    kin_read rules a.payload.now a.starts.now (layout_out a.tables) a.i c.requires.1 there c.after_name-rest.ensures
-    c.u32_at.ensures c.u32_at-2.ensures first-is count_is (λ q. c.check_cells.ensures rules q)
+returns c rs =
+    let t = c.args.tables in
+    let l = c.loop-cell in
+    ap pass (sym (parents_none t.layout.parents_at (tables_by rs t) (proof_at (tables_by rs t) c.args.i) [] _ l.cell l.least 0 (omega arith))
+    ∙ l.invariant rs)

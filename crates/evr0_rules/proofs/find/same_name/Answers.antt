@@ -1,6 +1,6 @@
--- The invariant: the rest from `i` on is equal where the whole is. The last word is the same, so nothing is left at its start.
+-- The invariant: the rest from a word on is equal where the whole is. The last word is the same, so nothing is left at its start.
 use borrow.Author.Tests.{eq-eqb}
-use Prim.Native.Nat.{ℕ, ◌+◌}
+use Prim.Native.Nat.{ℕ, ◌+◌, ◌*◌}
 use mathlib.Core.Path.{◌≡◌, refl, sym, ap₂, ◌∙◌}
 use mathlib.Core.Bool.{◌&&◌}
 use mathlib.Core.List.{List}
@@ -20,33 +20,34 @@ pub returns-then-len-lt8 : goal.returns-then-len-lt8
 returns-then-len-lt8 c =
     c.same.ensures
 
-pub returns-then-u64_at : goal.returns-then-u64_at
-returns-then-u64_at c =
+pub returns-then-le_at : goal.returns-then-le_at
+returns-then-le_at c =
     let a : List ℕ = c.args.a.now in
     let b : List ℕ = c.args.b.now in
-    word_differs a b _ (λ e. c.if-u64_at.true (c.u64_at.ensures ∙ e ∙ sym c.u64_at-2.ensures))
+    word_differs a b _ (λ e. c.if-le_at.true (c.le_at.ensures ∙ e ∙ sym c.le_at-2.ensures))
 
-pub loop-i-init : goal.loop-i-init
-loop-i-init c =
+pub loop-step-init : goal.loop-step-init
+loop-step-init c =
     refl
 
-pub returns-then-u64_at-2 : goal.returns-then-u64_at-2
-returns-then-u64_at-2 c =
+pub returns-then-le_at-2 : goal.returns-then-le_at-2
+returns-then-le_at-2 c =
     let a : List ℕ = c.args.a.now in
     let b : List ℕ = c.args.b.now in
-    let i : ℕ = c.loop-i.i in
-    word_differs a b i (λ e. c.if-u64_at-2.true (c.u64_at-in-loop-i.ensures ∙ e ∙ sym c.u64_at-in-loop-i-2.ensures))
+    let i : ℕ = 8 * c.loop-step.step in
+    word_differs a b i (λ e. c.if-le_at-2.true (c.le_at-in-loop-step.ensures ∙ e ∙ sym c.le_at-in-loop-step-2.ensures))
 
-pub loop-i-preserved : goal.loop-i-preserved
-loop-i-preserved c =
-    let i : ℕ = c.loop-i.i in
+pub loop-step-preserved : goal.loop-step-preserved
+loop-step-preserved c =
+    let i : ℕ = 8 * c.loop-step.step in
     let a : List ℕ = c.args.a.now in
     let b : List ℕ = c.args.b.now in
-    let eight : equal (drop i a) (drop i b) ≡ (eqb c.u64_at-in-loop-i.result c.u64_at-in-loop-i-2.result && equal (drop (i + 8) a) (drop (i + 8) b)) =
+    let eight : equal (drop i a) (drop i b) ≡ (eqb c.le_at-in-loop-step.result c.le_at-in-loop-step-2.result && equal (drop (i + 8) a) (drop (i + 8) b)) =
     turns 8 a b (λ k. (c.type_inv.a k).fits) (λ k. (c.type_inv.b k).fits) i
     (omega arith) (omega arith)
-    ∙ ap₂ (λ (x y : ℕ). eqb x y && equal (drop (i + 8) a) (drop (i + 8) b)) (sym c.u64_at-in-loop-i.ensures) (sym c.u64_at-in-loop-i-2.ensures) in
-    sym (eight ∙ simp (eq-eqb _ _ c.if-u64_at-2.false)) ∙ c.loop-i.invariant
+    ∙ ap₂ (λ (x y : ℕ). eqb x y && equal (drop (i + 8) a) (drop (i + 8) b)) (sym c.le_at-in-loop-step.ensures) (sym c.le_at-in-loop-step-2.ensures) in
+    let next : 8 * (c.loop-step.step + 1) ≡ i + 8 = omega arith in
+    rw next (sym (eight ∙ simp (eq-eqb _ _ c.if-le_at-2.false)) ∙ c.loop-step.invariant)
 
 pub returns : goal.returns
 returns c =
@@ -54,5 +55,5 @@ returns c =
     let b : List ℕ = c.args.b.now in
     sym (end_same a b (λ k. (c.type_inv.a k).fits) (λ k. (c.type_inv.b k).fits)
     (omega arith) (omega arith)
-    (sym c.u64_at.ensures ∙ c.if-u64_at.false ∙ c.u64_at-2.ensures) c.loop-i.i (omega arith))
-    ∙ c.loop-i.invariant
+    (sym c.le_at.ensures ∙ c.if-le_at.false ∙ c.le_at-2.ensures) (8 * c.loop-step.step) (omega arith))
+    ∙ c.loop-step.invariant

@@ -11,4 +11,4 @@ unfolding rule_in
 returns c =
     let t : List ℕ = c.args.table.now in
     let n : ℕ = c.args.at + 2 + le 2 t c.args.at in
-    rw (c.u16_at.ensures, le_1 t n, le_1 t (n + 1), le_1 t (n + 2), le_1 t (n + 3))
+    rw (c.le_at.ensures, le_1 t n, le_1 t (n + 1), le_1 t (n + 2), le_1 t (n + 3))

@@ -1,60 +1,37 @@
 -- Meets its contract, as read_propositions does, with the next witness's number as the state; no starts are kept.
-use Prim.Native.Nat.{ℕ, ◌+◌}
-use mathlib.Core.Path.{sym, ap, ◌∙◌}
-use mathlib.Core.List.{[], ◌∷◌, ◌++◌}
+use Prim.Native.Nat.{ℕ}
+use mathlib.Core.Path.{ap, ◌∙◌, sym}
 use native.Mathlib.Omega.{arith}
+use Rattle.std.proofs.Common.{rules}
 use Rattle.local_format.specs.Out.{refused}
-use Rattle.local_format.specs.Maps.{refusal_out}
-use Rattle.local_format.proofs.OutLaws.{told}
 use Rattle.evr0_section.specs.Head.{span_width}
 use Rattle.evr0_section.specs.Witness.{witness_row}
 use Rattle.evr0_section.proofs.Inside.{witness_row_in}
-use Rattle.evr0_head.specs.Maps.{counts_out}
-use Rattle.evr0_tables.specs.Maps.{size_out, next_in}
-use Rattle.evr0_tables.proofs.RowLaws.{witness_kept, size_kept}
-use Rattle.evr0_tables.proofs.TableLaws.{Stands, Stopped, starting, advance, stop, read_next}
+use Rattle.evr0_tables.specs.Maps.{next_in}
+use Rattle.evr0_tables.proofs.RowLaws.{witness_kept, size_kept, read_there, refused_there}
+use Rattle.evr0_tables.proofs.TableLaws.{advance, stop, read_next}
 use Rattle.evr0_tables.proofs.tables.read_witnesses.Goals as goal
 
-pub loop-i-init : goal.loop-i-init
-loop-i-init c =
-    ([], starting (witness_row (span_width c.args.schema) _) _ _ _ 0 c.requires)
+pub returns-in_err-place : goal.returns-in_err-place
+returns-in_err-place c =
+    let width : ℕ = span_width c.args.schema in
+    let q = refused_there (λ n. n) _ _ c.next_witness.ensures c.in_err-place.ensures in
+    let e = stop c.loop-number.invariant.1 (witness_row_in _ width _ _) (omega arith) (size_kept (witness_row width _ _ _) q.1) (omega arith) in
+    rw (ap next_in e ∙ ap refused (sym q.2)) (search rules)
 
 pub overflow_add-place : goal.overflow_add-place
 overflow_add-place c =
     let width : ℕ = span_width c.args.schema in
-    let on : Stands (witness_row width (counts_out c.args.counts)) c.args.payload.now c.args.counts.witnesses c.args.at 0 (c.loop-i.i + 1)
-    (c.loop-i.place + c.in-Bytes.size) (c.loop-i.i + 1) (c.loop-i.invariant.0 ++ (c.loop-i.place ∷ [])) =
-    advance c.loop-i.invariant.1 (witness_row_in _ width _ _) (omega arith)
-    (witness_kept width _ _ _ (told size_out c.next_witness-row.ensures c.in-Bytes.is)) in
+    let k = witness_kept width _ _ _ (read_there (λ n. n) _ _ c.next_witness.ensures c.in_ok-place.ensures) in
+    let on = advance c.loop-number.invariant.1 (witness_row_in _ width _ _) (omega arith) k in
     omega (arith, on.within)
 
-pub loop-i-preserved : goal.loop-i-preserved
-loop-i-preserved c =
+pub loop-number-preserved : goal.loop-number-preserved
+loop-number-preserved c =
     let width : ℕ = span_width c.args.schema in
-    let on : Stands (witness_row width (counts_out c.args.counts)) c.args.payload.now c.args.counts.witnesses c.args.at 0 (c.loop-i.i + 1)
-    (c.loop-i.place + c.in-Bytes.size) (c.loop-i.i + 1) (c.loop-i.invariant.0 ++ (c.loop-i.place ∷ [])) =
-    advance c.loop-i.invariant.1 (witness_row_in _ width _ _) (omega arith)
-    (witness_kept width _ _ _ (told size_out c.next_witness-row.ensures c.in-Bytes.is)) in
-    (_, on)
-
-pub moved-requires : goal.moved-requires
-moved-requires c =
-    let width : ℕ = span_width c.args.schema in
-    let stopped : Stopped (witness_row width (counts_out c.args.counts)) c.args.payload.now c.args.counts.witnesses c.args.at 0 c.loop-i.place
-    (refusal_out c.in-Refused.r) =
-    stop c.loop-i.invariant.1 (witness_row_in _ width _ _) (omega arith)
-    (size_kept (witness_row width _ _ _) (told size_out c.next_witness-row.ensures c.in-Refused.is)) in
-    omega (arith, stopped.within)
-
-pub returns-in-Refused : goal.returns-in-Refused
-returns-in-Refused c =
-    let width : ℕ = span_width c.args.schema in
-    let stopped : Stopped (witness_row width (counts_out c.args.counts)) c.args.payload.now c.args.counts.witnesses c.args.at 0 c.loop-i.place
-    (refusal_out c.in-Refused.r) =
-    stop c.loop-i.invariant.1 (witness_row_in _ width _ _) (omega arith)
-    (size_kept (witness_row width _ _ _) (told size_out c.next_witness-row.ensures c.in-Refused.is)) in
-    ap refused c.moved.ensures ∙ sym (ap next_in stopped.is)
+    let k = witness_kept width _ _ _ (read_there (λ n. n) _ _ c.next_witness.ensures c.in_ok-place.ensures) in
+    (_, advance c.loop-number.invariant.1 (witness_row_in _ width _ _) (omega arith) k)
 
 pub returns : goal.returns
 returns c =
-    read_next c.loop-i.invariant.1 (omega arith)
+    read_next c.loop-number.invariant.1 (omega arith)

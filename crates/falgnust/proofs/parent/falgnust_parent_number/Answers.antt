@@ -1,7 +1,7 @@
--- The flat struct holds what `parent_number` answers, and the tables are as it left them.
+-- The flat struct holds what is told of the record by the four, and the tables are as they were left.
+use Rattle.falgnust.specs.EntryMaps.{flat_parent}
+use Rattle.falgnust.proofs.EntryLaws.{mapped}
 use Rattle.falgnust.proofs.parent.falgnust_parent_number.Goals as goal
 
 pub returns : goal.returns
-returns c =
-    let read = c.parent_number-entry.ensures in
-    record { answer = rw (c.flat_parent.ensures, read.answer); tables = read.tables }
+returns c = mapped flat_parent c.args.bytes.now c.args.cursor c.by_number.ensures c.into.ensures

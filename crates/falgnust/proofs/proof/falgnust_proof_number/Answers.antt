@@ -1,7 +1,7 @@
--- The flat struct holds what `proof_number` answers, and the tables are as it left them.
+-- The flat struct holds what is told of the record by the four, and the tables are as they were left.
+use Rattle.falgnust.specs.EntryMaps.{flat_proof}
+use Rattle.falgnust.proofs.EntryLaws.{mapped}
 use Rattle.falgnust.proofs.proof.falgnust_proof_number.Goals as goal
 
 pub returns : goal.returns
-returns c =
-    let read = c.proof_number-entry.ensures in
-    record { answer = rw (c.flat_proof.ensures, read.answer); tables = read.tables }
+returns c = mapped flat_proof c.args.bytes.now c.args.cursor c.by_number.ensures c.into.ensures

@@ -1,7 +1,7 @@
--- The flat struct holds what `proposition_number` answers, and the tables are as it left them.
+-- The flat struct holds what is told of the record by the four, and the tables are as they were left.
+use Rattle.falgnust.specs.EntryMaps.{flat_proposition}
+use Rattle.falgnust.proofs.EntryLaws.{mapped}
 use Rattle.falgnust.proofs.proposition.falgnust_proposition_number.Goals as goal
 
 pub returns : goal.returns
-returns c =
-    let read = c.proposition_number-entry.ensures in
-    record { answer = rw (c.flat_proposition.ensures, read.answer); tables = read.tables }
+returns c = mapped flat_proposition c.args.bytes.now c.args.cursor c.by_number.ensures c.into.ensures

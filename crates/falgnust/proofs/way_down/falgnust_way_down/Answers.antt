@@ -1,7 +1,7 @@
--- The flat struct holds what `way_down` answers, and the tables are as it left them.
+-- The flat struct holds what is told of the way by the four, and the tables are as they were left.
+use Rattle.falgnust.specs.EntryMaps.{flat_way}
+use Rattle.falgnust.proofs.EntryLaws.{mapped}
 use Rattle.falgnust.proofs.way_down.falgnust_way_down.Goals as goal
 
 pub returns : goal.returns
-returns c =
-    let read = c.way_down-way.ensures in
-    record { answer = rw (c.flat_way_down.ensures, read.answer); tables = read.tables }
+returns c = mapped flat_way c.args.bytes.now c.args.cursor c.way_down.ensures c.into.ensures

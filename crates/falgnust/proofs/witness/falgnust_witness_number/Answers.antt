@@ -1,7 +1,8 @@
--- The flat struct holds what `witness_number` answers, and the tables are as it left them.
+-- The flat struct holds what is told of the record by the four, and the tables are as they were left.
+use Rattle.evr0_read.specs.Maps.{witness_beside}
+use Rattle.falgnust.specs.EntryMaps.{flat_witness}
+use Rattle.falgnust.proofs.EntryLaws.{mapped}
 use Rattle.falgnust.proofs.witness.falgnust_witness_number.Goals as goal
 
 pub returns : goal.returns
-returns c =
-    let read = c.witness_number-entry.ensures in
-    record { answer = rw (c.flat_witness.ensures, ← read.answer); tables = read.tables }
+returns c = mapped (λ x. flat_witness (witness_beside x)) c.args.bytes.now c.args.cursor c.by_number.ensures c.into.ensures

@@ -1,4 +1,4 @@
--- The invariant of both loops: the rest from `i` on is equal where the whole is.
+-- The invariant: the rest from `i` on is equal where the whole is.
 use mathlib.Core.Path.{◌≡◌}
 use Prim.Native.Nat.{ℕ, ◌-◌, ◌≤◌}
 use mathlib.Core.List.{List}
@@ -14,9 +14,3 @@ invariant-loop-i l = Same l.a l.b l.i
 
 abbrev pub decreases-loop-i : goal.decreases-loop-i
 decreases-loop-i l = length l.a - l.i
-
-abbrev pub invariant-loop-i-2 : goal.invariant-loop-i-2
-invariant-loop-i-2 l = Same l.a l.b l.i
-
-abbrev pub decreases-loop-i-2 : goal.decreases-loop-i-2
-decreases-loop-i-2 l = length l.a - l.i

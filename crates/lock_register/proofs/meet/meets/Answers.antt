@@ -2,7 +2,7 @@
 use native.Mathlib.Omega.{arith}
 use mathlib.Core.Path.{sym, ◌∙◌}
 use Rattle.lock_register.proofs.MeetLaws.{other_symbol, own, reads as borrows, other_parts, decided}
-use Rattle.lock_register.proofs.meet.meets.Goals.{then-lock-eq0+else-key-eq0, else-lock-eq0}
+use Rattle.lock_register.proofs.meet.meets.Goals.{else-lock-eq0-via-then-lock-eq0+else-key-eq0, else-lock-eq0-via-else-lock-eq0}
 use Rattle.lock_register.proofs.meet.meets.Goals as goal
 
 pub returns-then-lock-key : goal.returns-then-lock-key
@@ -25,5 +25,8 @@ pub returns : goal.returns
 returns c =
     c.same_source.ensures
     ∙ decided _ _ (λ e. omega arith)
-    (λ p q. elim c.if-lock-eq0.branch [ then-lock-eq0+else-key-eq0 w ↦ omega arith | else-lock-eq0 w ↦ omega arith ]) (omega arith)
+    (λ p q. elim c.else-lock-eq0.branch [
+      | else-lock-eq0-via-then-lock-eq0+else-key-eq0 w ↦ w.if-key-eq0.false q
+      | else-lock-eq0-via-else-lock-eq0 w ↦ w.if-lock-eq0.false p
+    ]) (omega arith)
     (sym c.parts_touch.ensures ∙ c.if-not-parts_touch.false)

@@ -1,11 +1,7 @@
--- Meets its contract: four words of eight bytes each.
-use Rattle.lock_words.proofs.SourceLaws.{these, whole}
+-- Meets its contract: four numbers of eight bytes.
+use Rattle.lock_words.proofs.SourceLaws.{words_whole}
 use Rattle.lock_words.proofs.source.source_words.Goals as goal
 
 pub returns : goal.returns
-unfolding these
 returns c =
-    whole c.args.source.now
-    c.source_word-a.result c.source_word-b.result c.source_word-c.result c.source_word-d.result
-    c.requires
-    c.source_word-a.ensures c.source_word-b.ensures c.source_word-c.ensures c.source_word-d.ensures
+    words_whole _ _ _ _ _ c.fits-source c.told-source c.le_at.ensures c.le_at-2.ensures c.le_at-3.ensures c.le_at-4.ensures

@@ -1,40 +1,22 @@
--- Meets its contract: each return puts the count and the tests so far into the definition.
-use borrow.Author.Tests.{lt-leb, le-leb}
-use Rattle.semcode_decode.specs.Block.{family_table}
+-- Where the count is read, by the reader's places.
+use Rattle.std.proofs.Common.{◌∙◌, sym, rules}
+use Rattle.semcode_records.specs.Records.{records}
+use Rattle.semcode_records.proofs.RecordsLaws.{places, ends_places, tells_places}
+use Rattle.semcode_decode.specs.Block.{family_at, family_table}
+use Rattle.semcode_decode.proofs.TableLaws.{extent_ends}
+use Rattle.semcode_decode.proofs.SignatureLaws.{extent_refused}
 use Rattle.semcode_decode.proofs.signature.family_table.Goals as goal
 
-pub returns-in_default : goal.returns-in_default
+pub returns-in_err-end : goal.returns-in_err-end
 unfolding family_table
-returns-in_default c =
-    rw (← c.read_u16_le-field.ensures, c.in_default.is, c.refuse.ensures)
-
-pub returns-then-count-gt-MAX_SIGNATURE_PARAMETERS_PER_FUNCTION : goal.returns-then-count-gt-MAX_SIGNATURE_PARAMETERS_PER_FUNCTION
-unfolding family_table
-returns-then-count-gt-MAX_SIGNATURE_PARAMETERS_PER_FUNCTION c =
-    rw (
-      ← c.read_u16_le-field.ensures,
-      c.in-Value.is,
-      lt-leb _ _ c.if-count-gt-MAX_SIGNATURE_PARAMETERS_PER_FUNCTION.true,
-      c.refuse-then-count-gt-MAX_SIGNATURE_PARAMETERS_PER_FUNCTION.ensures,
-    )
-
-pub returns-then-families-count : goal.returns-then-families-count
-unfolding family_table
-returns-then-families-count c =
-    rw (
-      ← c.read_u16_le-field.ensures,
-      c.in-Value.is,
-      le-leb _ _ c.if-count-gt-MAX_SIGNATURE_PARAMETERS_PER_FUNCTION.false,
-      lt-leb _ _ c.if-families-count.true,
-      c.refuse-then-families-count.ensures,
-    )
+returns-in_err-end c =
+    let read = family_at c.args.bytes.now in
+    let e = c.in_err-end.ensures (places read) (tells_places read (λ place r fits h. h)) ∙ ends_places read _ _ in
+    rw (← c.in-Some.ensures, ← c.in_ok-check.ensures, ← c.in_ok-check-2.ensures, extent_refused (records read _ _) (sym e)) (search rules)
 
 pub returns : goal.returns
 unfolding family_table
 returns c =
-    rw (
-      ← c.read_u16_le-field.ensures,
-      c.in-Value.is,
-      le-leb _ _ c.if-count-gt-MAX_SIGNATURE_PARAMETERS_PER_FUNCTION.false,
-      le-leb _ _ c.if-families-count.false,
-    ) c.skip_families.ensures
+    let read = family_at c.args.bytes.now in
+    let e = c.in_ok-end.ensures (places read) (tells_places read (λ place r fits h. h)) ∙ ends_places read _ _ in
+    rw (← c.in-Some.ensures, ← c.in_ok-check.ensures, ← c.in_ok-check-2.ensures) (sym (extent_ends read _ _ (sym e)))

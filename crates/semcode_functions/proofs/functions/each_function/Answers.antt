@@ -1,20 +1,18 @@
--- Meets its contract. The invariant: what is told of the functions read so far, then of the rest from the place on.
+-- What is told of the functions read so far, then of the rest from the place on.
 use Prim.Native.Nat.{ℕ, ◌+◌, ◌≤◌, ◌<◌}
 use native.Mathlib.Omega.{arith}
 use mathlib.Core.Path.{◌≡◌, refl, ap, sym, ◌∙◌}
 use mathlib.Core.List.{List, []}
-use lib.ListN.{length, set, length-set}
-use Rattle.local_format.specs.Refusal.{Refusal}
-use Rattle.local_format.specs.Out.{Out, ok, refused, refuse}
+use lib.ListN.{length, length-set}
+use Rattle.std.proofs.Common.{rules}
+use Rattle.local_format.specs.Out.{Out, refused, refuse}
 use Rattle.lent_table.specs.Lent.{lent}
 use Rattle.semcode_records.specs.Records.{Entry}
 use Rattle.semcode_decode.specs.Block.{Rooms}
 use Rattle.semcode_decode.specs.Layout as of
-use Rattle.semcode_functions.specs.Function.{Function, function_at, functions_from}
-use Rattle.semcode_functions.specs.File.{block}
-use Rattle.semcode_functions.specs.Turn.{Next, BeginsFunction}
-use Rattle.semcode_functions.specs.Maps.{last_is, next_out}
-use Rattle.semcode_functions.proofs.LoopLaws.{Reading, read_first, read_full, read_no_room, read_refused, read_on, read_all}
+use Rattle.semcode_functions.specs.Function.{Function, functions_from}
+use Rattle.semcode_functions.specs.Maps.{last_is}
+use Rattle.semcode_functions.proofs.LoopLaws.{read_first, read_full, read_no_room, read_refused, read_on, read_all}
 use Rattle.semcode_functions.proofs.functions.each_function.Goals as goal
 
 one_more : {i n : ℕ} → i < n → i + 1 ≤ n
@@ -71,30 +69,17 @@ returns-then-functions-count c =
       of_paths = c.clear-then-functions-count-2.ensures ∙ ap (λ (n : ℕ). lent n []) c.loop-at.invariant.3;
     })
 
-pub returns-in_default : goal.returns-in_default
-returns-in_default c =
-    let rooms : Rooms =
+pub returns-in_err-placed : goal.returns-in_err-placed
+returns-in_err-placed c =
     let a = c.args in
-    of.rooms (length a.strings.now) a.symbols (length a.paths.now) a.families in
-    let whole : Out (List (Entry Function)) =
-    let a = c.args in
-    functions_from a.header_rev rooms a.bytes.now 1024 (length a.functions.now) a.cursor in
-    let left-strings : List ℕ = c.next_function-answer.new.strings in
-    let left-paths : List ℕ = c.next_function-answer.new.paths in
-    let room : c.loop-at.count < length c.args.functions.now = rw c.loop-at.invariant.1 at c.if-functions-count.false in
-    let begins : let a = c.args in
-    BeginsFunction (function_at a.header_rev rooms a.bytes.now c.loop-at.at) c.loop-at.strings c.loop-at.paths left-strings left-paths
-    (next_out c.next_function-answer.result) =
-    rw (c.loop-at.invariant.2, c.loop-at.invariant.3) at c.next_function-answer.ensures in
-    let refused-there : (r : Refusal) → next_out c.next_function-answer.result ≡ refused r → (whole ≡ refused r)
-    × (left-strings ≡ lent (length c.loop-at.strings) []) × (left-paths ≡ lent (length c.loop-at.paths) []) =
-    λ r. let a = c.args in
-    read_refused a.header_rev rooms a.bytes.now 1024 (length a.functions.now) a.cursor c.loop-at.count c.loop-at.at
+    let rooms : Rooms = of.rooms (length a.strings.now) a.symbols (length a.paths.now) a.families in
+    let room : c.loop-at.count < length a.functions.now = rw c.loop-at.invariant.1 at c.if-functions-count.false in
+    let begins = rw (c.loop-at.invariant.2, c.loop-at.invariant.3) at c.in_err-placed.ensures in
+    let e = read_refused a.header_rev rooms a.bytes.now 1024 (length a.functions.now) a.cursor c.loop-at.count c.loop-at.at
     (last_is c.loop-at.last) c.loop-at.functions c.loop-at.strings c.loop-at.paths c.loop-at.invariant.4 c.loop-at-test.true
-    c.if-count-ge-MAX_FUNCTIONS.false room begins in
-    let e = refused-there _ (ap next_out c.in_default.is) in
-    rw (e.0, c.next_refusal.ensures, c.in_default.is) (record {
-      answer = refl;
+    c.if-count-ge-MAX_FUNCTIONS.false room begins refl in
+    rw e.0 (record {
+      answer = search rules;
       of_functions = refl;
       of_strings = e.1 ∙ ap (λ (n : ℕ). lent n []) c.loop-at.invariant.2;
       of_paths = e.2 ∙ ap (λ (n : ℕ). lent n []) c.loop-at.invariant.3;
@@ -102,28 +87,17 @@ returns-in_default c =
 
 pub loop-at-preserved : goal.loop-at-preserved
 loop-at-preserved c =
-    let rooms : Rooms =
     let a = c.args in
-    of.rooms (length a.strings.now) a.symbols (length a.paths.now) a.families in
-    let left-strings : List ℕ = c.next_function-answer.new.strings in
-    let left-paths : List ℕ = c.next_function-answer.new.paths in
-    let room : c.loop-at.count < length c.args.functions.now = rw c.loop-at.invariant.1 at c.if-functions-count.false in
-    let begins : let a = c.args in
-    BeginsFunction (function_at a.header_rev rooms a.bytes.now c.loop-at.at) c.loop-at.strings c.loop-at.paths left-strings left-paths
-    (next_out c.next_function-answer.result) =
-    rw (c.loop-at.invariant.2, c.loop-at.invariant.3) at c.next_function-answer.ensures in
-    let on : (t : Next) → next_out c.next_function-answer.result ≡ ok t → let a =
-    c.args in Reading a.header_rev rooms a.bytes.now 1024 (length a.functions.now) a.cursor (c.loop-at.count + 1) t.next (block t.code t.layout)
-    (set c.loop-at.functions c.loop-at.count c.loop-at.at) left-strings left-paths =
-    λ t h. let a = c.args in
-    read_on a.header_rev rooms a.bytes.now 1024 (length a.functions.now) a.cursor c.loop-at.count c.loop-at.at
-    (last_is c.loop-at.last) c.loop-at.functions c.loop-at.strings c.loop-at.paths c.loop-at.invariant.4 c.loop-at-test.true
-    c.if-count-ge-MAX_FUNCTIONS.false room begins h c.if-functions-count.false in (
+    let rooms : Rooms = of.rooms (length a.strings.now) a.symbols (length a.paths.now) a.families in
+    let room : c.loop-at.count < length a.functions.now = rw c.loop-at.invariant.1 at c.if-functions-count.false in
+    let begins = rw (c.loop-at.invariant.2, c.loop-at.invariant.3) at c.in_ok-placed.ensures in (
       one_more c.if-count-ge-MAX_FUNCTIONS.false,
       simp length-set c.loop-at.invariant.1,
-      c.next_function-answer.auto.strings ∙ c.loop-at.invariant.2,
-      c.next_function-answer.auto.paths ∙ c.loop-at.invariant.3,
-      on _ (ap next_out c.in-Whole.is),
+      c.next_function.auto.strings ∙ c.loop-at.invariant.2,
+      c.next_function.auto.paths ∙ c.loop-at.invariant.3,
+      read_on a.header_rev rooms a.bytes.now 1024 (length a.functions.now) a.cursor c.loop-at.count c.loop-at.at
+          (last_is c.loop-at.last) c.loop-at.functions c.loop-at.strings c.loop-at.paths c.loop-at.invariant.4 c.loop-at-test.true
+          c.if-count-ge-MAX_FUNCTIONS.false room begins refl c.if-functions-count.false,
     )
 
 pub returns : goal.returns

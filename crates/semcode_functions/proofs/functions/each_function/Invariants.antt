@@ -1,4 +1,4 @@
--- Meets its contract. The invariant: what is told of the functions read so far, then of the rest from the place on.
+-- What is told of the functions read so far, then of the rest from the place on.
 use Prim.Native.Nat.{◌≤◌, ◌-◌}
 use mathlib.Core.Path.{◌≡◌}
 use lib.ListN.{length}

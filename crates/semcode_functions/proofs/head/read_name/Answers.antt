@@ -1,37 +1,19 @@
--- `read_name` refuses a cut length, none and a long one; else the answer goes by what the bytes are (`name_is`).
-use mathlib.Core.Path.{ap, ◌∙◌}
-use native.Mathlib.Omega.{arith}
-use Rattle.local_format.specs.Out.{refused}
-use Rattle.semcode_functions.proofs.HeadLaws.{name_no_length, name_empty, name_long, name_is}
+-- Where the length is read, the answer goes by what the bytes are (`name_goes_on`).
+use Rattle.std.proofs.Common.{◌≡◌, ℕ, ◌∙◌, refl, sym, Err}
+use Rattle.local_format.specs.Out.{refuse}
+use Rattle.utf8.specs.Maps.{utf8_out}
+use Rattle.utf8.specs.declared.Utf8Error.{Utf8Error}
+use Rattle.utf8.specs.declared.Utf8Error.TheVariants.{NotUtf8, Cut}
+use Rattle.semcode_functions.proofs.HeadLaws.{name_from, name_goes_on}
 use Rattle.semcode_functions.proofs.head.read_name.Goals as goal
 
-pub returns-in_default : goal.returns-in_default
-returns-in_default c =
-    ap refused c.refuse.ensures ∙ name_no_length _ _ (rw c.in_default.is at c.read_u16_le-size.ensures)
+no_name : (start len : ℕ) (e : Utf8Error) → name_from start len (utf8_out (Err e)) ≡ refuse 64 start
+no_name start len (NotUtf8 next) = refl
+no_name start len Cut = refl
 
-pub returns-then-len-lt1 : goal.returns-then-len-lt1
-returns-then-len-lt1 c =
-    ap refused c.refuse-then-len-lt1.ensures
-    ∙ name_empty _ _ _ _ (rw c.in-Value.is at c.read_u16_le-size.ensures) (omega arith)
+pub returns-in-Ok : goal.returns-in-Ok
+returns-in-Ok c = name_goes_on _ _ _ _ c.in-Some.ensures c.in_ok-check.ensures _ c.in-Ok.ensures
 
-pub returns-then-len-gt-MAX_FUNCTION_NAME_BYTES : goal.returns-then-len-gt-MAX_FUNCTION_NAME_BYTES
-returns-then-len-gt-MAX_FUNCTION_NAME_BYTES c =
-    ap refused c.refuse-then-len-gt-MAX_FUNCTION_NAME_BYTES.ensures
-    ∙ name_long _ _ _ _ (rw c.in-Value.is at c.read_u16_le-size.ensures) (omega arith)
-
-pub returns-in-Text : goal.returns-in-Text
-returns-in-Text c =
-    name_is _ _ _ _ (rw c.in-Value.is at c.read_u16_le-size.ensures) (omega arith) (omega arith) _
-    (rw c.in-Text.is at c.read_utf8-body.ensures)
-
-pub returns-in-NotUtf8 : goal.returns-in-NotUtf8
-returns-in-NotUtf8 c =
-    ap refused c.refuse-in-NotUtf8.ensures
-    ∙ name_is _ _ _ _ (rw c.in-Value.is at c.read_u16_le-size.ensures) (omega arith) (omega arith) _
-    (rw c.in-NotUtf8.is at c.read_utf8-body.ensures)
-
-pub returns-in-Cut : goal.returns-in-Cut
-returns-in-Cut c =
-    ap refused c.refuse-in-Cut.ensures
-    ∙ name_is _ _ _ _ (rw c.in-Value.is at c.read_u16_le-size.ensures) (omega arith) (omega arith) _
-    (rw c.in-Cut.is at c.read_utf8-body.ensures)
+pub returns-in-Err : goal.returns-in-Err
+returns-in-Err c =
+    rw c.refuse-in-Err.ensures (sym (no_name _ _ _) ∙ name_goes_on _ _ _ _ c.in-Some.ensures c.in_ok-check.ensures _ c.in-Err.ensures)

@@ -1,5 +1,5 @@
 -- Meets its contract. The invariant is the contract, of the components that are left, with the size of the kind that is known.
-use Prim.Native.Nat.{ℕ, ◌<◌}
+use Prim.Native.Nat.{ℕ, ◌<◌, ◌-◌}
 use mathlib.Core.Path.{◌≡◌}
 use Rattle.semcode_records.specs.Records.{records, ends}
 use Rattle.semcode_records.specs.Component.{component_at}
@@ -11,11 +11,8 @@ pub record Known (revision event kind size : ℕ) : Type 0 where
   pub some : 0 < size
   pub small : size < 256
 
-abbrev pub invariant-loop-left : goal.invariant-loop-left
-invariant-loop-left l =
+abbrev pub invariant-loop-passed : goal.invariant-loop-passed
+invariant-loop-passed l =
     (ends (records (component_at l.header_rev l.kind l.bytes) l.component_count l.at) ≡ ends
-    (records (component_at l.header_rev l.kind l.bytes) l.left l.cursor))
+    (records (component_at l.header_rev l.kind l.bytes) (l.component_count - l.passed) l.cursor))
     × Known l.header_rev l.kind l.known l.size
-
-abbrev pub decreases-loop-left : goal.decreases-loop-left
-decreases-loop-left l = l.left

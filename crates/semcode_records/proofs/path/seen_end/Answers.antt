@@ -1,4 +1,4 @@
--- Meets its contract: the first two bytes decide where the components start, and no component is left.
+-- The first two bytes decide where the components start, and no component is left.
 use mathlib.Core.Path.{◌≡◌, sym, ◌∙◌}
 use native.Mathlib.Omega.{arith}
 use Prim.Native.Nat.{◌+◌}
@@ -11,38 +11,14 @@ use Rattle.semcode_records.proofs.RecordsLaws.{none_left_lem}
 use Rattle.semcode_records.proofs.FrontLaws.{ends_by_bytes}
 use Rattle.semcode_records.proofs.path.seen_end.Goals as goal
 
-pub returns-then-header_rev-lt-SEMCODE_OWNERSHIP_ANCHOR_MIN_REVISION : goal.returns-then-header_rev-lt-SEMCODE_OWNERSHIP_ANCHOR_MIN_REVISION
-returns-then-header_rev-lt-SEMCODE_OWNERSHIP_ANCHOR_MIN_REVISION c h =
-    absurd (omega arith)
-
-pub returns-then-bytes-lt12 : goal.returns-then-bytes-lt12
-returns-then-bytes-lt12 c h =
-    absurd (omega arith)
-
-pub returns-then-bytes-at : goal.returns-then-bytes-at
-returns-then-bytes-at c h =
-    absurd (omega arith)
-
-pub returns-then-kind-gt1 : goal.returns-then-kind-gt1
-returns-then-kind-gt1 c h =
-    absurd (omega arith)
-
-pub returns-then-mode-gt1 : goal.returns-then-mode-gt1
-returns-then-mode-gt1 c h =
-    absurd (omega arith)
-
 pub returns-then-passed-eq0 : goal.returns-then-passed-eq0
-returns-then-passed-eq0 c h =
+returns-then-passed-eq0 c end h =
     let a = c.args in
     let s = a.bytes.now in
     let here : next_of (path_at a.header_rev s a.at)
-    ≡ ends (records (component_at a.header_rev (get_or s a.at 0) s) c.u16_at-count.result (a.at + 8 + c.site_size-size.result)) =
-    rw (c.u16_at-count.ensures, c.site_size-size.ensures.0)
+    ≡ ends (records (component_at a.header_rev (get_or s a.at 0) s) c.le_at-count.result (a.at + 8 + c.site_size-size.result)) =
+    rw (c.le_at-count.ensures, c.site_size-size.ensures.0)
     (ends_by_bytes _ _ _ (omega (arith, c.if-header_rev-lt-SEMCODE_OWNERSHIP_ANCHOR_MIN_REVISION.false))
     (omega (arith, c.if-bytes-lt12.false, c.if-bytes-at.false)) _ _ (sym (le_1 s a.at))
     (sym (le_1 s (a.at + 1))) (omega (arith, c.if-kind-gt1.false)) (omega (arith, c.if-mode-gt1.false))) in
-    here ∙ rw (c.pass_components-passed.ensures, c.if-passed-eq0.true, none_left_lem _ _)
-
-pub returns-else-passed-eq0 : goal.returns-else-passed-eq0
-returns-else-passed-eq0 c h =
-    absurd (omega arith)
+    here ∙ rw (c.pass_components-passed.ensures, c.if-passed-eq0.true, none_left_lem _ _) (cc)

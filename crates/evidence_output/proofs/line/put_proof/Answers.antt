@@ -1,7 +1,0 @@
--- Meets its contract: the number, then the rest.
-use Rattle.evidence_output.proofs.LineLaws.{line_written}
-use Rattle.evidence_output.proofs.line.put_proof.Goals as goal
-
-pub returns : goal.returns
-returns c =
-    line_written _ c.put_decimal-rest_at.ensures c.end_line.ensures

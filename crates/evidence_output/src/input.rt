@@ -1,0 +1,20 @@
+// Input, with a read that fails told from its end.
+ghost use Rattle.std.specs.Io.{ReadsAtMost};
+
+use std::io;
+use std::io::Read;
+
+// Reads until the buffer is full, the input ends or a read fails.
+pub fn read_full<R: Read>(from: &mut R, buf: &mut [u8]) -> io::Result<usize>
+    ensures { ReadsAtMost result buf.new }
+{
+    let mut len: usize = 0;
+    while len < buf.len() {
+        let more = from.read(&mut buf[len..])?;
+        if more == 0 {
+            return Ok(len);
+        }
+        len += more;
+    }
+    Ok(len)
+}

@@ -1,0 +1,7 @@
+-- The parent cell with the number is read at its place.
+use Rattle.evr0_read.proofs.TableLaws.{parent_read}
+use Rattle.evr0_read.proofs.numbered.ParentNumberNumbered.read_at.Goals as goal
+
+pub returns : goal.returns
+returns c bytes cursor d of payload schema k e there at =
+    rw (c.parent_at.ensures, payload, at) (parent_read of.rules of.room bytes cursor d of.is k e there)

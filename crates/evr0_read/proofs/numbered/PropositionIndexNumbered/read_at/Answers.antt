@@ -1,0 +1,7 @@
+-- The proposition with the number is read at its place.
+use Rattle.evr0_read.proofs.TableLaws.{proposition_read}
+use Rattle.evr0_read.proofs.numbered.PropositionIndexNumbered.read_at.Goals as goal
+
+pub returns : goal.returns
+returns c bytes cursor d of payload schema k e there at =
+    rw (c.proposition_at.ensures, payload, at) (proposition_read of.rules of.room bytes cursor d of.is k e there)

@@ -1,0 +1,7 @@
+-- The lent table has the start at the number.
+use Rattle.evr0_read.proofs.FindLaws.{lent_start}
+use Rattle.evr0_read.proofs.numbered.PropositionIndexNumbered.start.Goals as goal
+
+pub returns : goal.returns
+returns c bytes cursor d of len schema counts n m ps qs some e there =
+    rw c.entry_or.ensures (lent_start n c.args.self.0 d.tables.propositions.entries ps some there)

@@ -1,6 +1,0 @@
--- The tests are the definition's.
-use Rattle.evr0_records.proofs.proof.ends_within.Goals as goal
-
-pub returns : goal.returns
-returns c =
-    cc

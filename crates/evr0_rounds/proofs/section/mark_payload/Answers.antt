@@ -1,0 +1,59 @@
+-- Meets its contract: the tables are read, and then the rounds are made, by `PayloadLaws`.
+use Prim.Native.Nat.{ℕ, ◌≤◌}
+use mathlib.Core.Path.{◌≡◌, refl, ap, ◌∙◌}
+use mathlib.Core.List.{List, []}
+use native.Mathlib.Omega.{arith}
+use lib.ListN.{length}
+use Rattle.std.proofs.Common.{rules}
+use Rattle.local_format.specs.Out.{refused}
+use Rattle.local_format.specs.Maps.{refusal_out, answer_out}
+use Rattle.lent_table.specs.Lent.{lent}
+use Rattle.derivation.specs.Rule.{Rule}
+use Rattle.evr0_section.specs.Head.{Room}
+use Rattle.evr0_rules.specs.Maps.{book_rules}
+use Rattle.evr0_tables.specs.LentTables.{Lent, tables_out}
+use Rattle.evr0.proofs.CheckLaws.{fits, may_derive}
+use Rattle.evr0_rounds.proofs.PayloadLaws.{not_read, not_made, rounds_made}
+use Rattle.evr0_rounds.proofs.section.mark_payload.Goals as goal
+
+pub returns-in_err-head-clause-passes : goal.returns-in_err-head-clause-passes
+returns-in_err-head-clause-passes c =
+    let g : answer_out (λ n. n) c.from_residual.result ≡ refused (refusal_out c.in_err-head.field-0.0) = search rules in
+    λ end. rw g (not_read _ _ _ c.in_err-head.ensures.reads end)
+
+pub fill_front-filled-requires : goal.fill_front-filled-requires
+fill_front-filled-requires c =
+    let among : List Rule = book_rules c.args.rules in
+    let before : Lent = tables_out c.args.tables.now in
+    let p : List ℕ = c.args.payload.now in
+    let r = c.in_ok-head.ensures.reads in
+    let l = c.in_ok-head.ensures.same.room in
+    let f = fits among before p r in
+    record {
+      tables_there = may_derive among before p r c.witness_size.ensures.0;
+      room = (omega (arith, f.proofs, ap (λ (k : Room). k.proofs) l), omega (arith, f.depths, ap (λ (k : Room). k.depths) l));
+    }
+
+pub returns-in-Ok-clause-passes : goal.returns-in-Ok-clause-passes
+returns-in-Ok-clause-passes c =
+    let among : List Rule = book_rules c.args.rules in
+    let before : Lent = tables_out c.args.tables.now in
+    let p : List ℕ = c.args.payload.now in
+    let r = c.in_ok-head.ensures.reads in
+    λ end. rounds_made among before p r c.witness_size.ensures.0 c.in_ok-head.ensures.same.room (c.in-Ok.ensures.fills among) refl
+    c.fill_front-filled.ensures.kept end
+
+pub returns-in-Err-clause-passes : goal.returns-in-Err-clause-passes
+returns-in-Err-clause-passes c =
+    let among : List Rule = book_rules c.args.rules in
+    let before : Lent = tables_out c.args.tables.now in
+    let p : List ℕ = c.args.payload.now in
+    let r = c.in_ok-head.ensures.reads in
+    let l = c.in_ok-head.ensures.same.room in
+    let k = c.clear.ensures.cleared in
+    λ end. not_made among before p r c.witness_size.ensures.0 (c.in-Err.ensures.fills among)
+    (record {
+      propositions = k.propositions ∙ ap (λ (k : Room). lent k.propositions []) l;
+      proofs = k.proofs ∙ ap (λ (x : List ℕ). lent (length x) []) c.fill_front-filled.ensures.kept ∙ ap (λ (k : Room). lent k.proofs []) l;
+      depths = k.depths ∙ ap (λ (n : ℕ). lent n []) c.fill_front-filled.auto.rounds ∙ ap (λ (k : Room). lent k.depths []) l;
+    }) end

@@ -1,0 +1,34 @@
+-- Meets its contract. The invariant: no path before the start meets a lock.
+use native.Mathlib.Omega.{arith}
+use mathlib.Core.Path.{sym, ◌∙◌}
+use Rattle.locks.specs.Maps.{front_is}
+use Rattle.locks.proofs.KeyLaws.{found, not_found}
+use Rattle.locks.proofs.ClaimLaws.{free_none, met_found, free_other, free_more, free_past, free_all}
+use Rattle.locks.proofs.claim.PathClaim.any_met.Goals.{in-Some+then-symbol_held+else-hindered, in-Some+else-symbol_held, in_default}
+use Rattle.locks.proofs.claim.PathClaim.any_met.Goals as goal
+
+pub loop-start-init : goal.loop-start-init
+loop-start-init c =
+    free_none _ _ _ _ _ _ _
+
+pub returns-then-hindered : goal.returns-then-hindered
+returns-then-hindered c =
+    met_found _ _ _ _ _ _ c.args.register.now _ c.loop-start-test.true _ c.path_key-key.ensures (sym c.hindered.ensures ∙ c.if-hindered.true)
+
+pub loop-start-preserved : goal.loop-start-preserved
+loop-start-preserved c =
+    let words = c.args.register.now in
+    let next = c.loop-start-test.true in
+    let free = c.loop-start.invariant in
+    elim c.match-read_front.branch [
+      | in-Some+then-symbol_held+else-hindered w ↦
+          free_more _ _ _ _ _ _ words _ next _ w.path_key-key.ensures (sym w.hindered.ensures ∙ w.if-hindered.false) free
+      | in-Some+else-symbol_held w ↦
+          free_other _ _ _ _ _ _ words _ next (front_is w.in-Some.path) (found _ _ w.in-Some.ensures)
+          (sym w.symbol_held.ensures ∙ w.if-symbol_held.false) free
+      | in_default w ↦ free_past _ _ _ _ _ _ words _ next (not_found w.in_default.ensures)
+    ]
+
+pub returns : goal.returns
+returns c =
+    free_all _ _ _ _ _ _ _ _ (omega arith) c.loop-start.invariant

@@ -1,9 +1,0 @@
--- Safe and ending: the locks left fall.
-use Rattle.std.proofs.Common.{◌-◌, ◌≤◌}
-use Rattle.test_locks.proofs.locks_held.Given as goal
-
-abbrev pub invariant-loop-i : goal.invariant-loop-i
-invariant-loop-i l = l.i ≤ l.n
-
-abbrev pub decreases-loop-i : goal.decreases-loop-i
-decreases-loop-i l = l.n - l.i

@@ -1,9 +1,0 @@
--- Safe and ending: the entries left fall.
-use Rattle.std.proofs.Common.{◌-◌, ◌≤◌, length}
-use Rattle.test_replay.proofs.held.table.Given as goal
-
-abbrev pub invariant-loop-i : goal.invariant-loop-i
-invariant-loop-i l = l.i ≤ length l.table
-
-abbrev pub decreases-loop-i : goal.decreases-loop-i
-decreases-loop-i l = length l.table - l.i

@@ -1,5 +1,0 @@
--- Safe and ending: the turns left fall.
-use Rattle.test_replay.proofs.list.replay.Given as goal
-
-abbrev pub decreases-loop-turns : goal.decreases-loop-turns
-decreases-loop-turns l = l.turns
