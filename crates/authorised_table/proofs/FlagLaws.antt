@@ -5,11 +5,11 @@ use mathlib.Core.Logic.{◌⊎◌, inl, inr}
 use mathlib.Core.Bool.{Bool, true, false, cond, ◌&&◌, ◌||◌}
 use mathlib.Core.List.{List, [], ◌∷◌, map}
 use native.Mathlib.Omega.{arith}
-use native.Mathlib.Nat.{add-zero}
+use native.Mathlib.Nat.{add-zero, sub-zero}
 use native.Mathlib.Numerals.{add-one}
 use lib.Dec.{eqb}
 use lib.ListN.{length, get_or, drop, set, length-map, length-set, length-append, length-replicate, get_or-replicate, drop_of_length-le}
-use lib.ListN.{get_or-append}
+use lib.ListN.{get_or-append, replicate}
 use lib.Seq.{drop-cons, get_or-append-add, get_or-set_same, get_or-set_other, ext_get_or}
 use borrow.Author.Tests.{eq-eqb, ne_eqb, eqb-true, eqb-false}
 use Rattle.lent_table.specs.Lent.{lent}
@@ -130,6 +130,10 @@ flag_from s (suc k) n (suc i) h =
 -- as many entries as were lent
 lent_length : (n : ℕ) (xs : List ℕ) → length xs ≤ n → length (lent n xs) ≡ n
 lent_length n xs h = length-append xs _ ∙ rw (length-replicate {A = ℕ} (n - length xs) 0) (omega arith)
+
+-- zeros are a lent table with no entries
+pub none : (entries : ℕ) → replicate entries 0 ≡ lent entries []
+none entries = rw sub-zero
 
 zeros_at : (n i : ℕ) → i < n → get_or (lent n []) i 0 ≡ 0
 zeros_at n i h = get_or-replicate {A = ℕ} (n - 0) i 0 0 (omega arith)

@@ -10,14 +10,14 @@ ghost use Rattle.authorised_table.specs.Answer.{with_authorised, TellsBy};
 ghost use Rattle.authorised_table.specs.Steps.{flagged, flagged_by};
 
 use evr0::section::DecodedEvr0;
-use evr0_marks::record::after_name;
 use evr0_marks::section::{decode_evr0_section_by, tables_of};
-use evr0_pass::pass::Tables;
+use evr0_pass::pass::{Tables, after_name};
 use evr0_rules::settle::Rules;
 use lent_table::{clear, clear_from};
 use local_format::field::LittleEndian;
 
 // The proof at `start` with a mark: with operation 1 and mark 1 it flags its proposition.
+// Kept (1a): the mark is a byte of a table that C lends; an enum would be made of it here and held against one variant.
 fn flag(payload: &[u8], start: usize, mark: u8, authorised: &mut [u8])
     requires { after_name payload.now start + 24 ≤ length payload.now }
     ensures { (rules : List Rule)
@@ -33,19 +33,22 @@ fn flag(payload: &[u8], start: usize, mark: u8, authorised: &mut [u8])
 }
 
 // The proofs of these tables, whose marks the table begins with.
+// Kept (6a): starts and marks are two tables that C lends.
 fn flag_proofs(tables: Tables, marks: &[u8], authorised: &mut [u8])
     requires { length tables.starts.now ≤ length marks.now }
     ensures { (rules : List Rule) → authorised.new
         ≡ flagged_by (map (proof_view rules tables.entry.payload.now) tables.entry.starts.now) marks.now authorised.old }
 {
-    for (i, start) in tables.starts.iter().enumerate() {
-        flag(tables.payload, *start as usize, marks[i], authorised);
+    for (start, mark) in tables.starts.iter().zip(marks) {
+        flag(tables.payload, *start as usize, *mark, authorised);
     }
 }
 
 // Decodes the section at `cursor` by the rules of a call, with marks, and tells of each proposition whether it is authorised: 1, else 0.
 // Each lent table is filled to its count and has zeros past it; a refusal leaves zeros in all five. Starts and flags are one for each
 // proposition: the decoder is lent as many starts as there are flags.
+// Kept (5d): C lends each table by itself; a struct would be made in each C function, and made anew where the decoder is lent a part of a table.
+// Kept (2d): `decode_evr0_section_by` shortens another table and makes another pass; of one function each call would bring a table and a closure.
 pub fn authorised_table(
     rules: Rules,
     bytes: &[u8],

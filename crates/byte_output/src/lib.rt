@@ -13,6 +13,7 @@ pub struct Output<'a> {
 }
 
 impl<'a> Output<'a> {
+    // Kept (2d, 6a): no heap, so the buffer is lent and no Vec; what does not fit is counted, where section_pair's list of verdicts drops it.
     pub fn put(&mut self, byte: u8)
         ensures { Writes self.old (byte ∷ []) self.new }
     {
@@ -24,6 +25,7 @@ impl<'a> Output<'a> {
         }
     }
 
+    // Kept (6a): the same; bytes past the end are counted one by one.
     pub fn put_bytes(&mut self, bytes: &[u8])
         ensures { Writes self.old bytes.now self.new }
     {

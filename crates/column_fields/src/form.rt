@@ -43,6 +43,7 @@ fn first_number(bytes: &[u8], width: Width) -> u64
 }
 
 // A number as a field of a section: its bytes, the lowest first.
+// Kept (4d): `&n.to_le_bytes()[..width.size()]` is still to be shown the number's first bytes, for three widths; this loop has the definition's steps.
 fn put_plain(out: &mut Output, n: u64, width: Width)
     ensures { Writes out.old (number (width_of width) n) out.new }
 {

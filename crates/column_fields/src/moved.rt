@@ -58,6 +58,8 @@ fn move_text<A: NumberForm, B: NumberForm>(bytes: &[u8], at: usize, out: &mut Ou
 }
 
 // The field at `at`, read in the form `A` and written in the form `B`, and the place after it: nothing, and no step, where it is refused.
+// Kept (1d): put_head and put_column drop the place, and take_row's cursor stays where it is on a refusal: an Option would be unwrapped to `at` each time.
+// Kept (7d): an Item is an enum with data, matched once.
 pub fn move_field<A: NumberForm, B: NumberForm>(
     bytes: &[u8],
     at: usize,

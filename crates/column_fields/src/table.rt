@@ -20,6 +20,7 @@ pub enum Table {
 }
 
 // Spans have 8 bytes under schema 2, else 4.
+// Kept (1a): each number of 16 bits is taken, as the sections of the Rust may have any; an enum of two schemas would ask more of callers.
 pub fn span_of(schema: u16) -> Width
     ensures { width_of result ≡ span_width schema }
 {
@@ -30,6 +31,7 @@ pub fn span_of(schema: u16) -> Width
     }
 }
 
+// Kept (2d): const tables of items would be three for the witnesses, one for each width of a span, with a rule for columns past the last.
 fn head_item(column: usize) -> Item
     ensures { item_of result ≡ get_or head_items column (raw 0) }
 {
@@ -115,6 +117,8 @@ impl Table {
 }
 
 // Notes a start, as far as the list reaches.
+// Kept (2d): record_words' put_word asks that its place is there; this one asks nothing and drops what is past the list.
+// Kept (6c): by `starts.get_mut(column)` no proof was found that the list then has the start there, and is as it was past its end.
 pub fn note(starts: &mut [usize], column: usize, at: usize)
     ensures { starts.new ≡ set starts.old column at }
 {

@@ -11,6 +11,8 @@ use lent_table::clear;
 use local_format::refusal::Refusal;
 
 // A refusal, which leaves zeros in every lent table and in the output.
+// Kept (2d): evr0_tables' `Tables { .. }.clear()` clears three of the four: made for this one call, it and `clear(output)` are as long as four calls.
+// Kept (5d): a struct of four `&mut` slices is taken apart again at once: the decoder takes three of them, the rebuilding the fourth.
 pub fn refuse_all(
     refusal: Refusal,
     propositions: &mut [u64],

@@ -13,6 +13,7 @@ use column_fields::table::Table;
 use local_format::field::LittleEndian;
 
 // The place after the field at `at`.
+// Kept (7d): an Item is an enum with data, matched once.
 fn after_field(bytes: &[u8], at: usize, item: Item) -> usize
     requires { after_field (item_of item) bytes.now at ≤ length bytes.now }
     ensures { result ≡ after_field (item_of item) bytes.now at }

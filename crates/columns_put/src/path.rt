@@ -33,6 +33,7 @@ impl Path {
     }
 }
 
+// Kept (2d): const tables of paths write ten places out where `4 * (column - 3)` says six, and three times those of witnesses, one for each width.
 fn proposition_path(column: usize) -> Path
     requires { column < 4 }
     ensures { (c : List ℕ) (s : ℕ) → place_of c result s ≡ after_fields (take column proposition_items) c s }
@@ -82,6 +83,7 @@ fn witness_path(column: usize, span: Width) -> Path
 }
 
 // Where the field of a column stands: behind those of the columns before it, of which one is a text at most.
+// Kept (7d): one match over the tables, an enum; a closure for each table would be chosen by the same match.
 pub fn path_of(table: Table, column: usize) -> Path
     requires { OneText table × (column < length (items_of table)) }
     ensures { (c : List ℕ) (s : ℕ) → place_of c result s ≡ after_fields (take column (items_of table)) c s }

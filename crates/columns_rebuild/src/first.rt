@@ -9,6 +9,7 @@ use column_fields::table::{Table, note};
 use local_format::refusal::Refusal;
 
 // The place after the columns of `count` records from `at` on. `starts` is told where each of them starts, as far as it reaches.
+// Kept (6a): no heap, so `starts` is lent, with an entry for each column.
 pub fn table_at(
     bytes: &[u8],
     at: usize,

@@ -36,6 +36,7 @@ pub struct TakenHead {
 }
 
 // The width of a span under the schema at a place.
+// Kept (1c, 4c): `span_of(field_at::<u16>(bytes, at).map_or(0, |s| s.value))` was not proved: map_or promises by cases, field_at by one equation.
 fn span_at(bytes: &[u8], at: usize) -> Width
     ensures { at + 2 ≤ length bytes.now → width_of result ≡ span_width (le 2 bytes.now at) }
 {
@@ -50,13 +51,11 @@ fn count_at(bytes: &[u8], at: usize) -> usize
     ensures { (n : ℕ) (rest : List ℕ)
         → number_of 4 (length bytes.now) (drop at bytes.now) ≡ ok (record { value = n; rest = rest }) → result ≡ n }
 {
-    match number_at(bytes, at, Width::Four) {
-        Ok(count) => count.value as usize,
-        Err(_) => 0,
-    }
+    number_at(bytes, at, Width::Four).map_or(0, |count| count.value as usize)
 }
 
 // What the head announces whose fields start at these places: the third is the schema, the last four are the counts.
+// Kept (6a): no heap, so where the columns start is an array with an entry for each.
 fn read_announced(bytes: &[u8], starts: &[usize]) -> Announced
     ensures { (h : Head) → Stand bytes.now head_items (h ∷ []) starts.now → Announces h result }
 {
@@ -69,6 +68,7 @@ fn read_announced(bytes: &[u8], starts: &[usize]) -> Announced
     }
 }
 
+// Kept (6a): no heap: an array as long as the head has columns, and no Vec.
 pub fn take_head(bytes: &[u8], out: &mut Output) -> Result<TakenHead, Refusal>
     requires { out.old.next ≡ 0 }
     ensures same { Same out.old out.new }

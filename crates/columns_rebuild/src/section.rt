@@ -12,6 +12,7 @@ use lent_table::clear;
 use local_format::refusal::{Refusal, refuse};
 
 // The four tables that a head announces, and the place after them.
+// Kept (7d): a loop over four pairs of a table and its count has an invariant over the tables before; four calls with `?` show the order.
 fn take_tables(
     bytes: &[u8],
     at: usize,

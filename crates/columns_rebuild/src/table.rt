@@ -11,6 +11,7 @@ use column_fields::table::Table;
 use local_format::refusal::Refusal;
 
 // The place after its columns; or 75 or 76.
+// Kept (6a): no heap: an array as long as the widest table has columns, and no Vec.
 pub fn take_table(
     bytes: &[u8],
     at: usize,

@@ -18,10 +18,11 @@ use Rattle.evr0_columns.specs.Columns.{Copy, output_of, taken_back, rebuilt}
 use Rattle.evr0_columns.proofs.RoundTrips.{taken_unruled, taken_refused, taken_short}
 use Rattle.evr0.specs.Answer as decoder
 use Rattle.evr0.specs.Answer.{Accepted, Answer, room_of, decode_given, LeavesBy}
+use Rattle.evr0_rules.specs.Maps.{count_in}
 use Rattle.columns_rebuild.specs.Took.{RebuiltTo}
 use Rattle.columns_answer.specs.Copies.{Lent, with_output, Copies, TakesBack}
 use Rattle.columns_answer.proofs.AnswerLaws.{answered_ok, answered_refused}
-use Rattle.columns_take.specs.Steps.{passed, ruled, copied, copy_of}
+use Rattle.columns_take.specs.Steps.{copied, copy_of}
 
 -- ---- The decoder on a rebuilt section, which stands in a part of the output
 module _ {given : Given} {section : List ℕ} {before after : decoder.Lent} {answered : Answer}
@@ -55,10 +56,10 @@ module _ {given : Given} {section : List ℕ} {before after : decoder.Lent} {ans
       })
 
 -- ---- The rules of the call
-pub unruled : (given : Given) {r : Refusal} → ruled given ≡ refused r → rules_given given ≡ refused r
+pub unruled : (given : Given) {r : Refusal} → count_in (rules_given given) ≡ refused r → rules_given given ≡ refused r
 unruled given {r} e = go (rules_given given) e
   where
-    go : (y : Out (List Rule)) → passed y ≡ refused r → y ≡ refused r
+    go : (y : Out (List Rule)) → count_in y ≡ refused r → y ≡ refused r
     go (ok rules) h = absurd (never (sym h))
     go (refused q) h = cc
 
@@ -75,11 +76,11 @@ as_brought : {x : Out Copy} {before : decoder.Lent} {output rebuilt : List ℕ} 
 as_brought {x} same k = record { answer = k.answer; output = k.output ∙ ap (λ (n : ℕ). output_of n x) same; tables = k.tables }
 
 module _ (given : Given) (c : List ℕ) {output : List ℕ} {before : decoder.Lent} {after : Lent} {answered : Out ℕ} where
-  pub no_rules : {r : Refusal} → ruled given ≡ refused r → Copies (refused r) (with_output before output) after answered
+  pub no_rules : {r : Refusal} → count_in (rules_given given) ≡ refused r → Copies (refused r) (with_output before output) after answered
       → TakesBack given c (with_output before output) after answered
   no_rules {r} e k = rw (taken_unruled given (room_of before) (length output) c r (unruled given e)) k
 
-  module _ {u : Unit {0}} (loaded : ruled given ≡ ok u) where
+  module _ {n : ℕ} (loaded : count_in (rules_given given) ≡ ok n) where
     pub no_columns : {r : Refusal} → rebuilt c ≡ refused r → Copies (refused r) (with_output before output) after answered
         → TakesBack given c (with_output before output) after answered
     no_columns {r} e k =

@@ -1,20 +1,10 @@
 -- What the functions leave on the way to the answer.
 use Rattle.std.specs.Prelude.{ℕ, List}
 use Rattle.local_format.specs.Out.{Out, ok, ◌>>=◌}
-use Rattle.rule_table.specs.ByTable.{Given, rules_given, decode_by}
+use Rattle.rule_table.specs.ByTable.{Given, decode_by}
 use Rattle.evr0_section.specs.Head.{Room}
 use Rattle.evr0_section.specs.Section.{Section}
 use Rattle.evr0_columns.specs.Columns.{Copy}
-
--- whether there is a value, or the refusal
-abbrev pub passed : {A : Type 0} → Out A → Out (Unit {0})
-passed x = do
-  a ← x
-  ok tt
-
--- whether the rules of a call load
-abbrev pub ruled : Given → Out (Unit {0})
-ruled given = passed (rules_given given)
 
 -- a section that was rebuilt, decoded
 abbrev pub copied : List ℕ → Section → Out Copy

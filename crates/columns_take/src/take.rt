@@ -1,32 +1,21 @@
 // The section of a column file, in a lent output, with what the decoder leaves in its tables.
 ghost use Rattle.std.specs.Prelude.{◌≡◌, ◌≤◌, length, take};
-ghost use Rattle.rule_table.specs.ByTable.{four};
 ghost use Rattle.local_format.specs.Maps.{answer_out};
 ghost use Rattle.evr0.specs.Answer.{lent_of, room_of};
 ghost use Rattle.evr0_rules.specs.Maps.{given_out};
 ghost use Rattle.columns_answer.specs.Copies.{with_output, Copies, TakesBack};
 ghost use Rattle.columns_answer.specs.Maps.{columns_out};
-ghost use Rattle.columns_take.specs.Steps.{ruled, copy_of};
+ghost use Rattle.columns_take.specs.Steps.{copy_of};
 
 use columns_answer::refuse_all;
 use columns_rebuild::section::rebuild;
 use evr0::section::decode_evr0_by;
-use evr0_rules::load::load_rules;
 use evr0_rules::settle::Rules;
 use lent_table::{clear, clear_from};
 use local_format::refusal::{Refusal, refuse};
 
-// Whether the rules of a call load.
-fn check_rules(rules: Rules) -> Result<(), Refusal>
-    ensures { answer_out (λ done. done) result ≡ ruled (given_out rules.entry) }
-{
-    if let Rules::Table(table) = rules {
-        load_rules(table)?;
-    }
-    Ok(())
-}
-
 // The section that the first `len` bytes of the output are, and zeros past it; or the decoder's refusal.
+// Kept (6a): no heap, so the section stands at the front of a lent output.
 fn decode_rebuilt(
     rules: Rules,
     len: usize,
@@ -56,7 +45,7 @@ fn decode_rebuilt(
 
 // Takes columns back by the rules of a call: the four, or those of a table, which is loaded first. The output holds the section and zeros
 // past it, the tables what the decoder leaves of it; a refusal leaves zeros in all four.
-pub fn take_columns_given(
+pub fn take_columns(
     rules: Rules,
     columns: &[u8],
     propositions: &mut [u64],
@@ -68,7 +57,7 @@ pub fn take_columns_given(
         (with_output (lent_of propositions.old proofs.old depths.old) output.old)
         (with_output (lent_of propositions.new proofs.new depths.new) output.new) (columns_out result) }
 {
-    if let Err(refusal) = check_rules(rules) {
+    if let Err(refusal) = rules.count() {
         return refuse_all(refusal, propositions, proofs, depths, output);
     }
     match rebuild(columns, output) {
@@ -85,19 +74,4 @@ pub fn take_columns_given(
             decode_rebuilt(rules, len, propositions, proofs, depths, output)
         }
     }
-}
-
-// The same by the four.
-pub fn take_columns(
-    columns: &[u8],
-    propositions: &mut [u64],
-    proofs: &mut [u64],
-    depths: &mut [u64],
-    output: &mut [u8],
-) -> Result<usize, Refusal>
-    ensures { TakesBack four columns.now
-        (with_output (lent_of propositions.old proofs.old depths.old) output.old)
-        (with_output (lent_of propositions.new proofs.new depths.new) output.new) (columns_out result) }
-{
-    take_columns_given(Rules::Four, columns, propositions, proofs, depths, output)
 }

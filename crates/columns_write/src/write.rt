@@ -1,7 +1,6 @@
 // The columns of a section at a cursor.
 ghost use Rattle.std.specs.Prelude.{◌≡◌, List, ℕ, length};
 ghost use Rattle.local_format.specs.Out.{ok};
-ghost use Rattle.rule_table.specs.ByTable.{four};
 ghost use Rattle.evr0_columns.specs.Columns.{section_bytes, columns_of};
 ghost use Rattle.columns_put.specs.Due.{Puts};
 ghost use Rattle.evr0_head.specs.Maps.{counts_out};
@@ -19,6 +18,7 @@ use lent_table::{clear, clear_from};
 use local_format::refusal::{Refusal, refuse};
 
 // The columns of an accepted section, which ends at `end`, to the front of the output: how long they are.
+// Kept (6a): tables that C lends, cut to their counts.
 fn put_accepted(
     bytes: &[u8],
     cursor: usize,
@@ -44,6 +44,7 @@ fn put_accepted(
 }
 
 // Those columns in the output and zeros past them, where it is long enough: else 61, which leaves zeros in the output and in all tables.
+// Kept (6a): no heap, so the output is lent, and a length is answered.
 fn finish(
     bytes: &[u8],
     cursor: usize,
@@ -71,10 +72,10 @@ fn finish(
     Ok(length)
 }
 
-// Decodes the section at `cursor` by the rules of a call, and writes its columns into the output: the length written. The lent tables are
-// the decoder's without marks. A longer output ends in zeros; a refusal, 61 for an output too short among them, leaves zeros in the output
+// Decodes the section at `cursor` by the rules of a call, the four or those of a table, and writes its columns into the output: the length written.
+// The lent tables are the decoder's without marks. A longer output ends in zeros; a refusal, 61 for an output too short among them, leaves zeros in the output
 // and in all tables.
-pub fn write_columns_given(
+pub fn write_columns(
     rules: Rules,
     bytes: &[u8],
     cursor: usize,
@@ -104,28 +105,4 @@ pub fn write_columns_given(
             output,
         ),
     }
-}
-
-// The same by the four.
-pub fn write_columns(
-    bytes: &[u8],
-    cursor: usize,
-    propositions: &mut [u64],
-    proofs: &mut [u64],
-    depths: &mut [u64],
-    output: &mut [u8],
-) -> Result<usize, Refusal>
-    ensures { Writes four bytes.now cursor
-        (with_output (lent_of propositions.old proofs.old depths.old) output.old)
-        (with_output (lent_of propositions.new proofs.new depths.new) output.new) (columns_out result) }
-{
-    write_columns_given(
-        Rules::Four,
-        bytes,
-        cursor,
-        propositions,
-        proofs,
-        depths,
-        output,
-    )
 }

@@ -14,7 +14,6 @@ use Rattle.local_format.specs.Tag as tag
 use Rattle.local_format.proofs.OutLaws.{never, ok_same, refused_same, bind_ok, checked_ok}
 use Rattle.lent_table.specs.Lent.{lent}
 use Rattle.derivation.specs.Rule.{Rule}
-use Rattle.evr0_section.specs.Head.{Counts}
 use Rattle.evr0_section.specs.Rows.{starts_of}
 use Rattle.evr0_section.specs.Section.{Section}
 use Rattle.rule_table.specs.ByTable.{Given, rules_given}
@@ -37,7 +36,8 @@ found_refused : {q : Refusal} (x : Out Section) → refused q ≡ found_in x →
 found_refused (ok d) e = absurd (never e)
 found_refused (refused r) e = ap refused (sym (refused_same e))
 
-found_ok : {f : Found} (x : Out Section) → ok f ≡ found_in x → (d : Section) × (x ≡ ok d) × (f ≡ record { end = d.cursor; count = d.tables.head.counts.propositions })
+found_ok : {f : Found} (x : Out Section) → ok f ≡ found_in x
+    → (d : Section) × (x ≡ ok d) × (f ≡ record { end = d.cursor; count = d.tables.head.counts.propositions })
 found_ok (ok d) e = (d, refl, ok_same e)
 found_ok (refused r) e = absurd (never (sym e))
 
@@ -132,8 +132,8 @@ module _ {which : Given} {second : List ℕ} {cursor : ℕ} {before after : one.
     unfolding decoded
     goes = answered_ok _ _ (found decodes e).1
 
-    refused_pair : {r : Refusal} → o ≡ refused r → GoesOn which a second cursor before after brought left (pair_refused r)
-    refused_pair {r} h =
+    pub pair_refused_lem : {r : Refusal} → o ≡ refused r → GoesOn which a second cursor before after brought left (pair_refused r)
+    pair_refused_lem {r} h =
         let is : whole ≡ pair_refused r = goes ∙ answered_refused _ _ (tallied_refused pair (sym h ∙ holds.answer)) in
         record { answer = ap told (sym is); tables = λ c g. absurd (pair_never (sym is ∙ g)); verdicts = λ c g. absurd (pair_never (sym is ∙ g)) }
 
@@ -159,7 +159,7 @@ module _ {which : Given} {second : List ℕ} {cursor : ℕ} {before after : one.
       where
         go : (p : Out Tally) → o ≡ p → GoesOn which a second cursor before after brought left (pair_told p)
         go (ok t) h = held_pair h
-        go (refused r) h = refused_pair h
+        go (refused r) h = pair_refused_lem h
 
 -- ---- The first
 first_never : {r : Refusal} {c : Comparison} → first_refused r ≡ held c → ⊥

@@ -1,5 +1,5 @@
 -- From the code's structs and enums to the definitions' types.
-use Rattle.std.specs.Prelude.{ℕ, ◌≡◌, length, Result, Ok, Err}
+use Rattle.std.specs.Prelude.{◌≡◌, length, Result, Ok, Err}
 use Rattle.local_format.specs.Refusal as of_refusal
 use Rattle.local_format.specs.Maps.{refusal_out}
 use Rattle.evr0_compare.specs.Compare as of

@@ -1,15 +1,13 @@
 // Two sections, each in its bytes at its cursor: both are decoded, with their authorised propositions, and then held against each other.
 ghost use Rattle.std.specs.Prelude.{◌≡◌};
 ghost use Rattle.local_format.specs.Maps.{answer_out};
-ghost use Rattle.rule_table.specs.ByTable.{rules_given};
-ghost use Rattle.evr0_rules.specs.Maps.{count_in, given_out};
+ghost use Rattle.evr0_rules.specs.Maps.{given_out};
 ghost use Rattle.evr0_compare.specs.Compare.{told};
 ghost use Rattle.compare_sections.specs.Answer.{tables_of, lent_to, Compares};
 ghost use Rattle.compare_sections.specs.Parts.{Answers};
 ghost use Rattle.compare_sections.specs.Maps.{comparison_out, lent_out, SameTables};
 
 use crate::tables::Tables;
-use evr0_rules::load::load_rules;
 use evr0_rules::settle::Rules;
 use lent_table::clear;
 use local_format::refusal::Refusal;
@@ -24,17 +22,8 @@ pub enum Fault {
     Pair(Refusal),
 }
 
-// How many rules a call has, where they load.
-fn load(rules: Rules) -> Result<usize, Refusal>
-    ensures { answer_out (λ n. n) result ≡ count_in (rules_given (given_out rules.entry)) }
-{
-    match rules {
-        Rules::Four => Ok(4),
-        Rules::Table(table) => load_rules(table),
-    }
-}
-
 // Both sections. After a refusal the tables may hold anything.
+// Kept (5d): with bytes and cursor in `Tables`, which goes by `&mut`, `SameTables` and so each contract must say that both stay as they were.
 fn compare(
     rules: Rules,
     first: &[u8],
@@ -51,17 +40,16 @@ fn compare(
         (lent_to (lent_out first_tables.old) (lent_out second_tables.old) verdicts.old)
         (lent_to (lent_out first_tables.new) (lent_out second_tables.new) verdicts.new) (comparison_out result) }
 {
-    load(rules).map_err(|refusal| Fault::Rules(refusal))?;
+    rules.count().map_err(Fault::Rules)?;
     let found = first_tables
         .decode(rules, first, first_cursor)
-        .map_err(|refusal| Fault::First(refusal))?;
+        .map_err(Fault::First)?;
     let other = second_tables
         .decode(rules, second, second_cursor)
-        .map_err(|refusal| Fault::Second(refusal))?;
+        .map_err(Fault::Second)?;
     let one = first_tables.section(first, first_cursor, found);
     let two = second_tables.section(second, second_cursor, other);
-    one.hold(two, verdicts)
-        .map_err(|refusal| Fault::Pair(refusal))
+    one.hold(two, verdicts).map_err(Fault::Pair)
 }
 
 // The same, with zeros in all eleven tables after a refusal.
@@ -101,6 +89,7 @@ fn compare_or_clear(
 
 // The sections at two cursors by the rules of a call. The tables of both are filled, and the verdicts, one byte for each proposition of
 // either in proposition order: 1 agreed, 2 contradicted, 3 first only, 4 second only. A refusal leaves zeros in all eleven.
+// Kept (5a, 6a): the parameters of `falgnust_compare_sections`, which lends eleven tables; within the crate a section has its five in a struct.
 pub fn compare_sections(
     rules: Rules,
     first: &[u8],

@@ -16,6 +16,7 @@ fn tell(rt: &HostRuntime, text: &[u8]) {
     }
 }
 
+// Kept (6a): no heap: the input and the output are arrays as long as any needs.
 fn main(rt: HostRuntime) {
     let mut input = [0u8; INPUT];
     let Ok(len) = read_full(&mut rt.stdin(), &mut input) else {

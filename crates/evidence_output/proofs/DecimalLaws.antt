@@ -83,6 +83,7 @@ below (suc b) n h = go (ltb n 10) refl (λ l. below b (n / 10) (omega arith))
           value = value_append 0 (decimal (n / 10)) (digit (n % 10)) ∙ omega (arith, f.value);
         })
 
+-- Kept (8d): a theorem that stands for itself: each number has a numeral, of which only_numeral says that it is the only one.
 pub numeral : (n : ℕ) → Numeral n (decimal n)
 numeral n = below (suc n) n (omega arith)
 

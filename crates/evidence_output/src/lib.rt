@@ -16,6 +16,7 @@ use byte_output::Output;
 use evr0_head::counts::Counts;
 
 // The lines of an accepted section that ends at `end`, from the front of its lent tables.
+// Kept (6a, 6d): no heap, so the tables are as long as any input needs; the caller would cut them by the same count, and show there that it may.
 fn put_accepted(
     out: &mut Output,
     input: &[u8],
@@ -63,6 +64,7 @@ fn put_evidence(out: &mut Output, input: &[u8])
     }
 }
 
+// Kept (6a): no heap, so the output is lent, and its length is answered.
 pub fn evidence(input: &[u8], output: &mut [u8]) -> usize
     ensures { Written output.old 0 (output_of input.now) output.new result }
 {

@@ -8,6 +8,7 @@ ghost use Rattle.evidence_output.specs.Output.{spaced, line, head_line};
 use byte_output::Output;
 use evr0_head::counts::Counts;
 
+// Kept (4d): `write!(out, "{n}")` needs a fmt::Write of Output, with its laws, and a proof that it writes these digits, which `io::decimal` promises.
 fn put_decimal(out: &mut Output, n: usize)
     ensures { Writes out.old (decimal n) out.new }
 {
@@ -17,6 +18,7 @@ fn put_decimal(out: &mut Output, n: usize)
 }
 
 // A number after a space.
+// Kept (4d): as put_decimal.
 fn put_number(out: &mut Output, n: usize)
     ensures { Writes out.old (spaced (n ∷ [])) out.new }
 {
@@ -25,6 +27,7 @@ fn put_number(out: &mut Output, n: usize)
 }
 
 // A line but for what it starts with: numbers, each after a space.
+// Kept (4d): as put_decimal; a slice of numbers has no Display.
 fn end_line(out: &mut Output, numbers: &[usize])
     ensures { Writes out.old (spaced numbers.now ++ (0x0A ∷ [])) out.new }
 {
@@ -34,6 +37,7 @@ fn end_line(out: &mut Output, numbers: &[usize])
     out.put(b'\n');
 }
 
+// Kept (4d): as end_line.
 pub fn put_line(out: &mut Output, start: &[u8], numbers: &[usize])
     ensures { Writes out.old (line start.now numbers.now) out.new }
 {
@@ -41,6 +45,7 @@ pub fn put_line(out: &mut Output, start: &[u8], numbers: &[usize])
     end_line(out, numbers);
 }
 
+// Kept (4d): as end_line.
 #[tactic(auto, unfolding(crate::specs::Output::head_line))]
 pub fn put_head(out: &mut Output, counts: Counts, cursor: usize)
     ensures { Writes out.old (head_line (counts_out counts) cursor) out.new }
@@ -59,6 +64,7 @@ pub fn put_head(out: &mut Output, counts: Counts, cursor: usize)
 }
 
 // A line that starts with a number.
+// Kept (4d): as end_line.
 pub fn put_numbers(out: &mut Output, first: usize, numbers: &[usize])
     ensures { Writes out.old (line (decimal first) numbers.now) out.new }
 {

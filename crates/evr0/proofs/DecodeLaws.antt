@@ -18,13 +18,9 @@ use Rattle.rule_table.specs.ByTable.{Given, four, rules_given}
 use Rattle.rule_table.proofs.ByTable.{table_refused, decodes_by, holds_by}
 use Rattle.evr0_tables.proofs.TableLaws.{held_sum}
 use Rattle.evr0.specs.Answer.{Lent, lent_of, room_of, Answer, answer_of, Filled, Leaves, decode_given, LeavesBy}
-use Rattle.evr0.specs.Steps.{payload_in, section_by, head_in, Passes, Decoded, decoded_in, Ends, EndsBy, answer_with}
-use Rattle.evr0.proofs.AnswerLaws.{answered, refusal_ends}
+use Rattle.evr0.specs.Steps.{payload_in, section_by, head_in, Passes, Ends, EndsBy, answer_with}
+use Rattle.evr0.proofs.AnswerLaws.{refusal_ends}
 use Rattle.evr0.proofs.SectionLaws.{cursor_after}
-
--- what was left of a payload, by what was answered
-pub told_as : {x : Out Section} {before after : Lent} {g h : Out Head} → Passes x before after g → g ≡ h → Passes x before after h
-told_as p e = rw e at p
 
 -- ---- The payload as a part of the file
 
@@ -48,9 +44,9 @@ module _ (rules : List Rule) (s : List ℕ) (cursor : ℕ) (before after : Lent)
       go (refused r) h = cc
 
   -- a refusal of the payload is told by its place in the file
-  pub payload_refused : {q : Refusal} → Passes part before after (refused q) → length s ≤ 18446744073709551615
-      → Ends (section_by rules before s cursor) before after (refused (at_offset q (held f.start q.offset)))
-  payload_refused {q} r l =
+  pub payload_refused : {q : Refusal} {given : Answer} → Passes part before after (refused q) → length s ≤ 18446744073709551615
+      → given ≡ answer_of cursor (refused (at_offset q (held f.start q.offset))) → Ends (section_by rules before s cursor) cursor before after given
+  payload_refused {q} r l g =
       let x = part_refused r.answer in
       let within : f.start + f.len ≤ length s = (frame_place _ _ e).1 in
       let long : length (take (f.start + f.len - f.start) (drop f.start s)) ≤ f.len = simp length-take (omega arith) in
@@ -58,41 +54,41 @@ module _ (rules : List Rule) (s : List ℕ) (cursor : ℕ) (before after : Lent)
       held_sum f.start q.offset (omega (arith, section_within rules (room_of before) _ (f.start + f.len) x)) in
       let y : section_by rules before s cursor ≡ refused (at_offset q (held f.start q.offset)) = placed ∙ ap (moved f.start) x ∙ rw k in
       let t : Filled (refused q) before after = rw x at r.tables in
-      refusal_ends y (record { propositions = t.propositions; proofs = t.proofs; depths = t.depths })
+      refusal_ends y (record { propositions = t.propositions; proofs = t.proofs; depths = t.depths }) g
 
-  pub payload_accepted : {h : Head} → Passes part before after (ok h)
-      → Ends (section_by rules before s cursor) before after (ok (record { head = h; cursor = f.start + f.len }))
-  payload_accepted {h} r =
+  pub payload_accepted : {h : Head} {given : Answer} → Passes part before after (ok h) → given ≡ answer_with (f.start + f.len) h
+      → Ends (section_by rules before s cursor) cursor before after given
+  payload_accepted {h} r g =
       let a = bind_ok part _ (sym r.answer) in
       let c : a.0.cursor ≡ f.start + f.len = cursor_after rules (room_of before) _ (f.start + f.len) a.1 in
       let y : section_by rules before s cursor ≡ ok a.0 = placed ∙ ap (moved f.start) a.1 in
       rw y (record {
-        answer = ap₂ (λ (x : Head) (n : ℕ). ok (record { head = x; cursor = n })) (sym (ok_same a.2)) (sym c);
+        answer = g ∙ ap₂ answer_with (sym c) (sym (ok_same a.2));
         tables = subst (λ (x : Out Section). Filled x before after) a.1 r.tables;
       })
 
 -- ---- By the rules of a call, and by the four
 
-module _ {s : List ℕ} {cursor : ℕ} {before after : Lent} {d : Out Decoded} where
-  pub ends_by : (which : Given) {rules : List Rule} → rules_given which ≡ ok rules → Ends (section_by rules before s cursor) before after d
-      → EndsBy which s cursor before after d
+module _ {s : List ℕ} {cursor : ℕ} {before after : Lent} {given : Answer} where
+  pub ends_by : (which : Given) {rules : List Rule} → rules_given which ≡ ok rules → Ends (section_by rules before s cursor) cursor before after given
+      → EndsBy which s cursor before after given
   ends_by which {rules} e x =
       let k = decodes_by which (room_of before) s cursor rules e in
-      record { answer = x.answer ∙ ap decoded_in (sym k); tables = rw k x.tables }
+      record { answer = x.answer ∙ ap (answer_of cursor) (sym k); tables = rw k x.tables }
 
-  pub not_by : (which : Given) {q : Refusal} → rules_given which ≡ refused q → d ≡ refused q → Filled (refused q) before after
-      → EndsBy which s cursor before after d
+  pub not_by : (which : Given) {q : Refusal} → rules_given which ≡ refused q → given ≡ answer_of cursor (refused q) → Filled (refused q) before after
+      → EndsBy which s cursor before after given
   not_by which {q} e x t =
       let k = table_refused which (room_of before) s cursor q e in
-      record { answer = x ∙ ap decoded_in (sym k); tables = rw k t }
+      record { answer = x ∙ ap (answer_of cursor) (sym k); tables = rw k t }
 
 module _ {s : List ℕ} {cursor : ℕ} {before : Lent} {given : Answer} where
   -- the tables are what they are once the loan is over
-  pub leaves_by : {ps qs ds : List ℕ} {which : Given} {after : Lent} {d : Out Decoded} → given ≡ answer_with cursor d → EndsBy which s cursor before after d
+  pub leaves_by : {ps qs ds : List ℕ} {which : Given} {after : Lent} → EndsBy which s cursor before after given
       → ps ≡ after.propositions → qs ≡ after.proofs → ds ≡ after.depths → LeavesBy which s cursor before (lent_of ps qs ds) given
-  leaves_by {which} g x e f h =
+  leaves_by {which} x e f h =
       record {
-        answer = g ∙ ap (answer_with cursor) x.answer ∙ answered cursor (decode_given which before s cursor);
+        answer = x.answer;
         tables = record { propositions = e ∙ x.tables.propositions; proofs = f ∙ x.tables.proofs; depths = h ∙ x.tables.depths };
         holds = holds_by which (room_of before) s cursor;
       }

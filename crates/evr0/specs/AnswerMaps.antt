@@ -1,11 +1,9 @@
 -- From the decoder's answer to the definitions' types.
 use Rattle.local_format.specs.Maps as maps
-use Rattle.evr0_head.specs.Maps.{counts_out, head_out}
+use Rattle.evr0_head.specs.Maps.{counts_out}
 use Rattle.evr0_head.specs.declared.head.Head as head
 use Rattle.evr0.specs.Answer as of
-use Rattle.evr0.specs.Steps as steps
 use Rattle.evr0.specs.declared.section.Accepted as given
-use Rattle.evr0.specs.declared.section.Decoded as decoded
 use Rattle.evr0.specs.declared.section.DecodedEvr0.{DecodedEvr0}
 pub use Rattle.evr0_rules.specs.Maps.{given_out}
 
@@ -33,9 +31,6 @@ head_outcome h =
       issuer_chars = h.issuer_namespace.chars;
       counts = counts_out h.counts;
     }
-
-abbrev pub decoded_out : decoded.Decoded → steps.Decoded
-decoded_out d = record { head = head_out d.head; cursor = d.cursor }
 
 abbrev pub answer_out : DecodedEvr0 → of.Answer
 answer_out d =

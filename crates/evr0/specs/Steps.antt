@@ -3,11 +3,10 @@ use Rattle.std.specs.Prelude.{ℕ, ◌≡◌, List}
 use Rattle.local_format.specs.Refusal.{Refusal}
 use Rattle.local_format.specs.Out.{Out, ok, refused, ◌>>=◌}
 use Rattle.derivation.specs.Rule.{Rule}
-use Rattle.evr0_fields.specs.Maps.{zeros}
 use Rattle.evr0_section.specs.Head.{Head}
 use Rattle.evr0_section.specs.Section.{Section, Frame, frame_at, section_in, section_at}
 use Rattle.rule_table.specs.ByTable.{Given}
-use Rattle.evr0.specs.Answer.{Lent, room_of, Answer, Filled, decode_given}
+use Rattle.evr0.specs.Answer.{Lent, room_of, Answer, answer_of, Filled, decode_given}
 
 -- the section of a payload, by some rules, after which the cursor stands at `end`
 abbrev pub payload_in : List Rule → Lent → List ℕ → ℕ → Out Section
@@ -32,41 +31,31 @@ pub record Passes (x : Out Section) (before after : Lent) (given : Out Head) : T
   pub answer : given ≡ head_in x
   pub tables : Filled x before after
 
--- the head of an accepted section, and the cursor after it
-pub record Decoded : Type 0 where
-  pub head : Head
-  pub cursor : ℕ
-
-abbrev pub decoded_in : Out Section → Out Decoded
-decoded_in x = do
-  s ← x
-  ok (record { head = s.tables.head; cursor = s.cursor })
-
-pub record Ends (x : Out Section) (before after : Lent) (given : Out Decoded) : Type 0 where
-  pub answer : given ≡ decoded_in x
+-- what is answered of a section at a cursor, and what the lent tables then hold
+pub record Ends (x : Out Section) (cursor : ℕ) (before after : Lent) (given : Answer) : Type 0 where
+  pub answer : given ≡ answer_of cursor x
   pub tables : Filled x before after
 
 -- the same by the rules of a call
-pub record EndsBy (which : Given) (bytes : List ℕ) (cursor : ℕ) (before after : Lent) (given : Out Decoded) : Type 0 where
-  pub answer : given ≡ decoded_in (decode_given which before bytes cursor)
+pub record EndsBy (which : Given) (bytes : List ℕ) (cursor : ℕ) (before after : Lent) (given : Answer) : Type 0 where
+  pub answer : given ≡ answer_of cursor (decode_given which before bytes cursor)
   pub tables : Filled (decode_given which before bytes cursor) before after
 
--- what is answered of it where the cursor was brought at `cursor`
-abbrev pub answer_with : ℕ → Out Decoded → Answer
-answer_with cursor (ok d) =
+-- what is answered of a section with this head, after which the cursor stands at `end`
+abbrev pub answer_with : ℕ → Head → Answer
+answer_with end h =
     record {
-      source_set = d.head.source_set;
-      compiler_contract = d.head.compiler_contract;
-      cursor = d.cursor;
+      source_set = h.source_set;
+      compiler_contract = h.compiler_contract;
+      cursor = end;
       outcome =
           ok (record {
-            schema = d.head.schema;
-            epoch = d.head.epoch;
-            policy_at = d.head.policy_at;
-            issuer_at = d.head.issuer_at;
-            policy_chars = d.head.policy.chars;
-            issuer_chars = d.head.issuer.chars;
-            counts = d.head.counts;
+            schema = h.schema;
+            epoch = h.epoch;
+            policy_at = h.policy_at;
+            issuer_at = h.issuer_at;
+            policy_chars = h.policy.chars;
+            issuer_chars = h.issuer.chars;
+            counts = h.counts;
           });
     }
-answer_with cursor (refused r) = record { source_set = zeros; compiler_contract = zeros; cursor = cursor; outcome = refused r }

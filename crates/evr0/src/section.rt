@@ -1,16 +1,19 @@
 // Evidence sections.
 ghost use Rattle.std.specs.Prelude.{◌≡◌, ◌≤◌, List, ℕ, length, take};
-ghost use Rattle.local_format.specs.Maps.{answer_out};
+ghost use Rattle.local_format.specs.Out.{ok, refused};
+ghost use Rattle.local_format.specs.Maps.{answer_out, refusal_out};
 ghost use Rattle.derivation.specs.Rule.{Rule};
 ghost use Rattle.derivation.specs.Pass as of;
 ghost use Rattle.evr0_rules.specs.Maps.{book_rules, given_out};
 ghost use Rattle.evr0_head.specs.Maps.{head_out};
-ghost use Rattle.evr0_tables.specs.LentTables.{SameTables, tables_out};
+ghost use Rattle.evr0_tables.specs.LentMaps.{SameTables, tables_out};
 ghost use Rattle.evr0_pass.specs.View.{TablesThere, PolaritiesThere};
 ghost use Rattle.evr0_pass.specs.Maps.{layout_out, tables_in, Derives};
-ghost use Rattle.evr0.specs.Answer.{lent_of, Leaves, LeavesBy};
-ghost use Rattle.evr0.specs.AnswerMaps.{accepted_out, head_outcome, decoded_out};
+ghost use Rattle.evr0_section.specs.Section.{frame_at};
+ghost use Rattle.evr0.specs.Answer.{lent_of, answer_of, Leaves, LeavesBy};
+ghost use Rattle.evr0.specs.AnswerMaps.{accepted_out, head_outcome};
 ghost use Rattle.evr0.specs.AnswerMaps as maps;
+ghost use Rattle.evr0.specs.Maps.{frame_out};
 ghost use Rattle.evr0.specs.Steps.{payload_in, section_by, answer_with, Passes, Ends, EndsBy};
 
 use crate::frame::{Frame, read_opening};
@@ -20,15 +23,15 @@ use evr0_head::head::Head;
 use evr0_pass::pass::{Layout, derive};
 use evr0_rules::settle::{RuleRoom, Rulebook, Rules};
 use evr0_tables::lent::Tables;
-use evr0_tables::part::moved;
 use evr0_tables::payload::{Payload, read_payload};
 use lent_table::clear;
-use local_format::refusal::Refusal;
+use local_format::refusal::{Refusal, based};
 
 // What is given of an accepted section: the schema, the epoch, the places in the payload of both namespaces' lengths, how many characters each has,
 // and the counts.
 #[derive(Clone, Copy, Debug, PartialEq, Eq)]
 pub struct Accepted {
+    // Kept (1a): callers hand it on to public functions that take any u16 as the schema, and C reads the number.
     pub schema: u16,
     pub epoch: u16,
     pub policy_namespace: usize,
@@ -38,7 +41,8 @@ pub struct Accepted {
     pub counts: Counts,
 }
 
-// The outcome with the cursor, and the digests, which are zeros where the section is refused: callers in C read all four.
+// The outcome with the cursor, and the digests, which are zeros where the section is refused.
+// Kept (1a): document 01 has digests and cursor beside every answer, and the contract's `answer_of` has zeros and the brought cursor beside a refusal.
 #[derive(Clone, Copy, Debug, PartialEq, Eq)]
 pub struct DecodedEvr0 {
     pub source_set: [u8; 32],
@@ -47,15 +51,8 @@ pub struct DecodedEvr0 {
     pub outcome: Result<Accepted, Refusal>,
 }
 
-// The head of an accepted section, and the cursor after it.
-#[derive(Clone, Copy)]
-struct Decoded {
-    head: Head,
-    cursor: usize,
-}
-
-fn accept(head: Head) -> Accepted
-    ensures { accepted_out result ≡ head_outcome head }
+fn accept(head: &Head) -> Accepted
+    ensures { accepted_out result ≡ head_outcome head.now }
 {
     Accepted {
         schema: head.schema,
@@ -68,31 +65,31 @@ fn accept(head: Head) -> Accepted
     }
 }
 
-// What is answered where the cursor was brought at `cursor`.
-fn answer(decoded: Result<Decoded, Refusal>, cursor: usize) -> DecodedEvr0
-    ensures { maps.answer_out result ≡ answer_with cursor (answer_out decoded_out decoded) }
+// A section with this head, after which the cursor stands at `end`.
+fn accepted_section(head: &Head, end: usize) -> DecodedEvr0
+    ensures { maps.answer_out result ≡ answer_with end (head_out head.now) }
 {
-    match decoded {
-        Ok(Decoded { head, cursor: end }) => {
-            let source_set = head.source_set;
-            let compiler_contract = head.compiler_contract;
-            DecodedEvr0 {
-                source_set,
-                compiler_contract,
-                cursor: end,
-                outcome: Ok(accept(head)),
-            }
-        }
-        Err(refusal) => DecodedEvr0 {
-            source_set: [0u8; 32],
-            compiler_contract: [0u8; 32],
-            cursor,
-            outcome: Err(refusal),
-        },
+    DecodedEvr0 {
+        source_set: *head.source_set,
+        compiler_contract: *head.compiler_contract,
+        cursor: end,
+        outcome: Ok(accept(head)),
+    }
+}
+
+fn refused_section(refusal: Refusal, cursor: usize) -> DecodedEvr0
+    ensures { maps.answer_out result ≡ answer_of cursor (refused (refusal_out refusal)) }
+{
+    DecodedEvr0 {
+        source_set: [0u8; 32],
+        compiler_contract: [0u8; 32],
+        cursor,
+        outcome: Err(refusal),
     }
 }
 
 // The last pass over the proofs that start at the front of a table, which stays as it is.
+// Kept (2d): `fill_front` of evr0_rounds calls another pass; each is one call, and its clauses, which speak of that pass, are all the rest.
 fn derive_front(
     payload: &[u8],
     layout: Layout,
@@ -111,9 +108,14 @@ fn derive_front(
 }
 
 // The section of a payload: its head, with its starts and depths in the lent tables; a refusal leaves zeros in all three.
-fn section_in(rules: Rulebook, payload: &[u8], tables: &mut Tables) -> Result<Head, Refusal>
+// Kept (2d): `mark_payload` of evr0_rounds has these steps with another pass; one function would take the pass and what it promises as parameters.
+fn section_in<'p>(
+    rules: &Rulebook,
+    payload: &'p [u8],
+    tables: &mut Tables,
+) -> Result<Head<'p>, Refusal>
     ensures same { SameTables tables.old tables.new }
-    ensures passes { (end : ℕ) → Passes (payload_in (book_rules rules.entry) (tables_out tables.old) payload.now end)
+    ensures passes { (end : ℕ) → Passes (payload_in (book_rules rules.now) (tables_out tables.old) payload.now end)
         (tables_out tables.old) (tables_out tables.new) (answer_out head_out result) }
 {
     let Payload {
@@ -138,72 +140,78 @@ fn section_in(rules: Rulebook, payload: &[u8], tables: &mut Tables) -> Result<He
     }
 }
 
-// The section at `cursor`, by the rules of a call.
-fn decode(
-    rules: Rulebook,
+// The section at `cursor`, whose frame was read.
+// Kept (2d): `mark_section` of evr0_rounds has no digests to answer and no opening that is refused first; a frame and a `match` are the same.
+fn decode_at(
+    rules: &Rulebook,
     bytes: &[u8],
+    frame: Frame,
     cursor: usize,
     tables: &mut Tables,
-) -> Result<Decoded, Refusal>
+) -> DecodedEvr0
+    requires { frame_at bytes.now cursor ≡ ok (frame_out frame) }
     ensures same { SameTables tables.old tables.new }
-    ensures ends { Ends (section_by (book_rules rules.entry) (tables_out tables.old) bytes.now cursor)
-        (tables_out tables.old) (tables_out tables.new) (answer_out decoded_out result) }
+    ensures ends { Ends (section_by (book_rules rules.now) (tables_out tables.old) bytes.now cursor) cursor
+        (tables_out tables.old) (tables_out tables.new) (maps.answer_out result) }
+{
+    let end = frame.start + frame.len;
+    let read = section_in(rules, &bytes[frame.start..end], tables);
+    match read {
+        Ok(head) => accepted_section(&head, end),
+        Err(refusal) => refused_section(based(refusal, frame.start), cursor),
+    }
+}
+
+// The section at `cursor`, by the rules of a call. A refused opening is answered where the call stands.
+#[inline(always)]
+fn decode(rules: &Rulebook, bytes: &[u8], cursor: usize, tables: &mut Tables) -> DecodedEvr0
+    ensures same { SameTables tables.old tables.new }
+    ensures ends { Ends (section_by (book_rules rules.now) (tables_out tables.old) bytes.now cursor) cursor
+        (tables_out tables.old) (tables_out tables.new) (maps.answer_out result) }
 {
     let opening = read_opening(bytes, cursor);
     match opening {
+        Ok(frame) => decode_at(rules, bytes, frame, cursor, tables),
         Err(refusal) => {
             tables.clear(); // of a refused opening
-            Err(refusal)
-        }
-        Ok(Frame { start, len }) => {
-            let end = start + len;
-            let head = moved(section_in(rules, &bytes[start..end], tables), start)?;
-            Ok(Decoded { head, cursor: end })
+            refused_section(refusal, cursor)
         }
     }
 }
 
 // The same by the rules of a table, which is loaded first.
-fn decode_loaded(
-    rules: Rules,
-    bytes: &[u8],
-    cursor: usize,
-    tables: &mut Tables,
-) -> Result<Decoded, Refusal>
+// Kept (2d): the rounds load their rules so too; one function would take all that comes after as a closure, for a `let` and a `match`.
+fn decode_loaded(rules: Rules, bytes: &[u8], cursor: usize, tables: &mut Tables) -> DecodedEvr0
     ensures same { SameTables tables.old tables.new }
     ensures ends { EndsBy (given_out rules.entry) bytes.now cursor
-        (tables_out tables.old) (tables_out tables.new) (answer_out decoded_out result) }
+        (tables_out tables.old) (tables_out tables.new) (maps.answer_out result) }
 {
     let mut room = RuleRoom::EMPTY;
     let loaded = Rulebook::load(rules, &mut room);
     match loaded {
-        Ok(book) => decode(book, bytes, cursor, tables),
+        Ok(book) => decode(&book, bytes, cursor, tables),
         Err(refusal) => {
             tables.clear(); // of refused rules
-            Err(refusal)
+            refused_section(refusal, cursor)
         }
     }
 }
 
 // The same by the rules of a call. Room is made for the rules of a table alone.
-fn decode_given(
-    rules: Rules,
-    bytes: &[u8],
-    cursor: usize,
-    tables: &mut Tables,
-) -> Result<Decoded, Refusal>
+fn decode_given(rules: Rules, bytes: &[u8], cursor: usize, tables: &mut Tables) -> DecodedEvr0
     ensures same { SameTables tables.old tables.new }
     ensures ends { EndsBy (given_out rules.entry) bytes.now cursor
-        (tables_out tables.old) (tables_out tables.new) (answer_out decoded_out result) }
+        (tables_out tables.old) (tables_out tables.new) (maps.answer_out result) }
 {
     match rules {
-        Rules::Four => decode(Rulebook::Four, bytes, cursor, tables),
+        Rules::Four => decode(&Rulebook::Four, bytes, cursor, tables),
         Rules::Table(_) => decode_loaded(rules, bytes, cursor, tables),
     }
 }
 
 // Decodes the section at `cursor` by the rules of a call, the four or those of a table, without the marks of its proofs. Each lent table is filled to its
 // count and has zeros past it; a refusal leaves zeros in all three.
+// Kept (7d): `decode_given` has one arm for each kind of rules; a closure in place of an arm would be called where it is made.
 pub fn decode_evr0_by(
     rules: Rules,
     bytes: &[u8],
@@ -221,10 +229,11 @@ pub fn decode_evr0_by(
         proofs,
         depths,
     };
-    answer(decode_given(rules, bytes, cursor, &mut tables), cursor)
+    decode_given(rules, bytes, cursor, &mut tables)
 }
 
 // The same by the four.
+// Kept (2a): the Rust's decoder takes no rules; by `decode_evr0_by(Rules::Four, ..)` a refused opening would be answered two calls deeper.
 pub fn decode_evr0_unmarked(
     bytes: &[u8],
     cursor: usize,
@@ -236,5 +245,10 @@ pub fn decode_evr0_unmarked(
         (lent_of propositions.old proofs.old depths.old)
         (lent_of propositions.new proofs.new depths.new) (maps.answer_out result) }
 {
-    decode_evr0_by(Rules::Four, bytes, cursor, propositions, proofs, depths)
+    let mut tables = Tables {
+        propositions,
+        proofs,
+        depths,
+    };
+    decode(&Rulebook::Four, bytes, cursor, &mut tables)
 }

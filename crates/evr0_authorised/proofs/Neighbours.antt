@@ -17,6 +17,7 @@ use Rattle.evr0_marks.specs.Answer.{Lent}
 use Rattle.evr0_marks.proofs.Neighbours.{decoded_same, tables_same}
 use Rattle.evr0_authorised.specs.Authorised.{Authorises}
 
+-- Kept (8d): a theorem that stands for itself: the answer hangs on the section and the lent lengths alone.
 pub authorised_same : {B : Type 0} (n : ℕ) (tell : Out (Chosen Section (Entry Proposition)) → B) (s s' : List ℕ) (cursor : ℕ) → SameSection s s' cursor
     → {before before' after after' : Lent} → unmarked.room_of before.others ≡ unmarked.room_of before'.others
     → length before.marks ≡ length before'.marks → {r r' : B} → Authorises n tell s cursor before after r

@@ -11,15 +11,15 @@ ghost use Rattle.evr0_authorised.specs.Authorised.{authorised_told, AuthorisesBy
 ghost use Rattle.evr0_authorised.specs.Maps.{own};
 
 use evr0_fields::number::PropositionIndex;
-use evr0_marks::record::after_name;
 use evr0_marks::section::{decode_evr0_section_by, tables_of};
-use evr0_pass::pass::Tables;
+use evr0_pass::pass::{Tables, after_name};
 use evr0_rules::settle::Rules;
 use lent_table::clear;
 use local_format::field::LittleEndian;
 use local_format::refusal::{Refusal, refuse};
 
 // Whether the proof at `start` with a mark is one of the proposition, with operation 1 and mark 1.
+// Kept (1a, 2d): a mark is a lent byte; by an `operates(payload, start, mark)` for `flag` too, each positive proof's operation is read before its proposition.
 fn operates(payload: &[u8], start: usize, mark: u8, proposition: u32) -> bool
     requires { after_name payload.now start + 24 ≤ length payload.now }
     ensures { (rules : List Rule) → result ≡ own (proof_view rules payload.now start) mark proposition }
@@ -33,13 +33,14 @@ fn operates(payload: &[u8], start: usize, mark: u8, proposition: u32) -> bool
 }
 
 // Of the proofs of these tables, whose marks the table begins with.
+// Kept (2d, 6a): starts and marks are two tables that C lends; `flag_proofs` writes for each, and by `any` the closure would state that its record is there.
 fn authorised_by(tables: Tables, marks: &[u8], proposition: u32) -> bool
     requires { length tables.starts.now ≤ length marks.now }
     ensures { (rules : List Rule) → result
         ≡ of.operates (map (proof_view rules tables.entry.payload.now) tables.entry.starts.now) marks.now proposition }
 {
-    for (i, start) in tables.starts.iter().enumerate() {
-        if operates(tables.payload, *start as usize, marks[i], proposition) {
+    for (start, mark) in tables.starts.iter().zip(marks) {
+        if operates(tables.payload, *start as usize, *mark, proposition) {
             return true;
         }
     }

@@ -65,10 +65,6 @@ module _ (s c : List ℕ) where
   unfolding columns_of rebuilt
   section_back bytes e = there_and_back columns_lawful section_lawful c s bytes e
 
-  pub columns_bytes : Bytes s → columns_of s ≡ ok c → Bytes c
-  unfolding columns_of
-  columns_bytes bytes e = rewritten_bytes section_lawful columns_lawful s c bytes e
-
   pub rebuilt_bytes : Bytes c → rebuilt c ≡ ok s → Bytes s
   unfolding rebuilt
   rebuilt_bytes bytes e = rewritten_bytes columns_lawful section_lawful c s bytes e

@@ -19,6 +19,7 @@ pub each_verdict : codes (compared first second) ≡ 1 ∷ 2 ∷ 3 ∷ 4 ∷ 1 �
 unfolding compared against compare compare_bytes compare_keys
 each_verdict = refl
 
+-- Kept (8d): an example of the definition, for readers.
 pub its_totals : tally_of (compared first second) ≡ record { agreed = 2; contradicted = 1; first_only = 1; second_only = 2 }
 unfolding compared against total compare compare_bytes compare_keys
 its_totals = refl

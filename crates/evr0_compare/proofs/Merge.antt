@@ -186,9 +186,6 @@ module _ (xs ys : List Standing) {before after : List ℕ} {entries same : ℕ} 
 
 -- ---- The next verdict by the bytes
 module _ {p ps fs q qs gs : List ℕ} {xs ys : List Standing} (first : Views p ps fs xs) (second : Views q qs gs ys) (i j : ℕ) where
-  pub first_done : length ps ≤ i → second_only ≡ next_verdict (drop i xs) (drop j ys)
-  first_done h = rw (drop_of_length-le xs {i = i} (omega (arith, first.count)))
-
   module _ (l : i < length ps) where
     first_left : drop i xs ≡ record { key = key_at p (get_or ps i 0); authorised = eqb (get_or fs i 0) 1 } ∷ drop (suc i) xs
     first_left = drop-cons xs i no_standing (omega (arith, first.count)) ∙ rw (first.each i l)

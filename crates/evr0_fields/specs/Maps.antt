@@ -1,11 +1,6 @@
--- From the code's structs to the definitions' types, and an answer with two digests beside it.
+-- An answer with two digests beside it.
 use Rattle.std.specs.Prelude.{List, ℕ, replicate}
 use Rattle.local_format.specs.Out.{Out, ok, refused}
-use Rattle.evr0_section.specs.Head as of
-use Rattle.evr0_fields.specs.declared.place.Digest.{Digest}
-
-abbrev pub digest_out : Digest → of.Digest
-digest_out d = record { bytes = d.bytes; next = d.next }
 
 -- an answer and the two digests that stand beside it
 pub record Beside (A : Type 0) : Type 0 where

@@ -3,17 +3,10 @@ ghost use Rattle.std.specs.Prelude.{◌≡◌};
 ghost use Rattle.local_format.specs.Maps.{answer_out};
 ghost use Rattle.evr0_section.specs.Head.{digest_at};
 ghost use Rattle.evr0_section.specs.Proof.{zeros_at};
-ghost use Rattle.evr0_fields.specs.Maps.{digest_out};
 
+use local_format::field::Field;
 use local_format::part::tail;
 use local_format::refusal::{Refusal, check, refuse};
-
-// A digest, and the place after it.
-#[derive(Clone, Copy, Debug, PartialEq, Eq)]
-pub struct Digest {
-    pub bytes: [u8; 32],
-    pub next: usize,
-}
 
 // Three reserved bytes: the place after them.
 pub fn zeros_at(bytes: &[u8], at: usize) -> Result<usize, Refusal>
@@ -27,14 +20,15 @@ pub fn zeros_at(bytes: &[u8], at: usize) -> Result<usize, Refusal>
     Ok(next)
 }
 
-pub fn digest_at(bytes: &[u8], at: usize) -> Result<Digest, Refusal>
-    ensures { answer_out digest_out result ≡ digest_at bytes.now at }
+// A digest where it stands.
+pub fn digest_at(bytes: &[u8], at: usize) -> Result<Field<&[u8; 32]>, Refusal>
+    ensures { answer_out (λ digest. record { bytes = digest.value.now; next = digest.next }) result ≡ digest_at bytes.now at }
 {
     let Some(digest) = tail(bytes, at).first_chunk::<32>() else {
         return Err(refuse(5, at));
     };
-    Ok(Digest {
-        bytes: *digest,
+    Ok(Field {
+        value: digest,
         next: at + 32,
     })
 }

@@ -1,8 +1,9 @@
-// What the schema of a payload decides. It stays the number that was read: the C interface gives it out, and a witness is read under any.
+// What the schema of a payload decides.
 ghost use Rattle.std.specs.Prelude.{◌≡◌, ◌≤◌};
 ghost use Rattle.evr0_section.specs.Head.{is_schema, span_width, witness_size, witness_memory};
 
 // Whether a payload of this schema is read.
+// Kept (1a): callers bring any u16, as it was read; an enum of the two schemas would ask more of them.
 pub fn is_schema(schema: u16) -> bool
     ensures { result ≡ is_schema schema }
 {
@@ -10,6 +11,8 @@ pub fn is_schema(schema: u16) -> bool
 }
 
 // The bytes of a witness.
+// Kept (1a): callers bring any u16; a witness under a schema that is neither 1 nor 2 has 84 bytes.
+// Kept (2d): one function of both sizes is called as `by_schema(schema, 92, 84)`, and what the numbers are stands at each call.
 #[tactic(auto, unfolding(evr0_section::specs::Head::span_width))]
 pub fn witness_size(schema: u16) -> usize
     ensures { (result ≡ witness_size (span_width schema)) × (result ≤ 92) }
@@ -17,7 +20,8 @@ pub fn witness_size(schema: u16) -> usize
     if schema == 2 { 92 } else { 84 }
 }
 
-// What 14 counts for a witness. One function over both sizes would be no plainer, with the four numbers as parameters.
+// What 14 counts for a witness.
+// Kept (1a): callers bring any u16, as it was read.
 #[tactic(auto, unfolding(evr0_section::specs::Head::witness_memory))]
 pub fn witness_memory(schema: u16) -> usize
     ensures { (result ≡ witness_memory schema) × (result ≤ 96) }

@@ -6,18 +6,20 @@ ghost use Rattle.evr0_head.specs.Checks.{Limited};
 ghost use Rattle.evr0_head.specs.Maps.{counts_out, room_out, head_out};
 
 use crate::counts::{Counts, read_counts};
-use evr0_fields::place::{Digest, digest_at};
+use evr0_fields::place::digest_at;
 use evr0_fields::schema::{is_schema, witness_memory, witness_size};
 use local_format::field::{Field, field_at};
 use local_format::refusal::{Refusal, check, refuse};
 use local_format::text::{Span, text_at};
 
-// The places of the namespaces' lengths and of the first count, and the place after the counts. The schema is the number that was read.
+// The places of the namespaces' lengths and of the first count, and the place after the counts.
+// The digests are borrowed from the payload.
 #[derive(Clone, Copy, Debug, PartialEq, Eq)]
-pub struct Head {
+pub struct Head<'a> {
+    // Kept (1a): callers in C read the number, and the readers of a witness take any u16 as the schema.
     pub schema: u16,
-    pub source_set: [u8; 32],
-    pub compiler_contract: [u8; 32],
+    pub source_set: &'a [u8; 32],
+    pub compiler_contract: &'a [u8; 32],
     pub epoch: u16,
     pub policy_at: usize,
     pub policy_namespace: Span,
@@ -45,8 +47,9 @@ struct RecordSizes {
     parent: usize,
 }
 
+// Kept (2d): a reader has a line for each field of its record; with `read_witness` it shares the kinds of fields, which are functions already.
 #[tactic(auto, unfolding(evr0_section::specs::Head::head_of))]
-pub fn read_head(payload: &[u8]) -> Result<Head, Refusal>
+pub fn read_head(payload: &[u8]) -> Result<Head<'_>, Refusal>
     ensures { answer_out head_out result ≡ head_of payload.now }
 {
     let Some(
@@ -69,12 +72,12 @@ pub fn read_head(payload: &[u8]) -> Result<Head, Refusal>
         return Err(refuse(5, flags_at));
     };
     check(flags == 0, 11, source_at)?;
-    let Digest {
-        bytes: source_set,
+    let Field {
+        value: source_set,
         next: contract_at,
     } = digest_at(payload, source_at)?;
-    let Digest {
-        bytes: compiler_contract,
+    let Field {
+        value: compiler_contract,
         next: epoch_at,
     } = digest_at(payload, contract_at)?;
     let Some(
@@ -88,7 +91,10 @@ pub fn read_head(payload: &[u8]) -> Result<Head, Refusal>
     };
     let policy_namespace = text_at(payload, policy_at)?;
     let issuer_namespace = text_at(payload, policy_namespace.next)?;
-    let counted = read_counts(payload, issuer_namespace.next)?;
+    let Field {
+        value: counts,
+        next,
+    } = read_counts(payload, issuer_namespace.next)?;
     Ok(Head {
         schema,
         source_set,
@@ -98,9 +104,9 @@ pub fn read_head(payload: &[u8]) -> Result<Head, Refusal>
         policy_namespace,
         issuer_at: policy_namespace.next,
         issuer_namespace,
-        counts: counted.counts,
+        counts,
         counts_at: issuer_namespace.next,
-        next: counted.next,
+        next,
     })
 }
 
@@ -141,9 +147,9 @@ fn table_sizes(counts: Counts, each: RecordSizes) -> usize
 
 // The checks after the counts of a payload's head.
 #[tactic(auto, unfolding(evr0_section::specs::Head::check_counts))]
-fn check_counts(payload: &[u8], head: Head, room: Room) -> Result<(), Refusal>
-    requires { (head.counts_at ≤ head.next) × (head.next ≤ length payload.now) }
-    ensures { answer_out (λ done. done) result ≡ check_counts (room_out room) payload.now (head_out head) }
+fn check_counts(payload: &[u8], head: &Head, room: Room) -> Result<(), Refusal>
+    requires { (head.now.counts_at ≤ head.now.next) × (head.now.next ≤ length payload.now) }
+    ensures { answer_out (λ done. done) result ≡ check_counts (room_out room) payload.now (head_out head.now) }
 {
     let len = payload.len();
     let next = head.next;
@@ -184,10 +190,10 @@ fn check_counts(payload: &[u8], head: Head, room: Room) -> Result<(), Refusal>
 
 // A head whose counts passed their checks against the payload and the lent tables.
 #[tactic(auto, unfolding(evr0_section::specs::Head::checked_head))]
-pub fn read_checked_head(payload: &[u8], room: Room) -> Result<Head, Refusal>
+pub fn read_checked_head(payload: &[u8], room: Room) -> Result<Head<'_>, Refusal>
     ensures { answer_out head_out result ≡ checked_head (room_out room) payload.now }
 {
     let head = read_head(payload)?;
-    check_counts(payload, head, room)?;
+    check_counts(payload, &head, room)?;
     Ok(head)
 }

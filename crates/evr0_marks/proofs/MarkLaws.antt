@@ -14,7 +14,7 @@ use Rattle.derivation.specs.Section.{Proof, Section, Witness, no_witness, proof_
 use Rattle.derivation.specs.InOrder.{in_order, gathered}
 use Rattle.derivation.specs.Mark.{end_polarity, end_mark, joined, mark_of, marks}
 use Rattle.derivation.proofs.Laws.{in_order_none, in_order_turn, gathered_turn, mark_end, mark_inner}
-use Rattle.evr0_pass.specs.View.{Layout, after_name, places, proof_view, width_in, witness_view, view, ProofThere}
+use Rattle.evr0_pass.specs.View.{Layout, after_name, places, proof_view, width_in, witness_view, view}
 use Rattle.evr0_pass.proofs.ViewLaws.{length_places, proof_total_lem, proof_at_lem, witness_at_lem, parent_at_lem}
 
 module _ (rules : List Rule) (p starts : List ℕ) (l : Layout) where
@@ -66,12 +66,6 @@ module _ (rules : List Rule) (p starts : List ℕ) (l : Layout) where
     marked_inner {first} z f m =
         let cell : first ≡ (proof_at s i).first_parent = f ∙ ap (λ (n : ℕ). le 4 p (n + 12)) named ∙ sym (ap (λ (q : Proof). q.first_parent) is) in
         m ∙ ap₂ (λ (k c : ℕ). gathered joined s known k c 0) (sym count) cell ∙ sym (mark_inner s i known (λ e. z (sym count ∙ e)))
-
--- the parents of a proof that is there are there
-pub parents_there : {p : List ℕ} {l : Layout} {start i rest parents first : ℕ} → ProofThere p l start i → rest ≡ after_name p start
-    → parents ≡ le 4 p (rest + 16) → first ≡ le 4 p (rest + 12) → first + parents ≤ l.counts.parents
-parents_there {p} there named counted f =
-    omega (arith, there.parents, f ∙ ap (λ (n : ℕ). le 4 p (n + 12)) named, counted ∙ ap (λ (n : ℕ). le 4 p (n + 16)) named)
 
 -- ---- All proofs, one after the other
 module _ (rules : List Rule) (p starts : List ℕ) (l : Layout) where

@@ -2,5 +2,4 @@
 #![tactic(auto)]
 
 mod marks;
-pub mod record;
 pub mod section;

@@ -8,13 +8,13 @@ ghost use Rattle.derivation.specs.InOrder.{gathered};
 ghost use Rattle.derivation.specs.Mark as of;
 ghost use Rattle.evr0_pass.specs.Tables.{tables_by};
 
-use crate::record::after_name;
-use evr0_pass::pass::{Tables, witness_start};
+use evr0_pass::pass::{Tables, after_name, witness_start};
 use evr0_read::table::entry_or;
 use lent_table::clear_from;
 use local_format::field::LittleEndian;
 
 // Two marks together; 0 is none.
+// Kept (1a): marks are bytes of a table that C lends and reads; an enum would only be turned into that byte again, and back for each parent.
 #[tactic(auto, unfolding(derivation::specs::Mark::joined))]
 fn joined(a: u8, b: u8) -> u8
     ensures { result ≡ of.joined a b }
@@ -29,6 +29,7 @@ fn joined(a: u8, b: u8) -> u8
 }
 
 // The mark of a proof without parents, by its witness's polarity.
+// Kept (1a): the polarity is a witness's byte of the payload, and the mark a byte of the lent table.
 fn end_mark(polarity: u8) -> u8
     ensures { result ≡ of.end_mark polarity }
 {
@@ -36,6 +37,7 @@ fn end_mark(polarity: u8) -> u8
 }
 
 // The polarity of a witness; 0 where there is none with the number.
+// Kept (1a): a witness's byte of the payload; past the count the definition's witness has polarity 0, and the contract equates with it.
 fn polarity(tables: Tables, witness: usize) -> u8
     ensures { (rules : List Rule) → result ≡ (witness_at (tables_by rules tables.entry) witness).polarity }
 {
@@ -47,6 +49,7 @@ fn polarity(tables: Tables, witness: usize) -> u8
 }
 
 // The marks of the `count` parents from the cell `first` on, together; `known` are those of the proofs before.
+// Kept (1a, 2d): marks are lent bytes; this joins all parents' marks, where `were_marked` of evr0_rounds ends at the first that is not marked.
 fn by_parents(tables: Tables, known: &[u8], first: usize, count: usize) -> u8
     requires { first + count ≤ tables.layout.counts.parents }
     ensures { (rules : List Rule) → result ≡ gathered of.joined (tables_by rules tables.entry) known.now count first 0 }
@@ -60,6 +63,7 @@ fn by_parents(tables: Tables, known: &[u8], first: usize, count: usize) -> u8
 }
 
 // The mark of the proof after those whose marks are known.
+// Kept (1a, 6a): its answer goes into the table of bytes that C lends, one for each start; parents are numbers of the payload.
 fn mark_after(tables: Tables, known: &[u8]) -> u8
     requires { length known.now < length tables.starts.now }
     ensures { (rules : List Rule) → result ≡ of.mark_of (tables_by rules tables.entry) (length known.now) known.now }
@@ -75,6 +79,7 @@ fn mark_after(tables: Tables, known: &[u8]) -> u8
 }
 
 // The mark of each proof at the front of the lent table, and zeros past them.
+// Kept (6a): C lends the starts and the marks as two tables, which callers in C read.
 pub fn mark_proofs(tables: Tables, marks: &mut [u8])
     requires { length tables.starts.now ≤ length marks.old }
     ensures { (rules : List Rule) → marks.new ≡ lent (length marks.old) (of.marks (tables_by rules tables.entry)) }

@@ -14,12 +14,13 @@ use evr0::section::{DecodedEvr0, decode_evr0_by};
 use evr0_fields::schema::witness_size;
 use evr0_head::counts::Counts;
 use evr0_pass::pass::{Layout, Tables};
-use evr0_read::cell::{before_parents, before_witnesses};
+use evr0_read::cell::start_before;
 use evr0_read::table::{front, payload_of};
 use evr0_rules::settle::Rules;
 use lent_table::clear_from;
 
 // The tables of the section at a cursor, which was decoded and ends at `end`.
+// Kept (1a): the number as the decoder's public answer holds it; an enum would ask callers to make one of it first.
 pub fn tables_of<'a>(
     bytes: &'a [u8],
     cursor: usize,
@@ -34,14 +35,15 @@ pub fn tables_of<'a>(
     ensures total { length result.starts.now ≡ counts.proofs }
 {
     let payload = payload_of(bytes, cursor, end);
-    let parents_at = before_parents(payload.len(), counts.parents);
-    let witnesses_at = before_witnesses(parents_at, schema, counts.witnesses);
+    let witness_size = witness_size(schema);
+    let parents_at = start_before(payload.len(), 4, counts.parents);
+    let witnesses_at = start_before(parents_at, witness_size, counts.witnesses);
     Tables {
         payload,
         starts: front(proofs, counts.proofs),
         layout: Layout {
             counts,
-            witness_size: witness_size(schema),
+            witness_size,
             witnesses_at,
             parents_at,
         },
@@ -92,6 +94,7 @@ pub fn decode_evr0_section_by(
 }
 
 // The same by the four.
+// Kept (2a): the Rust's function by its name, which takes no rules; the one above takes the rules of a call as well.
 pub fn decode_evr0_section(
     bytes: &[u8],
     cursor: usize,

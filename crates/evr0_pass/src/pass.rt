@@ -23,17 +23,19 @@ pub struct Layout {
     pub parents_at: usize,
 }
 
-// A proof with the polarity that its rule asks.
+// A proof, with what its rule asks.
 #[derive(Clone, Copy, Debug, PartialEq, Eq)]
 pub struct SettledProof {
     pub proof_id: ProofNumber,
     pub proposition_index: PropositionIndex,
+    // Kept (1a): it waits in the lent table of depths, since decoders have no heap, and entries there are words; 2 where the rule asks none.
     pub polarity: u64,
     pub authority_context: u32,
     pub witness_first: WitnessNumber,
     pub witness_count: u32,
     pub parent_first: u32,
     pub parent_count: u32,
+    // Kept (1a): the Rust's field: the byte that was read.
     pub authorized_operation: u8,
 }
 
@@ -47,7 +49,7 @@ pub struct Tables<'a> {
 }
 
 // The place after the rule's name of the proof at `start`.
-fn after_name(payload: &[u8], start: usize) -> usize
+pub fn after_name(payload: &[u8], start: usize) -> usize
     requires { after_name payload.now start ≤ length payload.now }
     ensures { result ≡ after_name payload.now start }
 {
@@ -66,6 +68,7 @@ impl<'a> Tables<'a> {
     ghost use Rattle.evr0_pass.specs.Tables.{tables_by, ProofOf};
 
     // The proof with this place, whose rule asks this polarity.
+    // Kept (1a): the word that waits in the lent table of depths until the proof's depth takes its place.
     fn proof_at(&self, i: usize, polarity: u64) -> SettledProof
         requires { i < length self.now.starts.now }
         ensures { (rule : derivation.Rule)
@@ -88,6 +91,7 @@ impl<'a> Tables<'a> {
     }
 
     // Whether the proof with this place has the proposition and the authority of `proof`.
+    // Kept (2d): `agree` of evr0_rounds reads both proofs; here the proof is read once and held against each of its parents.
     fn agrees(&self, i: usize, proof: SettledProof) -> bool
         requires { i < length self.now.starts.now }
         ensures { let start = get_or self.now.starts.now i 0 in result ≡ (eqb (le 4 self.now.payload.now (start + 4)) proof.proposition_index.0 && eqb
@@ -101,6 +105,8 @@ impl<'a> Tables<'a> {
     }
 
     // The parents of `proof`: the greatest of their depths, 0 without parents.
+    // Kept (2d): `check_parents` of evr0_rounds walks the same cells without depths, which are not known there; the steps of both are two `check`s.
+    // Kept (6a): callers in C lend a table of starts and one of depths; a parent is a cell of the payload, which holds a proof's number.
     fn parents_from(&self, depths: &[u64], proof: SettledProof) -> Result<u64, Refusal>
         requires { ProofOf self.now depths.now (proof_out nameless proof) }
         ensures { (rules : List derivation.Rule) (rule : derivation.Rule)
@@ -156,6 +162,7 @@ impl<'a> Tables<'a> {
     }
 
     // The depth of each proof at the front of the lent table, which brings the polarities that the proofs' rules ask.
+    // Kept (6a): callers in C lend a table of starts and one of depths.
     fn derive_all(&self, depths: &mut [u64]) -> Result<(), Refusal>
         requires { length self.now.starts.now ≤ length depths.old }
         ensures { (rules : List derivation.Rule) → PolaritiesThere rules self.now.payload.now self.now.starts.now depths.old

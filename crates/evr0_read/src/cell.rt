@@ -1,7 +1,7 @@
 // Witnesses and parents of a payload, at a place and by number: they are as many bytes each, and stand at its end.
 ghost use Rattle.std.specs.Prelude.{◌≡◌, ◌-◌, ◌*◌};
 ghost use Rattle.local_format.specs.Maps.{answer_out};
-ghost use Rattle.evr0_section.specs.Head.{span_width, witness_size};
+ghost use Rattle.evr0_section.specs.Head.{span_width};
 ghost use Rattle.evr0_section.specs.Witness.{witness_of, parent_row};
 ghost use Rattle.evr0_records.specs.Maps.{witness_record};
 ghost use Rattle.evr0_read.specs.Entry.{placed_witness, placed_parent, record_at};
@@ -21,21 +21,17 @@ use local_format::refusal::Refusal;
 #[derive(Clone, Copy, Debug, PartialEq, Eq)]
 pub struct ParentNumber(pub u32);
 
-// Where so many witnesses that end at a place start; 0 where they do not fit.
-pub fn before_witnesses(end: usize, schema: u16, count: usize) -> usize
-    ensures { result ≡ end - witness_size (span_width schema) * count }
+// Where so many records of a size that end at a place start; 0 where they do not fit.
+// Kept (1a): the definition's `-` ends at 0, and the contract equates with it; no caller asks whether they fit.
+pub fn start_before(end: usize, size: usize, count: usize) -> usize
+    ensures { result ≡ end - size * count }
 {
-    end.saturating_sub(witness_size(schema).saturating_mul(count))
-}
-
-// Where so many parents that end at a place start; 0 where they do not fit.
-pub fn before_parents(end: usize, count: usize) -> usize
-    ensures { result ≡ end - 4 * count }
-{
-    end.saturating_sub(count.saturating_mul(4))
+    end.saturating_sub(size.saturating_mul(count))
 }
 
 // Where a witness starts in a payload of `len` bytes; 0 where there is none with the number.
+// Kept (1a): `falgnust_witness_place` takes any schema and hands this number to C, 0 for none, as the definition has it.
+// Kept (2d): what it shares with `parent_place` is `start_before`; behind the witnesses stand the parents too.
 pub fn witness_place(len: usize, schema: u16, counts: Counts, number: WitnessNumber) -> usize
     ensures { result ≡ witness_place len (span_width schema) counts.witnesses counts.parents number.0 }
 {
@@ -43,14 +39,12 @@ pub fn witness_place(len: usize, schema: u16, counts: Counts, number: WitnessNum
     if counts.witnesses <= i {
         return 0;
     }
-    before_witnesses(
-        before_parents(len, counts.parents),
-        schema,
-        counts.witnesses - i,
-    )
+    let parents_at = start_before(len, 4, counts.parents);
+    start_before(parents_at, witness_size(schema), counts.witnesses - i)
 }
 
 // Where a parent cell starts in a payload of `len` bytes; 0 where there is none with the number.
+// Kept (1a): `falgnust_parent_place` hands this number to callers in C, who read 0 for none.
 pub fn parent_place(len: usize, counts: Counts, number: ParentNumber) -> usize
     ensures { result ≡ parent_place len counts.parents number.0 }
 {
@@ -58,10 +52,11 @@ pub fn parent_place(len: usize, counts: Counts, number: ParentNumber) -> usize
     if counts.parents <= i {
         return 0;
     }
-    before_parents(len, counts.parents - i)
+    start_before(len, 4, counts.parents - i)
 }
 
 // The witness that starts at a place.
+// Kept (1a): as `falgnust_read_witness` it takes any u16 as the schema; an enum of the two would refuse what it took.
 #[tactic(auto, unfolding(crate::specs::Entry::record_at))]
 pub fn witness_at(payload: &[u8], schema: u16, at: usize) -> Result<Entry<Witness>, Refusal>
     ensures { answer_out (entry_out witness_record) result ≡ record_at (witness_of (span_width schema)) placed_witness payload.now at }

@@ -17,6 +17,7 @@ use lent_table::clear;
 use local_format::refusal::{Refusal, refuse};
 
 // The section's schema, the cursor after it, its counts, and where the record starts in the payload.
+// Kept (1a): the schema is the two bytes of the head, as the decoder's public answer holds it and hands it to C.
 #[derive(Clone, Copy, Debug, PartialEq, Eq)]
 pub struct Found {
     pub schema: u16,

@@ -23,6 +23,7 @@ use evr0_records::proposition::Proposition;
 use evr0_records::witness::Witness;
 use local_format::refusal::Refusal;
 
+// Kept (1a): C and public functions hand on any schema as a number, so these methods take it so.
 pub trait Numbered: Copy {
     type Record;
 
@@ -39,6 +40,7 @@ pub trait Numbered: Copy {
 
     ghost place: { Self → ℕ };
 
+    // Kept (2d): the laws of this trait speak of its own place; a trait for places alone would be brought in by `use` wherever a number is one.
     fn place(self) -> usize
         ensures { result ≡ place self };
 

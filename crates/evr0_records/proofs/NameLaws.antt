@@ -39,7 +39,7 @@ plain_rule book.Four =
     of_four (λ r. Plain book.Four r.name) (plain _ (omega arith) (omega arith) refl) (plain _ (omega arith) (omega arith) refl)
     (plain _ (omega arith) (omega arith) refl) (plain _ (omega arith) (omega arith) refl)
 plain_rule (book.Table b) = λ r m.
-    let a : Allowed r = (loaded b.table.now _ b.loads).allowed r m in
+    let a : Allowed r = (loaded b.rules.table.now _ b.loads).allowed r m in
     let n = a.name in
     record { some = n.some; few = omega (arith, n.short); chars = length n.points; scanned = rw (n.is_utf8, n.no_control); counted = refl }
 

@@ -21,7 +21,6 @@ use local_format::field::{Field, LittleEndian, field_at};
 use local_format::refusal::{Refusal, check, refuse};
 use local_format::text::{Span, text_at};
 
-// The operation is the byte that was read, since a record may hold any: 21 compares it with the rule's.
 #[derive(Clone, Copy, Debug, PartialEq, Eq)]
 pub struct Proof {
     pub proof_id: ProofNumber,
@@ -32,10 +31,12 @@ pub struct Proof {
     pub witness_count: u32,
     pub parent_first: u32,
     pub parent_count: u32,
+    // Kept (1a): the Rust's field; it holds the byte that was read, which may be any, and 21 compares it with the rule's.
     pub authorized_operation: u8,
 }
 
 // The text of a proof's rule, and the rule of a call that it names.
+// Kept (1d): a text that names no rule is a text still: `proof_of` reads it whole, and only the checks after 19 refuse it by 20.
 #[derive(Clone, Copy)]
 struct RuleText {
     text: Span,
@@ -43,6 +44,7 @@ struct RuleText {
 }
 
 // A proof, how many bytes it takes, and the rule of a call that the text of its rule names.
+// Kept (1d): a proof whose rule is unknown is read whole, and 17, 18 and 19 come before 20 refuses it.
 #[derive(Clone, Copy, Debug, PartialEq, Eq)]
 pub struct Ruled {
     pub proof: Proof,
@@ -96,11 +98,11 @@ fn read_rest(
 
 // The text of a rule's name, and the rule of a call that has it. A rule's name is known to be a text, so that it isn't scanned: its bytes are told as its
 // characters, which they are in the names of the four.
-fn known_at(rules: Rulebook, tail: &[u8], at: usize) -> Option<RuleText>
+fn known_at(rules: &Rulebook, tail: &[u8], at: usize) -> Option<RuleText>
     ensures { MatchOption result
-        (NoneNamed (book_rules rules.entry) tail.now at)
-        (λ known. ok (rule_text_out (chars_by rules.entry) tail.now known)
-        ≡ text_by (chars_by rules.entry) (rule_named (book_rules rules.entry)) tail.now (text_at tail.now at)) }
+        (NoneNamed (book_rules rules.now) tail.now at)
+        (λ known. ok (rule_text_out (chars_by rules.now) tail.now known)
+        ≡ text_by (chars_by rules.now) (rule_named (book_rules rules.now)) tail.now (text_at tail.now at)) }
 {
     let Field { value, next: start } = field_at::<u16>(tail, at)?;
     let len = value as usize;
@@ -118,9 +120,9 @@ fn known_at(rules: Rulebook, tail: &[u8], at: usize) -> Option<RuleText>
 }
 
 // The text of a rule. Only what is no rule's name is scanned.
-fn read_rule(rules: Rulebook, tail: &[u8], at: usize) -> Result<RuleText, Refusal>
-    ensures { answer_out (rule_text_out (chars_by rules.entry) tail.now) result
-        ≡ text_by (chars_by rules.entry) (rule_named (book_rules rules.entry)) tail.now (text_at tail.now at) }
+fn read_rule(rules: &Rulebook, tail: &[u8], at: usize) -> Result<RuleText, Refusal>
+    ensures { answer_out (rule_text_out (chars_by rules.now) tail.now) result
+        ≡ text_by (chars_by rules.now) (rule_named (book_rules rules.now)) tail.now (text_at tail.now at) }
 {
     if let Some(known) = known_at(rules, tail, at) {
         return Ok(known);
@@ -131,9 +133,9 @@ fn read_rule(rules: Rulebook, tail: &[u8], at: usize) -> Result<RuleText, Refusa
 
 // The proof at the front of `tail`, by the rules of a call.
 #[tactic(auto, unfolding(evr0_section::specs::Proof::proof_of))]
-pub fn read_ruled(rules: Rulebook, tail: &[u8]) -> Result<Ruled, Refusal>
-    ensures { answer_out (ruled_out (chars_by rules.entry) tail.now) result
-        ≡ ruled_by (chars_by rules.entry) (rule_named (book_rules rules.entry)) tail.now (proof_of tail.now) }
+pub fn read_ruled(rules: &Rulebook, tail: &[u8]) -> Result<Ruled, Refusal>
+    ensures { answer_out (ruled_out (chars_by rules.now) tail.now) result
+        ≡ ruled_by (chars_by rules.now) (rule_named (book_rules rules.now)) tail.now (proof_of tail.now) }
 {
     let Some(
         Field {
@@ -171,7 +173,7 @@ pub fn read_proof(tail: &[u8]) -> Result<Sized<Proof>, Refusal>
         proof: item,
         size,
         rule: _,
-    } = read_ruled(Rulebook::Four, tail)?;
+    } = read_ruled(&Rulebook::Four, tail)?;
     Ok(Sized { item, size })
 }
 

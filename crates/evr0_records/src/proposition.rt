@@ -65,6 +65,7 @@ pub fn read_proposition(tail: &[u8]) -> Result<Sized<Proposition>, Refusal>
 
 // Whether the proposition `a` at the front of `part` comes before the proposition `b` at the front of `tail`: by kind's bytes, then owner,
 // scope, type.
+// Kept (4d): section_pair derives this order for its `Key`; with a `Key` here, `key(part, a) < key(tail, b)` needs a type and a function more.
 pub fn precedes(part: &[u8], a: Proposition, tail: &[u8], b: Proposition) -> bool
     ensures { result ≡ is_less (compare_keys (key_of part.now (proposition_record a)) (key_of tail.now (proposition_record b))) }
 {

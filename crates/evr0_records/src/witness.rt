@@ -9,16 +9,16 @@ ghost use Rattle.evr0_records.specs.Maps.{sized_out, witness_record};
 
 use crate::sized::Sized;
 use evr0_fields::number::{PropositionIndex, WitnessNumber};
-use evr0_fields::place::{Digest, digest_at, zeros_at};
+use evr0_fields::place::{digest_at, zeros_at};
 use evr0_head::counts::Counts;
 use local_format::field::{Field, field_at};
 use local_format::refusal::{Refusal, check, refuse};
 
-// The polarity is the byte that was read, since a record may hold any: 23 refuses one above 1.
 #[derive(Clone, Copy, Debug, PartialEq, Eq)]
 pub struct Witness {
     pub witness_id: WitnessNumber,
     pub proposition_index: PropositionIndex,
+    // Kept (1a): the Rust's field; it holds the byte that was read, which may be any, and 23 refuses one above 1.
     pub polarity: u8,
     pub file_digest: [u8; 32],
     pub source_start: u64,
@@ -27,6 +27,7 @@ pub struct Witness {
 }
 
 // The start or the end of a span.
+// Kept (1a): a witness is read under any schema, which C brings as a number.
 #[tactic(auto, unfolding(evr0_section::specs::Head::span_width))]
 fn span_field_at(tail: &[u8], at: usize, schema: u16) -> Option<Field<u64>>
     ensures { field_out (λ number. number) result ≡ field_at (span_width schema) tail.now at }
@@ -42,6 +43,7 @@ fn span_field_at(tail: &[u8], at: usize, schema: u16) -> Option<Field<u64>>
 }
 
 // The witness at the front of `tail`.
+// Kept (1a): a witness is read under any schema, which C brings as a number.
 #[tactic(auto, unfolding(evr0_section::specs::Witness::witness_of))]
 pub fn read_witness(tail: &[u8], schema: u16) -> Result<Sized<Witness>, Refusal>
     ensures { answer_out (sized_out witness_record) result ≡ witness_of (span_width schema) tail.now }
@@ -74,8 +76,8 @@ pub fn read_witness(tail: &[u8], schema: u16) -> Result<Sized<Witness>, Refusal>
         return Err(refuse(5, polarity_at));
     };
     let file_at = zeros_at(tail, reserved_at)?;
-    let Digest {
-        bytes: file_digest,
+    let Field {
+        value: file_digest,
         next: start_at,
     } = digest_at(tail, file_at)?;
     let Some(
@@ -96,26 +98,26 @@ pub fn read_witness(tail: &[u8], schema: u16) -> Result<Sized<Witness>, Refusal>
     else {
         return Err(refuse(5, end_at));
     };
-    let Digest {
-        bytes: origin_digest,
+    let Field {
+        value: origin_digest,
         next: size,
     } = digest_at(tail, origin_at)?;
     let item = Witness {
         witness_id: WitnessNumber(witness_id),
         proposition_index: PropositionIndex(proposition_index),
         polarity,
-        file_digest,
+        file_digest: *file_digest,
         source_start,
         source_end,
-        origin_digest,
+        origin_digest: *origin_digest,
     };
     Ok(Sized { item, size })
 }
 
 // The checks of a witness that is the next one, `place`.
 #[tactic(auto, unfolding(evr0_section::specs::Witness::check_witness))]
-pub fn check_witness(counts: Counts, place: usize, witness: Witness) -> Result<(), Refusal>
-    ensures { answer_out (λ done. done) result ≡ check_witness (counts_out counts) place (witness_record witness) }
+pub fn check_witness(counts: Counts, place: usize, witness: &Witness) -> Result<(), Refusal>
+    ensures { answer_out (λ done. done) result ≡ check_witness (counts_out counts) place (witness_record witness.now) }
 {
     let is_next = witness.witness_id.place() == place;
     let is_bound = witness.proposition_index.place() < counts.propositions;

@@ -1,13 +1,12 @@
 -- The rounds or their refusal, from the checks of the parents and from the table after 256 rounds; and what the lent table then holds.
 use Prim.Native.Nat.{ℕ, ◌≤◌}
 use mathlib.Core.Path.{◌≡◌, sym, ap, ap₂, ◌∙◌}
-use mathlib.Core.Bool.{Bool, true, false}
 use mathlib.Core.List.{List, ◌++◌}
 use native.Mathlib.Omega.{arith}
 use lib.ListN.{length, take, drop, length-append, length-drop}
 use lib.Seq.{take_at}
 use Rattle.local_format.specs.Refusal.{Refusal}
-use Rattle.local_format.specs.Out.{Out, ok, refused, refuse}
+use Rattle.local_format.specs.Out.{Out, ok, refused}
 use Rattle.local_format.proofs.OutLaws.{never, ok_same}
 use Rattle.lent_table.specs.Lent.{lent}
 use Rattle.derivation.specs.Section.{Section}
@@ -20,14 +19,14 @@ module _ (cells_at : ℕ) (s : Section) where
   unfolding rounds
   kin_refuses e = rw e
 
-  module _ (pass : kin cells_at s ≡ ok tt) {t : List ℕ} {b : Bool} (d : Done s t b) where
-    pub one_left : b ≡ false → rounds cells_at s ≡ refuse 27 0
+  module _ (pass : kin cells_at s ≡ ok tt) {t : List ℕ} {given : Out (Unit {0})} (d : Done s t given) where
+    pub one_left : {q : Refusal} → given ≡ refused q → rounds cells_at s ≡ refused q
     unfolding rounds
-    one_left e = rw (pass, ← d.none, e)
+    one_left e = rw (pass, ← d.answer, e)
 
-    pub all_made : b ≡ true → rounds cells_at s ≡ ok t
+    pub all_made : given ≡ ok tt → rounds cells_at s ≡ ok t
     unfolding rounds
-    all_made e = rw (pass, ← d.none, e, ← d.rounds)
+    all_made e = rw (pass, ← d.answer, e, ← d.rounds)
 
 module _ {x : Out (List ℕ)} {before after : List ℕ} where
   pub not_filled : {given : Out (Unit {0})} {q : Refusal} → x ≡ refused q → given ≡ refused q → Fills x before after given

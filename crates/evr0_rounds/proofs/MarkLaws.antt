@@ -1,23 +1,20 @@
 -- The rounds: what stands after each, and after the last.
-use Prim.Native.Nat.{ℕ, suc, ◌+◌, ◌-◌, ◌*◌, ◌≤◌, ◌<◌}
-use mathlib.Core.Path.{◌≡◌, sym, ap, ◌∙◌}
+use Prim.Native.Nat.{ℕ, suc, ◌+◌, ◌-◌, ◌≤◌, ◌<◌}
+use mathlib.Core.Path.{◌≡◌, ap, ◌∙◌}
 use mathlib.Core.Logic.{⊎_elim}
-use mathlib.Core.Bool.{Bool, true, false, cond}
 use mathlib.Core.List.{List, []}
 use native.Mathlib.Omega.{arith}
 use lib.ListN.{length, get_or, replicate, get_or-replicate}
-use Rattle.local_format.specs.Field.{le}
-use Rattle.derivation.specs.Rule.{Rule}
+use borrow.Author.Tests.{le-leb, lt-leb}
+use lib.Dec.{leb}
+use Rattle.local_format.specs.Out.{ok, refuse, check}
 use Rattle.lent_table.specs.Lent.{lent}
-use Rattle.derivation.specs.Section.{Section, parent_at, proof_total}
+use Rattle.derivation.specs.Section.{Section, proof_total}
 use Rattle.derivation.proofs.Tests.{order}
 use Rattle.rounds.specs.Rounds.{turns, after_rounds}
-use Rattle.rounds.specs.InPlace.{were_marked, turn_in}
 use Rattle.rounds.proofs.InPlace.{after_upto}
-use Rattle.rounds.proofs.Loops.{were_none, were_not, were_turn, was_0, was_now, was_earlier, turn_marked, turn_unmarked, stays_marked}
+use Rattle.rounds.proofs.Loops.{stays_marked}
 use Rattle.rounds.proofs.Loops.{no_round, next_round, all_marked, one_unmarked}
-use Rattle.evr0_pass.specs.View.{Layout, after_name, proof_view, view, ProofThere}
-use Rattle.evr0_pass.proofs.ViewLaws.{proof_at_lem, parent_at_lem}
 use Rattle.evr0_rounds.specs.Steps.{FirstUnmarked, RoundDue, Done}
 
 -- after `done` rounds, with the first unmarked proof
@@ -65,15 +62,18 @@ module _ (s : Section) (total : ℕ) (is : proof_total s ≡ total) where
           are = next_round s done total rounds next is k.are e;
         }
 
-    -- 256 are done, and one is left
-    pub stopped : 256 ≤ done → first < total → Done s rounds false
-    stopped l h =
-        let all : done ≡ 256 = omega (arith, k.upto) in
-        let are : rounds ≡ after_rounds s 256 = k.are ∙ ap (after_rounds s) all in
-        record { rounds = are; none = sym (one_unmarked s rounds first are (omega arith) (k.unmarked h)) }
-
     -- none is left
-    pub finished : total ≤ first → Done s rounds true
+    pub finished : total ≤ first → Done s rounds (ok tt)
     finished h =
         let a = all_marked s done rounds k.upto k.are (λ j l. k.marked j (omega arith)) in
-        record { rounds = a.0; none = sym a.1 }
+        record { answer = rw a.1; rounds = a.0 }
+
+    -- 256 are done
+    pub ended : 256 ≤ done → Done s rounds (check (leb total first) 27 0)
+    ended l = ⊎_elim (λ h. rw (le-leb total first h) (finished h)) (λ h. rw (lt-leb total first h) (one_left h)) (order total first)
+      where
+        one_left : first < total → Done s rounds (refuse 27 0)
+        one_left h =
+            let all : done ≡ 256 = omega (arith, k.upto) in
+            let are : rounds ≡ after_rounds s 256 = k.are ∙ ap (after_rounds s) all in
+            record { answer = rw (one_unmarked s rounds first are (omega arith) (k.unmarked h)); rounds = are }

@@ -1,6 +1,6 @@
 -- What the functions of the rounds leave on the way to their answer.
-use Rattle.std.specs.Prelude.{ℕ, ◌≤◌, ◌<◌, ◌≡◌, Bool, List, length, get_or}
-use Rattle.local_format.specs.Out.{Out, ok, refused, ◌>>=◌}
+use Rattle.std.specs.Prelude.{ℕ, ◌≤◌, ◌<◌, ◌≡◌, List, length, get_or}
+use Rattle.local_format.specs.Out.{Out, ok, refused, check, ◌>>=◌}
 use Rattle.lent_table.specs.Lent.{lent}
 use Rattle.derivation.specs.Section as of
 use Rattle.rounds.specs.Rounds.{after_rounds, none_left}
@@ -22,10 +22,10 @@ pub record RoundDue (total round first : ℕ) (rounds : List ℕ) : Type 0 where
   pub marked : (j : ℕ) → j < first → get_or rounds j 0 ≡ 0 → ⊥
   pub earlier : (j : ℕ) → get_or rounds j 0 < round
 
--- the table after 256 rounds, and whether none is left
-pub record Done (s : of.Section) (left : List ℕ) (answer : Bool) : Type 0 where
+-- the table after 256 rounds, and 27 where one is left
+pub record Done (s : of.Section) (left : List ℕ) (given : Out (Unit {0})) : Type 0 where
+  pub answer : given ≡ check (none_left (after_rounds s 256)) 27 0
   pub rounds : left ≡ after_rounds s 256
-  pub none : answer ≡ none_left (after_rounds s 256)
 
 -- the rounds, or their refusal, and the lent table where they are made
 pub record Fills (x : Out (List ℕ)) (before after : List ℕ) (given : Out (Unit {0})) : Type 0 where

@@ -11,6 +11,7 @@ use evr0_pass::pass::Tables;
 use local_format::refusal::{Refusal, check};
 
 // The parents of the proof i: each number is below i and above the one before, and each proof has this one's proposition and authority.
+// Kept (5d): six functions ask for an index below the number of proofs; a struct `ProofAt { tables, i }` would be made for each proof and for each parent.
 fn check_parents(tables: Tables, i: usize) -> Result<(), Refusal>
     requires { i < length tables.starts.now }
     ensures { (rules : List Rule) → answer_out (λ done. done) result

@@ -41,6 +41,7 @@ fn were_marked(tables: Tables, rounds: &[u64], round: u64, i: usize) -> bool
 }
 
 // The proof i in its turn.
+// Kept (1a, 6a): 0 is an unmarked proof's entry in the table of rounds that C lends; parents are numbers of the payload.
 #[tactic(auto, unfolding(rounds::specs::InPlace::turn_in))]
 fn turn_of(tables: Tables, rounds: &[u64], round: u64, i: usize) -> u64
     requires { (i < length tables.starts.now) × (length rounds.now ≡ length tables.starts.now) }
@@ -57,6 +58,7 @@ fn turn_of(tables: Tables, rounds: &[u64], round: u64, i: usize) -> u64
 }
 
 // One round, from the first unmarked proof on.
+// Kept (6a): C lends the starts and the rounds as two tables.
 fn mark_round(tables: Tables, round: u64, first: usize, rounds: &mut [u64])
     requires { RoundDue (length tables.starts.now) round first rounds.old }
     ensures { (rules : List Rule) → rounds.new
@@ -69,6 +71,7 @@ fn mark_round(tables: Tables, round: u64, first: usize, rounds: &mut [u64])
 }
 
 // The first unmarked proof from `from` on; the table's length where there is none.
+// Kept (1d, 6c): where none is left the next round starts at the length; by `position` the proof that no entry passed is 0 did not close.
 fn first_unmarked(rounds: &[u64], from: usize) -> usize
     requires { from ≤ length rounds.now }
     ensures { FirstUnmarked rounds.now from result }
@@ -81,23 +84,22 @@ fn first_unmarked(rounds: &[u64], from: usize) -> usize
     rounds.len()
 }
 
-// The rounds, until no proof is left or 256 are done: whether none is left.
-fn mark_rounds(tables: Tables, rounds: &mut [u64]) -> bool
+// The rounds, until no proof is left; 27 where one is after 256.
+// Kept (6a): C lends the starts and the rounds as two tables.
+fn mark_rounds(tables: Tables, rounds: &mut [u64]) -> Result<(), Refusal>
     requires { length rounds.old ≡ length tables.starts.now }
-    ensures { (rules : List Rule) → Done (tables_by rules tables.entry) rounds.new result }
+    ensures { (rules : List Rule) → Done (tables_by rules tables.entry) rounds.new (answer_out (λ done. done) result) }
 {
     clear(rounds);
-    let mut done: u64 = 0;
     let mut first = 0;
-    while first < tables.starts.len() {
-        if 256 <= done {
-            return false;
+    for done in 0..256 {
+        if tables.starts.len() <= first {
+            return Ok(());
         }
-        done += 1;
-        mark_round(tables, done, first, rounds);
+        mark_round(tables, done + 1, first, rounds);
         first = first_unmarked(rounds, first);
     }
-    true
+    check(tables.starts.len() <= first, 27, 0)
 }
 
 // 25 and 26 of each proof, then its round, with zeros past the rounds; 27 where a proof is unmarked after 256 rounds.
@@ -108,8 +110,7 @@ fn fill_rounds(tables: Tables, rounds: &mut [u64]) -> Result<(), Refusal>
 {
     check_kin(tables)?;
     let count = tables.starts.len();
-    let marked = mark_rounds(tables, &mut rounds[..count]);
-    check(marked, 27, 0)?;
+    mark_rounds(tables, &mut rounds[..count])?;
     clear_from(rounds, count);
     Ok(())
 }

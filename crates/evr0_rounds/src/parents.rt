@@ -6,7 +6,7 @@ ghost use Rattle.derivation.specs.Pass.{agrees};
 ghost use Rattle.evr0_pass.specs.View.{after_name};
 ghost use Rattle.evr0_pass.specs.Tables.{tables_by};
 
-use evr0_pass::pass::Tables;
+use evr0_pass::pass::{Tables, after_name};
 use local_format::field::LittleEndian;
 
 // The place after the rule's name of the proof i.
@@ -14,8 +14,7 @@ fn rest(tables: Tables, i: usize) -> usize
     requires { i < length tables.starts.now }
     ensures { result ≡ after_name tables.entry.payload.now (get_or tables.entry.starts.now i 0) }
 {
-    let start = tables.starts[i] as usize;
-    start + 10 + u16::le_at(tables.payload, start + 8) as usize
+    after_name(tables.payload, tables.starts[i] as usize)
 }
 
 // The cells of its parents: the first, and the one after the last.

@@ -3,7 +3,7 @@ ghost use Rattle.std.specs.Prelude.{ℕ};
 ghost use Rattle.local_format.specs.Maps.{answer_out};
 ghost use Rattle.rounds.specs.ByRounds.{rounds_in, rounds_at};
 ghost use Rattle.evr0_rules.specs.Maps.{book_rules, given_out};
-ghost use Rattle.evr0_tables.specs.LentTables.{SameTables, tables_out};
+ghost use Rattle.evr0_tables.specs.LentMaps.{SameTables, tables_out};
 ghost use Rattle.evr0.specs.Answer.{lent_of, room_of};
 ghost use Rattle.evr0_rounds.specs.Answer.{LeavesBy};
 ghost use Rattle.evr0_rounds.specs.AnswerMaps.{marked_out};
@@ -27,9 +27,9 @@ pub struct Marked {
 }
 
 // The rounds of a payload: how many proofs are marked, with their starts and rounds in the lent tables; a refusal leaves zeros in all three.
-fn mark_payload(rules: Rulebook, payload: &[u8], tables: &mut Tables) -> Result<usize, Refusal>
+fn mark_payload(rules: &Rulebook, payload: &[u8], tables: &mut Tables) -> Result<usize, Refusal>
     ensures same { SameTables tables.old tables.new }
-    ensures passes { (end : ℕ) → Passes (rounds_in (book_rules rules.entry) (room_of (tables_out tables.old)) payload.now end)
+    ensures passes { (end : ℕ) → Passes (rounds_in (book_rules rules.now) (room_of (tables_out tables.old)) payload.now end)
         (tables_out tables.old) (tables_out tables.new) (answer_out (λ n. n) result) }
 {
     let Payload {
@@ -55,13 +55,13 @@ fn mark_payload(rules: Rulebook, payload: &[u8], tables: &mut Tables) -> Result<
 
 // The rounds of the section at `cursor`, by loaded rules.
 fn mark_section(
-    rules: Rulebook,
+    rules: &Rulebook,
     bytes: &[u8],
     cursor: usize,
     tables: &mut Tables,
 ) -> Result<Marked, Refusal>
     ensures same { SameTables tables.old tables.new }
-    ensures ends { Ends (rounds_at (book_rules rules.entry) (room_of (tables_out tables.old)) bytes.now cursor)
+    ensures ends { Ends (rounds_at (book_rules rules.now) (room_of (tables_out tables.old)) bytes.now cursor)
         (tables_out tables.old) (tables_out tables.new) (answer_out marked_out result) }
 {
     let frame = read_frame(bytes, cursor);
@@ -84,6 +84,7 @@ fn mark_section(
 // Each proof's depth in the section at `cursor`, by rounds and by the rules of a call: the four, or those of a table, which is loaded first. In each
 // round, counted from 1, the proofs are marked all of whose parents were marked in earlier rounds. Each lent table is filled to its count and has zeros
 // past it; a refusal leaves zeros in all three.
+// Kept (5a): the parameters of `falgnust_depth_by_rounds`; within the decoder the three tables go as one struct.
 pub fn depth_by_rounds(
     rules: Rules,
     bytes: &[u8],
@@ -104,7 +105,7 @@ pub fn depth_by_rounds(
     let mut room = RuleRoom::EMPTY;
     let loaded = Rulebook::load(rules, &mut room);
     match loaded {
-        Ok(book) => mark_section(book, bytes, cursor, &mut tables),
+        Ok(book) => mark_section(&book, bytes, cursor, &mut tables),
         Err(refusal) => {
             tables.clear(); // of refused rules
             Err(refusal)

@@ -2,14 +2,14 @@
 -- what the whole is refused with.
 use Rattle.std.specs.Prelude.{Option, is_some}
 use Prim.Native.Nat.{ℕ, zero, suc, ◌+◌, ◌-◌, ◌≤◌, ◌<◌}
-use mathlib.Core.Path.{◌≡◌, refl, sym, ap, ◌∙◌, subst}
+use mathlib.Core.Path.{◌≡◌, refl, sym, ap, ◌∙◌}
 use mathlib.Core.Bool.{Bool, true, false, not, ◌&&◌}
 use mathlib.Core.List.{List, [], ◌∷◌, ◌++◌, map, append_assoc, append-nil}
 use mathlib.Core.Logic.{⊎_elim}
 use native.Mathlib.Omega.{arith}
 use native.Mathlib.Numerals.{add-one}
 use lib.Dec.{leb, eqb}
-use lib.ListN.{length, take, drop, set, length-map, length-append, get_or-append}
+use lib.ListN.{length, take, set, length-append, get_or-append}
 use lib.Seq.{get_or-append_seam, take-suc-set}
 use Rattle.local_format.specs.Refusal.{Refusal}
 use Rattle.local_format.specs.Out.{Out, ok, refused, refuse, check, ◌>>=◌, ◌>>◌}
@@ -21,10 +21,10 @@ use Rattle.derivation.proofs.Tests.{order}
 use Rattle.rule_table.specs.Load.{outside_bounds, given_twice, rule_in, Loaded, rule_at, outside, named_in, rules_from, rules_of, Distinct, none}
 use Rattle.rule_table.proofs.Load.{outside_ok, loaded}
 use Rattle.evr0_rules.specs.There.{StartsThere, RulesThere, LoadsAt}
-use Rattle.evr0_rules.specs.Maps.{named_out, new_rule_at, count_in, Starts}
+use Rattle.evr0_rules.specs.Maps.{named_out, new_rule_at}
 use Rattle.evr0_rules.specs.declared.rule.Rule as code
 use Rattle.evr0_rules.proofs.NameLaws.{new_test, given_last, distinct_last}
-use Rattle.evr0_rules.proofs.RuleLaws.{RuleRead, rule_read, name_is}
+use Rattle.evr0_rules.proofs.RuleLaws.{RuleRead, rule_read}
 
 -- rules read before others
 abbrev onto : List Rule → Out (List Rule) → Out (List Rule)
@@ -66,12 +66,10 @@ onto_none (refused q) = refl
 module _ (t : List ℕ) (at : ℕ) (before : List Rule) where
   -- what is read hangs on whether the code finds the name among those before
   pub turn : {x : Loaded} (found : Option code.Rule) (b : Bool) → ok x ≡ outside (rule_at t at)
-      → named_out (take (x.next - 4 - (at + 2)) (drop (at + 2) t)) found
-      ≡ rule_named before (take (x.next - 4 - (at + 2)) (drop (at + 2) t))
+      → named_out (rule_in t at).name found ≡ rule_named before (rule_in t at).name
       → is_some found ≡ not b → (check b given_twice 0 >> ok x) ≡ new_rule_at before t at
   turn {x} found b e n h =
-      let r = outside_ok _ (sym e) in
-      let name : take (x.next - 4 - (at + 2)) (drop (at + 2) t) ≡ x.rule.name = name_is t at r ∙ ap (λ (r : Rule). r.name) (rule_read t at r).is in
+      let name : (rule_in t at).name ≡ x.rule.name = ap (λ (r : Rule). r.name) (rule_read t at (outside_ok _ (sym e))).is in
       rw (← e, ← name, new_test before _ found b n h) refl
 
   turn_refused : (n : ℕ) {q : Refusal} → new_rule_at before t at ≡ refused q → onto before (outside (rule_at t at) >>= onwards n before t) ≡ refused q
@@ -194,44 +192,14 @@ module _ (t : List ℕ) where
     unfolding rules_from
     all_read e = s.whole ∙ rw (no_more, ← e, append-nil (map (rule_in t) xs))
 
-  -- ---- What is left in the places
-  pub refused_loads : (starts : List ℕ) (given : Out ℕ) (q : Refusal) → rules_of t ≡ refused q → given ≡ refused q → Starts t starts given
-  refused_loads starts given q e g =
-      record { answer = g ∙ sym (ap count_in e); are = λ rs f. absurd (never (sym e ∙ f)); there = λ rs f. absurd (never (sym e ∙ f)) }
+  -- ---- The answer
+  pub refused_loads : {given : Out (List Rule)} {q : Refusal} → rules_of t ≡ refused q → given ≡ refused q → given ≡ rules_of t
+  refused_loads e g = g ∙ sym e
 
-  pub all_loads : {count i at : ℕ} (starts : List ℕ) → (s : Stands count i at (take i starts)) → count ≤ i
-      → {u : Unit {0}} → ok u ≡ check (eqb at (length t)) outside_bounds 0 → Starts t starts (ok count)
-  all_loads {count} {i} starts s h e =
-      let r = all_read s h e in
-      let n : length (map (rule_in t) (take i starts)) ≡ i = length-map (take i starts) (rule_in t) ∙ s.total in
-      let c : count ≡ i = omega (arith, s.upto) in
-      record {
-        answer = ap ok (c ∙ sym n) ∙ sym (ap count_in r);
-        are = λ rs f. subst (λ (rs : List Rule). rs ≡ map (rule_in t) (take (length rs) starts)) (ok_same (sym r ∙ f)) (rw n);
-        there = λ rs f. subst (λ (rs : List Rule). StartsThere t (take (length rs) starts)) (ok_same (sym r ∙ f)) (rw n s.there);
-      }
+  pub all_loads : {count i at : ℕ} (starts : List ℕ) → Stands count i at (take i starts) → count ≤ i
+      → {u : Unit {0}} → ok u ≡ check (eqb at (length t)) outside_bounds 0 → ok (map (rule_in t) (take count starts)) ≡ rules_of t
+  all_loads {count} {i} starts s h e = let c : count ≡ i = omega (arith, s.upto) in rw c (sym (all_read s h e))
 
 -- ---- A loaded table
-pub loaded_most : {t starts : List ℕ} {count : ℕ} → Starts t starts (ok count) → count ≤ 32
-loaded_most {t} s =
-    let a = bind_ok (rules_of t) _ (sym s.answer) in omega (arith, (loaded t a.0 a.1).most, ok_same a.2)
-
-pub loads_at : {t starts : List ℕ} {count : ℕ} → Starts t starts (ok count) → LoadsAt t (take count starts)
-loads_at {t} {starts} s =
-    let a = bind_ok (rules_of t) _ (sym s.answer) in
-    a.1 ∙ ap ok (s.are a.0 a.1 ∙ ap (λ (n : ℕ). map (rule_in t) (take n starts)) (ok_same a.2))
-
-pub starts_there : {t starts : List ℕ} {count : ℕ} → Starts t starts (ok count) → StartsThere t (take count starts)
-starts_there {t} {starts} s =
-    let a = bind_ok (rules_of t) _ (sym s.answer) in
-    subst (λ (n : ℕ). StartsThere t (take n starts)) (ok_same a.2) (s.there a.0 a.1)
-
-pub not_loaded : {t starts : List ℕ} {q : Refusal} → Starts t starts (refused q) → refused q ≡ rules_of t
-not_loaded {t} {starts} {q} s = go (rules_of t) s.answer
-  where
-    go : (x : Out (List Rule)) → refused q ≡ count_in x → refused q ≡ x
-    go (ok rs) e = absurd (never e)
-    go (refused r) e = cc
-
 pub rules_there : {t starts : List ℕ} → LoadsAt t starts → StartsThere t starts → RulesThere t starts
 rules_there {t} e h = let l = loaded t _ e in record { starts = h; distinct = l.distinct; allowed = l.allowed }

@@ -1,6 +1,6 @@
--- Laws of a look-up: names by their words, and a name is found or not as the rules go by, one after the other.
+-- Laws of a look-up: a name is found or not as the rules go by, one after the other.
 use Rattle.std.specs.Prelude.{Option, Some, None, is_some}
-use Prim.Native.Nat.{ℕ, zero, suc, ◌+◌, ◌-◌, ◌≤◌, ◌<◌}
+use Prim.Native.Nat.{ℕ, zero, suc, ◌+◌, ◌≤◌, ◌<◌}
 use mathlib.Core.Path.{◌≡◌, refl, sym, ap, ◌∙◌}
 use mathlib.Core.Bool.{Bool, true, false, not, cond, ◌||◌}
 use mathlib.Core.List.Memᴰ
@@ -9,40 +9,15 @@ use mathlib.Core.Logic.{◌⊎◌, inl, inr, ⊎_elim}
 use native.Mathlib.Omega.{arith}
 use native.Mathlib.Numerals.{add-one}
 use lib.ListN.{length, get_or, drop, drop_of_length-le}
-use lib.Seq.{drop-cons, drop-drop}
-use borrow.Author.Tests.{eq-eqb}
+use lib.Seq.{drop-cons}
 use Rattle.local_format.specs.Tag.{equal}
-use Rattle.local_format.specs.Field.{le}
-use Rattle.local_format.proofs.TagLaws.{equal_is, turns}
+use Rattle.local_format.proofs.TagLaws.{equal_is}
 use Rattle.derivation.specs.Rule.{Rule, known, unknown, rule_named}
 use Rattle.rule_table.specs.Load.{rule_in, named_in, Distinct, none, also}
-use Rattle.rule_table.proofs.Load.{differ, equal_self}
+use Rattle.rule_table.proofs.Load.{equal_self}
 use Rattle.rule_table.proofs.Names.{loaded_named}
 use Rattle.evr0_rules.specs.declared.rule.Rule as code
 use Rattle.evr0_rules.specs.Maps.{rule_out, named_out}
-
--- ---- Names by eight bytes at a time
-module _ (a b : List ℕ) where
-  -- nothing is left of either
-  ended : (i : ℕ) → length a ≤ i → length b ≤ i → equal (drop i a) (drop i b) ≡ true
-  unfolding equal
-  ended i h k = rw (drop_of_length-le a h, drop_of_length-le b k) refl
-
-  -- a word of theirs differs
-  pub word_differs : (i : ℕ) → (le 8 a i ≡ le 8 b i → ⊥) → false ≡ equal a b
-  word_differs i h = sym (differ a b (λ e. h (ap (λ (c : List ℕ). le 8 c i) e)))
-
-  -- the last word is the same, and so is what follows its first byte
-  pub end_same : ((i : ℕ) → get_or a i 0 < 256) → ((i : ℕ) → get_or b i 0 < 256) → length a ≡ length b → 8 ≤ length a
-      → le 8 a (length a - 8) ≡ le 8 b (length a - 8) → (i : ℕ) → length a - 8 ≤ i → equal (drop i a) (drop i b) ≡ true
-  end_same p q l h e i k =
-      let n = length a - 8 in
-      let ends : equal (drop (n + 8) a) (drop (n + 8) b) ≡ true = ended (n + 8) (omega arith) (omega arith) in
-      let word : equal (drop n a) (drop n b) ≡ true = turns 8 a b p q n (omega arith) (omega arith) ∙ rw (eq-eqb _ _ e, ends) in
-      let at : n + (i - n) ≡ i = omega arith in
-      let rest : drop i a ≡ drop i b =
-      rw at at (sym (drop-drop (i - n) n a) ∙ ap (drop (i - n)) (equal_is (drop n a) (drop n b) word) ∙ drop-drop (i - n) n b) in
-      rw rest (equal_self (drop i b))
 
 -- ---- Rule by rule
 

@@ -1,18 +1,18 @@
 -- Laws of one rule at a place of a table: what reading it answers, by what its text and its numbers are.
-use Prim.Native.Nat.{ℕ, ◌+◌, ◌-◌, ◌≤◌}
+use Prim.Native.Nat.{ℕ, ◌+◌, ◌≤◌}
 use mathlib.Core.Path.{◌≡◌, refl, sym, ap, ◌∙◌}
 use mathlib.Core.Bool.{Bool}
 use mathlib.Core.List.{List}
 use native.Mathlib.Omega.{arith}
-use lib.ListN.{length, take, drop, length-take, length-drop}
+use lib.ListN.{length, length-take, length-drop}
 use Rattle.local_format.specs.Out.{ok, check, ◌>>◌}
 use Rattle.local_format.specs.Field.{Got, le, whole, or_cut, field_at}
 use Rattle.local_format.specs.Text.{Span, section_field, text_at}
 use Rattle.local_format.proofs.OutLaws.{ok_same, bind_ok, checked_ok}
 use Rattle.local_format.proofs.FieldLaws.{field_ok}
 use Rattle.local_format.proofs.TextLaws.{text_ok}
-use Rattle.rule_table.specs.Load.{outside_bounds, bounded, rule_in, Loaded, rule_at, outside}
-use Rattle.rule_table.proofs.Load.{text_read, outside_ok}
+use Rattle.rule_table.specs.Load.{outside_bounds, bounded, rule_in, Loaded, rule_at}
+use Rattle.rule_table.proofs.Load.{text_read}
 use Rattle.evr0_rules.specs.declared.rule.Rule as code
 use Rattle.evr0_rules.specs.Maps.{rule_out}
 
@@ -63,12 +63,3 @@ module _ (t : List ℕ) (at : ℕ) where
         next = omega (arith, m, n, k.0);
         inside = omega (arith, n, k.1);
       }
-
-  -- the bytes between the length and the numbers are the name
-  pub name_is : {x : Loaded} → rule_at t at ≡ ok x → take (x.next - 4 - (at + 2)) (drop (at + 2) t) ≡ (rule_in t at).name
-  unfolding rule_in
-  name_is {x} e = let k : x.next - 4 - (at + 2) ≡ le 2 t at = omega (arith, (rule_read e).next) in rw k
-
-  -- the bytes of the name lie between the two places
-  pub name_ends : {x : Loaded} → ok x ≡ outside (rule_at t at) → (at + 6 ≤ x.next) × (x.next ≤ length t)
-  name_ends e = let r = rule_read (outside_ok _ (sym e)) in (omega (arith, r.next), omega (arith, r.next, r.inside))

@@ -1,12 +1,12 @@
 -- From the code's structs and enums to the definitions' types.
-use Rattle.std.specs.Prelude.{ℕ, ◌≡◌, not, length, take, Option, Some, None}
+use Rattle.std.specs.Prelude.{ℕ, not, length, Option, Some, None}
 use mathlib.Core.List.{List, map}
 use Rattle.local_format.specs.Out.{Out, ok, check, ◌>>=◌, ◌>>◌}
 use Rattle.derivation.specs.Rule as rules
-use Rattle.rule_table.specs.Load.{Loaded, given_twice, rule_in, rule_at, outside, named_in, rules_of}
+use Rattle.rule_table.specs.Load.{Loaded, given_twice, rule_in, rule_at, outside, named_in}
 use Rattle.rule_table.specs.ByTable.{Given, four, table}
-use Rattle.evr0_rules.specs.There.{StartsThere}
 use Rattle.evr0_rules.specs.declared.rule.Rule.{Rule}
+use Rattle.evr0_rules.specs.declared.placed.RulesAt.{RulesAt}
 use Rattle.evr0_rules.specs.declared.settle.Rules.{Rules}
 use Rattle.evr0_rules.specs.declared.settle.Rules.TheVariants as choice
 use Rattle.evr0_rules.specs.declared.settle.Rulebook.{Rulebook}
@@ -26,6 +26,10 @@ abbrev pub named_out : List ℕ → Option Rule → rules.Named
 named_out name (Some r) = rules.known (rule_out name r)
 named_out name None = rules.unknown
 
+-- the rules that start at these places of a table
+abbrev pub rules_out : RulesAt → List rules.Rule
+rules_out r = map (rule_in r.table.now) r.starts.now
+
 -- ---- The rules of a call
 
 abbrev pub given_out : Rules → Given
@@ -34,7 +38,7 @@ given_out (choice.Table t) = table t.now
 
 abbrev pub book_rules : Rulebook → List rules.Rule
 book_rules book.Four = rules.four_rules
-book_rules (book.Table b) = map (rule_in b.table.now) b.starts.now
+book_rules (book.Table b) = rules_out b.rules
 
 -- ---- Loading
 
@@ -54,9 +58,3 @@ abbrev pub count_in : Out (List rules.Rule) → Out ℕ
 count_in x = do
   rs ← x
   ok (length rs)
-
--- the rules start at the first places, and lie in the table
-pub record Starts (t starts : List ℕ) (given : Out ℕ) : Type 0 where
-  pub answer : given ≡ count_in (rules_of t)
-  pub are : (rs : List rules.Rule) → rules_of t ≡ ok rs → rs ≡ map (rule_in t) (take (length rs) starts)
-  pub there : (rs : List rules.Rule) → rules_of t ≡ ok rs → StartsThere t (take (length rs) starts)

@@ -1,10 +1,10 @@
 // The proof rules of a section: the four, or those of a table that comes as bytes.
 #![tactic(auto)]
 
-mod find;
 mod four;
 mod grow;
 pub mod load;
+mod placed;
 pub mod rule;
 pub mod settle;
 mod tree;

@@ -1,12 +1,12 @@
 // Loading a table of rules.
-ghost use Rattle.std.specs.Prelude.{◌≡◌, map};
-ghost use Rattle.rule_table.specs.Load.{rule_in, rule_at, outside, rules_of};
+ghost use Rattle.std.specs.Prelude.{◌≡◌, ◌≤◌, length};
+ghost use Rattle.std.specs.Result.{IfOk};
+ghost use Rattle.rule_table.specs.Load.{rule_at, outside, rules_of};
 ghost use Rattle.local_format.specs.Maps.{answer_out};
-ghost use Rattle.evr0_rules.specs.There.{StartsThere};
-ghost use Rattle.evr0_rules.specs.Maps.{loaded_out, new_rule_at, count_in, Starts};
+ghost use Rattle.evr0_rules.specs.Maps.{loaded_out, new_rule_at, count_in, rules_out};
 
-use crate::find::rule_named_in;
-use crate::rule::{is_bounded, numbers_at};
+use crate::placed::{RuleAt, RulesAt};
+use crate::rule::is_bounded;
 use local_format::field::{Field, field_at};
 use local_format::refusal::{Refusal, check, refuse};
 use local_format::text::{Span, text_at};
@@ -22,7 +22,8 @@ fn rule_at(table: &[u8], at: usize) -> Result<usize, Refusal>
     let Some(Field { next: end, .. }) = field_at::<u32>(table, next) else {
         return Err(refuse(5, next));
     };
-    check(is_bounded(len, numbers_at(table, at)), 69, 0)?;
+    let rule = RuleAt { table, at };
+    check(is_bounded(len, rule.numbers()), 69, 0)?;
     Ok(end)
 }
 
@@ -34,19 +35,25 @@ fn bounded_rule_at(table: &[u8], at: usize) -> Result<usize, Refusal>
 }
 
 // The place after the rule at a place, which has no earlier rule's name.
-fn new_rule_at(table: &[u8], earlier: &[usize], at: usize) -> Result<usize, Refusal>
-    requires { StartsThere table.now earlier.now }
-    ensures { answer_out (loaded_out table.now at) result ≡ new_rule_at (map (rule_in table.now) earlier.now) table.now at }
+fn new_rule_at(earlier: RulesAt, at: usize) -> Result<usize, Refusal>
+    ensures { answer_out (loaded_out earlier.entry.table.now at) result ≡ new_rule_at (rules_out earlier.entry) earlier.entry.table.now at }
 {
+    let table = earlier.table;
     let next = bounded_rule_at(table, at)?;
-    let name = &table[at + 2..next - 4];
-    check(rule_named_in(table, earlier, name).is_none(), 70, 0)?;
+    let name = RuleAt { table, at }.name();
+    check(earlier.rule_named(name).is_none(), 70, 0)?;
     Ok(next)
 }
 
-// How many rules a table holds, with the places at which they start.
-pub fn load_starts(table: &[u8], starts: &mut [usize; 32]) -> Result<usize, Refusal>
-    ensures { Starts table.now starts.new (answer_out (λ n. n) result) }
+// The rules of a table, with the places where they start in these words.
+// Kept (6a): decoders have no heap, so a caller lends an array for the places where a `Vec` would grow.
+pub(crate) fn rules_at<'a>(
+    table: &'a [u8],
+    starts: &'a mut [usize; 32],
+) -> Result<RulesAt<'a>, Refusal>
+    ensures rules { answer_out rules_out result ≡ rules_of table.now }
+    ensures table { IfOk result (λ rules. rules.table.now ≡ table.now) }
+    ensures few { IfOk result (λ rules. length rules.starts.now ≤ 32) }
 {
     let Some(Field { value, .. }) = field_at::<u8>(table, 0) else {
         return Err(refuse(69, 0));
@@ -55,12 +62,17 @@ pub fn load_starts(table: &[u8], starts: &mut [usize; 32]) -> Result<usize, Refu
     check((1 <= count) & (count <= MAX_RULES), 69, 0)?;
     let mut at: usize = 1;
     for i in 0..count {
-        let next = new_rule_at(table, &starts[..i], at)?;
+        let earlier = RulesAt {
+            table,
+            starts: &starts[..i],
+        };
+        let next = new_rule_at(earlier, at)?;
         starts[i] = at;
         at = next;
     }
     check(at == table.len(), 69, 0)?;
-    Ok(count)
+    let starts = &starts[..count];
+    Ok(RulesAt { table, starts })
 }
 
 // How many rules a table holds, where it loads.
@@ -68,5 +80,6 @@ pub fn load_rules(table: &[u8]) -> Result<usize, Refusal>
     ensures { answer_out (λ n. n) result ≡ count_in (rules_of table.now) }
 {
     let mut starts = [0; 32];
-    load_starts(table, &mut starts)
+    let rules = rules_at(table, &mut starts)?;
+    Ok(rules.starts.len())
 }

@@ -1,15 +1,12 @@
 // A proof rule without its name.
-ghost use Rattle.std.specs.Prelude.{List, ◌≡◌, ℕ, ◌+◌, ◌≤◌, length};
-ghost use Rattle.local_format.specs.Field.{le};
+ghost use Rattle.std.specs.Prelude.{List, ◌≡◌, ℕ, length};
 ghost use Rattle.derivation.specs.Rule as of;
 ghost use Rattle.derivation.specs.Rule.{polarity_fits};
-ghost use Rattle.rule_table.specs.Load.{is_shaped, bounded, rule_in};
+ghost use Rattle.rule_table.specs.Load.{is_shaped, bounded};
 ghost use Rattle.evr0_rules.specs.Maps.{rule_out, asking};
 
-use local_format::field::LittleEndian;
-
-// How many witnesses and parents, and which operation, a proof by it has; the polarity that it asks of its witness, 2 where it asks none: that byte is the
-// table's, and goes as a word into a lent table.
+// How many witnesses and parents, and which operation, a proof by it has; the polarity that it asks of its witness, 2 where it asks none.
+// Kept (1a): bytes of a table of rules, as they were read; the operation is held against a proof's byte, the polarity waits in the lent table of depths.
 #[derive(Clone, Copy, Debug, PartialEq, Eq)]
 pub struct Rule {
     pub polarity: u8,
@@ -37,21 +34,8 @@ pub fn is_bounded(len: usize, rule: Rule) -> bool
     (len <= 64) & ((rule.operation <= 1) & is_shaped(rule))
 }
 
-// The numbers of the rule that stands at `at`.
-pub fn numbers_at(table: &[u8], at: usize) -> Rule
-    requires { at + 6 + le 2 table.now at ≤ length table.now }
-    ensures { rule_out (rule_in table.now at).name result ≡ rule_in table.now at }
-{
-    let next = at + 2 + (u16::le_at(table, at) as usize);
-    Rule {
-        witnesses: table[next],
-        parents: table[next + 1],
-        operation: table[next + 2],
-        polarity: table[next + 3],
-    }
-}
-
 // Whether a witness's polarity is the one that a rule asks, 2 where it asks none.
+// Kept (1a): `asked` is a word of the lent table of depths, and `polarity` a witness's byte.
 #[tactic(auto, unfolding(derivation::specs::Rule::polarity_fits))]
 pub fn polarity_fits(asked: u64, polarity: u8) -> bool
     ensures { (rule : of.Rule) → result ≡ polarity_fits (asking asked rule) polarity }

@@ -1,20 +1,38 @@
 // The rules of a call: the four, or those of a table that comes as bytes.
-ghost use Rattle.std.specs.Prelude.{◌≡◌, map};
-ghost use Rattle.evr0_rules.specs.There.{StartsThere, LoadsAt, loads_prop};
+ghost use Rattle.evr0_rules.specs.There.{LoadsAt, loads_prop};
 
-use crate::find::{has_name, rule_named_in};
-use crate::load::load_starts;
-use crate::rule::{Rule, numbers_at};
+use crate::load::{load_rules, rules_at};
+use crate::placed::RulesAt;
+use crate::rule::Rule;
 use crate::tree::{Child, Tree};
 use local_format::refusal::Refusal;
 
+// Kept (1d): the four are rules too; of an `Option<&[u8]>` a reader would ask whether `None` is a call without rules.
 #[derive(Clone, Copy)]
 pub enum Rules<'a> {
     Four,
     Table(&'a [u8]),
 }
 
+impl<'a> Rules<'a> {
+    ghost use Rattle.std.specs.Prelude.{◌≡◌};
+    ghost use Rattle.local_format.specs.Maps.{answer_out};
+    ghost use Rattle.rule_table.specs.ByTable.{rules_given};
+    ghost use Rattle.evr0_rules.specs.Maps.{count_in, given_out};
+
+    // How many they are, where they load.
+    pub fn count(self) -> Result<usize, Refusal>
+        ensures { answer_out (λ n. n) result ≡ count_in (rules_given (given_out self.entry)) }
+    {
+        match self {
+            Rules::Four => Ok(4),
+            Rules::Table(table) => load_rules(table),
+        }
+    }
+}
+
 // Room for a loaded table: a search tree over its rules' names, and the places where they start.
+// Kept (4d): a tree and 32 places, lent by `&mut`; with `Clone, Copy` a use by value would copy them all unseen.
 #[derive(Drop)]
 pub struct RuleRoom {
     tree: Tree,
@@ -28,35 +46,33 @@ impl RuleRoom {
     };
 }
 
-// A table that loaded, with a search tree over its rules' names and the places where they start.
+// A table that loaded: its rules, and a search tree over their names.
 #[derive(Clone, Copy)]
 pub struct LoadedTable<'a> {
-    table: &'a [u8],
+    rules: RulesAt<'a>,
     tree: &'a Tree,
-    starts: &'a [usize],
-    pub ghost loads: { LoadsAt table.now starts.now } by { loads_prop table.now starts.now },
-    pub ghost there: { StartsThere table.now starts.now },
+    pub ghost loads: { LoadsAt rules.table.now rules.starts.now } by { loads_prop rules.table.now rules.starts.now },
 }
 
 impl<'a> LoadedTable<'a> {
+    ghost use Rattle.std.specs.Prelude.{◌≡◌};
     ghost use Rattle.derivation.specs.Rule.{rule_named};
-    ghost use Rattle.rule_table.specs.Load.{rule_in};
-    ghost use Rattle.evr0_rules.specs.Maps.{named_out};
+    ghost use Rattle.evr0_rules.specs.Maps.{named_out, rules_out};
 
     // The rule with this name: the one at which it ends in the tree, where that has the name, else by all.
     fn rule_named(self, name: &[u8]) -> Option<Rule>
-        ensures { named_out name.now result ≡ rule_named (map (rule_in self.entry.table.now) self.entry.starts.now) name.now }
+        ensures { named_out name.now result ≡ rule_named (rules_out self.entry.rules) name.now }
     {
-        if let (Child::Rule(rule), _) = self.tree.end(name) {
-            let rule = rule as usize;
-            if rule < self.starts.len() {
-                let at = self.starts[rule];
-                if has_name(self.table, at, name) {
-                    return Some(numbers_at(self.table, at));
+        if let (Child::Rule(number), _) = self.tree.end(name) {
+            let number = number as usize;
+            if number < self.rules.starts.len() {
+                let rule = self.rules.rule(number);
+                if rule.has_name(name) {
+                    return Some(rule.numbers());
                 }
             }
         }
-        rule_named_in(self.table, self.starts, name)
+        self.rules.rule_named(name)
     }
 }
 
@@ -67,6 +83,7 @@ pub enum Rulebook<'a> {
 }
 
 impl<'a> Rulebook<'a> {
+    ghost use Rattle.std.specs.Prelude.{◌≡◌};
     ghost use Rattle.local_format.specs.Maps.{answer_out};
     ghost use Rattle.derivation.specs.Rule.{rule_named};
     ghost use Rattle.rule_table.specs.ByTable.{rules_given};
@@ -80,14 +97,9 @@ impl<'a> Rulebook<'a> {
             Rules::Four => Ok(Rulebook::Four),
             Rules::Table(table) => {
                 let RuleRoom { tree, starts } = room;
-                let count = load_starts(table, starts)?;
-                let starts = &starts[..count];
-                tree.fill(table, starts);
-                Ok(Rulebook::Table(LoadedTable {
-                    table,
-                    tree,
-                    starts,
-                }))
+                let rules = rules_at(table, starts)?;
+                tree.fill(rules);
+                Ok(Rulebook::Table(LoadedTable { rules, tree }))
             }
         }
     }

@@ -21,6 +21,8 @@ pub struct Node {
 }
 
 // The place of the word by which a first child is found, the first children, the nodes, and how many of them are made.
+// Kept (4d): 256 children and 32 nodes, lent by `&` and filled by `&mut`; with `Clone, Copy` a use by value would copy them all unseen.
+// Kept (6a): decoders have no heap, so nodes name their children by index in place of `Box<Node>`.
 #[derive(Drop)]
 pub struct Tree {
     pub place: u8,
@@ -30,14 +32,11 @@ pub struct Tree {
 }
 
 // A child of the tree: a first one, or one of a node's.
+// Kept (1d): both variants are places of a child; `Result<usize, (usize, usize)>` would call one of them an error.
 #[derive(Clone, Copy)]
 pub enum Slot {
     First(usize),
     Below(usize, usize),
-}
-
-fn low_number(a: u8, b: u8, c: u8) -> u64 {
-    (a as u64) + 256 * (b as u64) + 65536 * (c as u64)
 }
 
 // A number of all bytes of a name that has fewer than eight.
@@ -47,7 +46,7 @@ fn short_number(name: &[u8]) -> u64 {
         return (u32::le_at(name, 0) as u64) + 4294967296 * (u32::le_at(name, len - 4) as u64);
     }
     if 1 <= len {
-        return low_number(name[0], name[len / 2], name[len - 1]);
+        return u32::from_le_bytes([name[0], name[len / 2], name[len - 1], 0]) as u64;
     }
     0
 }

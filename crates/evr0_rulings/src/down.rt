@@ -13,7 +13,7 @@ ghost use Rattle.evr0_rulings.specs.Maps.{down_out};
 
 use crate::held::proof_in;
 use evr0_fields::number::{ProofNumber, WitnessNumber};
-use evr0_read::cell::before_parents;
+use evr0_read::cell::start_before;
 use evr0_read::find::{Found, find};
 use evr0_read::table::{front, payload_of};
 use evr0_records::proof::Proof;
@@ -37,6 +37,7 @@ fn first_cell(proof: Proof) -> usize
 }
 
 // From a proof of an accepted section, whose parent cells start at `cells`.
+// Kept (6a): parents are numbers of the payload.
 fn down_from(payload: &[u8], starts: &[u64], cells: usize, from: ProofNumber, limit: u64) -> Down
     ensures { (d : Section) → Held payload.now starts.now d → cells ≡ d.tables.witnesses.next
         → from.0 < length starts.now → down_out result ≡ way_down (section_of d.tables) limit from.0 }
@@ -44,6 +45,7 @@ fn down_from(payload: &[u8], starts: &[u64], cells: usize, from: ProofNumber, li
     let table = tail(payload, cells);
     let mut reached = from;
     let mut moves = 0;
+    // Kept (3d): what is read ends the walk; after a `for` over the moves an answer would be written that is never reached.
     loop {
         let read = proof_in(payload, starts, reached.place());
         let Ok(Sized { item: proof, .. }) = read else {
@@ -82,6 +84,6 @@ pub fn way_down(
 {
     let Found { end, counts, .. } = find(rules, bytes, cursor, from, propositions, proofs, depths)?;
     let payload = payload_of(bytes, cursor, end);
-    let cells = before_parents(payload.len(), counts.parents);
+    let cells = start_before(payload.len(), 4, counts.parents);
     Ok(down_from(payload, front(proofs, counts.proofs), cells, from, limit))
 }

@@ -9,11 +9,11 @@ use evr0_records::sized::Sized;
 use local_format::part::tail;
 use local_format::refusal::{Refusal, refuse};
 
+// Kept (6a): the starts are a table that C lends.
+#[tactic(auto, unfolding(crate::specs::Held::proof_in))]
 pub fn proof_in(payload: &[u8], starts: &[u64], number: usize) -> Result<Sized<Proof>, Refusal>
     ensures { answer_out (sized_out proof_record) result ≡ proof_in payload.now starts.now number }
 {
-    if number < starts.len() {
-        return read_proof(tail(payload, starts[number] as usize));
-    }
-    Err(refuse(62, 0))
+    let start = *starts.get(number).ok_or(refuse(62, 0))?;
+    read_proof(tail(payload, start as usize))
 }

@@ -11,7 +11,8 @@ use borrow.Author.Tests.{eqb-true}
 use Rattle.local_format.specs.Out.{ok}
 use Rattle.local_format.proofs.OutLaws.{bind_ok, then_ok, checked_ok, ok_same}
 use Rattle.derivation.specs.Rule.{Rule, Shaped}
-use Rattle.derivation.specs.Section.{Section, Proof, Witness, no_proof, no_witness, Checked, proof_at, witness_at, proof_total, witness_total, parent_total, sum_to}
+use Rattle.derivation.specs.Section.{Section, Proof, Witness, no_proof, no_witness, Checked, proof_at, witness_at}
+use Rattle.derivation.specs.Section.{proof_total, witness_total, parent_total, sum_to}
 use Rattle.derivation.proofs.Tests.{both}
 use Rattle.derivation.proofs.Owners.{sum_mono}
 use Rattle.evr0_section.specs.Rows.{rows}

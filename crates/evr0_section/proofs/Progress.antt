@@ -7,7 +7,7 @@ use lib.ListN.{drop}
 use Rattle.local_format.specs.Refusal.{Refusal}
 use Rattle.local_format.specs.Out.{Out, ok, refused, at_offset}
 use Rattle.evr0_section.specs.Rows.{Row, Entry, Rows, rows}
-use Rattle.evr0_section.proofs.RowsLaws.{after, entry, after_none, rows_none, rows_refused, rows_turn}
+use Rattle.evr0_section.proofs.RowsLaws.{after, entry, rows_none, rows_refused, rows_turn}
 
 note_more : {A : Type 0} (note : A → ℕ) (es : List A) (e : A) → map note (es ++ (e ∷ [])) ≡ map note es ++ (note e ∷ [])
 note_more note [] e = refl
@@ -27,12 +27,6 @@ module _ {A S : Type 0} (row : S → List ℕ → Out (Row A S)) (note : Entry A
     pub noted : map note table.entries ≡ xs
     pub last : table.state ≡ state
     pub next : table.next ≡ place
-
-  pub begun : Progress 0 at first []
-  begun = record { read = []; noted = refl; whole = rw (all count) (after_none (rows row count first p at)) }
-    where
-      all : (n : ℕ) → n - 0 ≡ n
-      all n = omega arith
 
   module _ (i place : ℕ) (state : S) (xs : List ℕ) (done : Progress i place state xs) where
     one_more : i < count → count - i ≡ suc (count - (i + 1))

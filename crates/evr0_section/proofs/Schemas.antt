@@ -18,7 +18,7 @@ use Rattle.local_format.proofs.Each.{Each, each_ok, always, on_field, on_passed,
 use Rattle.derivation.specs.Rule.{Rule}
 use Rattle.derivation.proofs.Tests.{either}
 use Rattle.evr0_section.specs.Head.{Room, Head, digest_at, counts_at, is_schema, span_width, witness_size, witness_memory, head_of, check_counts, checked_head}
-use Rattle.evr0_section.specs.Section.{Frame, frame_at, Tables, tables_of, section_in, section_at}
+use Rattle.evr0_section.specs.Section.{Frame, frame_at, tables_of, section_in, section_at}
 use Rattle.evr0_section.specs.Older.{older_head, older_counts, older_checked, older_tables, older_in, older_at, Carries}
 use Rattle.evr0_section.proofs.SectionSteps.{frame_place}
 use Rattle.evr0_section.proofs.CheckedTables.{head_steps}

@@ -27,7 +27,8 @@ use Rattle.evr0_section.proofs.SectionWithin.{rows_end, head_end}
 use Rattle.evr0_section.proofs.CheckedTables.{FourSteps, four_steps}
 use Rattle.evr0_head.specs.Checks.{Limited}
 use Rattle.evr0_head.proofs.HeadLaws.{limited}
-use Rattle.evr0_tables.specs.LentTables.{Lent, room_of, Cleared}
+use Rattle.evr0_tables.specs.LentTables.{Lent, room_of}
+use Rattle.evr0_tables.specs.LentMaps.{Cleared}
 use Rattle.evr0_tables.specs.Maps.{next_in, asked, starts_in, Owned, owned_in}
 use Rattle.evr0_tables.specs.PayloadMaps.{Payload, parents_in, payload_in, Begins, Reads}
 

@@ -14,7 +14,7 @@ use Rattle.evr0_section.specs.Rows.{Row, Rows, rows}
 use Rattle.evr0_section.specs.Proof.{Settled, Unowned}
 use Rattle.local_format.proofs.Each.{each_ok, each_refused}
 use Rattle.evr0_section.proofs.Inside.{Inside}
-use Rattle.evr0_section.proofs.Progress.{Progress, Done, begun, turn, refused_at, ended}
+use Rattle.evr0_section.proofs.Progress.{Progress, Done, turn, refused_at, ended}
 use Rattle.evr0_tables.specs.Maps.{kept_in, Noted, noted_in, asked, next_in, starts_in, owned_in}
 use Rattle.evr0_tables.proofs.RowLaws.{kept_read, kept_refused}
 
@@ -24,9 +24,6 @@ module _ {A S : Type 0} (row : S → List ℕ → Out (Row A S)) (p : List ℕ) 
     pub few : i ≤ count
     pub within : place ≤ length p
     pub done : Progress row (λ e. e.start) p count at first i place state xs
-
-  pub starting : at ≤ length p → Stands 0 at first []
-  starting h = record { few = omega arith; within = h; done = begun row (λ e. e.start) p count at first }
 
 -- a sum that fits is not held
 pub held_sum : (base at : ℕ) → base + at ≤ 18446744073709551615 → held base at ≡ base + at

@@ -1,3 +1,4 @@
 pub mod LentTables
+pub mod LentMaps
 pub mod Maps
 pub mod PayloadMaps

@@ -1,6 +1,8 @@
 -- From the code's structs and enums to the definitions' types, and what the code keeps of them.
 use Rattle.std.specs.Prelude.{ℕ, ◌+◌, List, [], drop, Option, Some, None}
 use Rattle.local_format.specs.Out.{Out, ok, refused, ◌>>=◌}
+use Rattle.local_format.specs.declared.field.Field as field
+use Rattle.evr0_records.specs.declared.proof.Unowned as unowned
 use Rattle.evr0_section.specs.Rows.{Row, Entry, starts_of, Rows}
 use Rattle.evr0_section.specs.Proposition as props
 use Rattle.evr0_section.specs.Proof as proofs
@@ -8,7 +10,6 @@ use Rattle.evr0_records.specs.Maps.{proposition_record, unowned_out}
 use Rattle.evr0_tables.specs.declared.rows.Before as before
 use Rattle.evr0_tables.specs.declared.rows.Kept as kept
 use Rattle.evr0_tables.specs.declared.rows.Noted as noted
-use Rattle.evr0_tables.specs.declared.tables.Owned as owned
 
 -- ---- A record of a table
 
@@ -77,8 +78,8 @@ owned_in x = do
   t ← x
   ok (record { unowned = t.state; next = t.next })
 
-abbrev pub owned_out : owned.Owned → Owned
-owned_out o = record { unowned = unowned_out o.unowned; next = o.next }
+abbrev pub owned_out : field.Field unowned.Unowned → Owned
+owned_out o = record { unowned = unowned_out o.value; next = o.next }
 
 -- the starts of its records; a refusal has none
 abbrev pub starts_in : {A S : Type 0} → Out (Rows A S) → List ℕ

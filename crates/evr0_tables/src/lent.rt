@@ -1,6 +1,6 @@
 // Tables that a caller lends.
 ghost use Rattle.lent_table.specs.Lent.{lent};
-ghost use Rattle.evr0_tables.specs.LentTables.{SameTables, tables_out, Cleared};
+ghost use Rattle.evr0_tables.specs.LentMaps.{SameTables, tables_out, Cleared};
 
 // Where a section's propositions and proofs start, and a number for each proof: the polarity that its rule asks, and then its depth.
 #[derive(Drop)]
@@ -12,6 +12,7 @@ pub struct Tables<'a> {
 
 impl<'a> Tables<'a> {
     // Zeros in all three.
+    // Kept (2d): `Tables` of compare_sections has five tables, each cleared by its own call; a loop over them needs one type of entries.
     pub fn clear(&mut self)
         ensures same { SameTables self.old self.new }
         ensures cleared { Cleared (tables_out self.old) (tables_out self.new) }

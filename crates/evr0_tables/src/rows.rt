@@ -37,19 +37,11 @@ pub struct Before {
 fn rises(payload: &[u8], before: Option<Before>, part: &[u8], proposition: Proposition) -> bool
     ensures { result ≡ rises (before_in payload.now before) (key_of part.now (proposition_record proposition)) }
 {
-    let Some(
-        Before {
-            start,
-            proposition: a,
-        },
-    ) = before
-    else {
-        return true;
-    };
-    precedes(tail(payload, start), a, part, proposition)
+    before.is_none_or(|b| precedes(tail(payload, b.start), b.proposition, part, proposition))
 }
 
 // The proposition at `at`, after the one before.
+// Kept (2d): one function for the three rows takes what differs, `next_row(payload, at, read, check, keep)`, and that is all there is of each.
 #[tactic(auto, unfolding(evr0_section::specs::Proposition::proposition_row))]
 pub fn next_proposition(
     payload: &[u8],
@@ -77,6 +69,7 @@ pub fn next_proposition(
 // The polarity that a proof's rule asks, beside what is kept of the proof.
 #[derive(Clone, Copy)]
 pub struct Noted {
+    // Kept (1a): a byte of a table of rules, as it was read; it goes into the lent table of depths, whose entries are words.
     pub polarity: u8,
     pub kept: Kept<Unowned>,
 }
@@ -94,13 +87,13 @@ fn after_proof(proof: Proof) -> Unowned
 
 // The proof at `at`, which is to be the next one.
 pub fn next_proof(
-    rules: Rulebook,
+    rules: &Rulebook,
     payload: &[u8],
     at: usize,
     counts: Counts,
     unowned: Unowned,
 ) -> Result<Noted, Refusal>
-    ensures { answer_out noted_out result ≡ noted_in (proof_row (book_rules rules.entry) (counts_out counts)
+    ensures { answer_out noted_out result ≡ noted_in (proof_row (book_rules rules.now) (counts_out counts)
         (unowned_out unowned) (drop at payload.now)) }
 {
     let Ruled { proof, size, rule } = read_ruled(rules, tail(payload, at))?;
@@ -115,6 +108,7 @@ pub fn next_proof(
 }
 
 // The size of the witness at `at`, which is to be the next one.
+// Kept (1a): the number of the head, which callers in C read; the readers of a witness take any u16 as the schema.
 #[tactic(auto, unfolding(evr0_section::specs::Witness::witness_row))]
 pub fn next_witness(
     payload: &[u8],
@@ -129,6 +123,6 @@ pub fn next_witness(
         item: witness,
         size,
     } = read_witness(tail(payload, at), schema)?;
-    check_witness(counts, number, witness)?;
+    check_witness(counts, number, &witness)?;
     Ok(size)
 }

@@ -18,9 +18,12 @@ use crate::rows::{next_proof, next_proposition, next_witness};
 use evr0_head::counts::Counts;
 use evr0_records::proof::Unowned;
 use evr0_rules::settle::Rulebook;
+use local_format::field::Field;
 use local_format::refusal::{Refusal, refuse};
 
 // The place after the propositions.
+// Kept (2d): over a closure, as `fill_starts` of semcode_decode, the walk would carry a state and, for proofs, a second table: more than these four lines.
+// Kept (6a): callers in C lend the table of starts; the count is the head's.
 pub fn read_propositions(
     payload: &[u8],
     count: usize,
@@ -42,31 +45,25 @@ pub fn read_propositions(
     Ok(place)
 }
 
-// The place after the proofs, and what is then unowned.
-#[derive(Clone, Copy)]
-pub struct Owned {
-    pub unowned: Unowned,
-    pub next: usize,
-}
-
-// The starts of the proofs at the front of a lent table, and the polarities that their rules ask at the front of another, past which it holds what stood
-// there.
+// What is unowned after the proofs, and the place after them. Their starts are put at the front of a lent table, and the polarities that their rules ask at
+// the front of another, past which it holds what stood there.
+// Kept (6a): callers in C lend both tables; the count is the head's.
 pub fn read_proofs(
-    rules: Rulebook,
+    rules: &Rulebook,
     payload: &[u8],
     counts: Counts,
     at: usize,
     starts: &mut [u64],
     polarities: &mut [u64],
-) -> Result<Owned, Refusal>
+) -> Result<Field<Unowned>, Refusal>
     requires proofs_in_bounds { (counts.proofs ≤ length starts.old) × (counts.proofs ≤ length polarities.old) }
     requires at_in_bounds { at ≤ length payload.now }
-    ensures result_value { answer_out owned_out result ≡ owned_in (rows (proof_row (book_rules rules.entry) (counts_out counts))
+    ensures result_value { answer_out owned_out result ≡ owned_in (rows (proof_row (book_rules rules.now) (counts_out counts))
         counts.proofs none_owned payload.now at) }
-    ensures front { Front (starts_in (rows (proof_row (book_rules rules.entry) (counts_out counts)) counts.proofs
+    ensures front { Front (starts_in (rows (proof_row (book_rules rules.now) (counts_out counts)) counts.proofs
         none_owned payload.now at))
         starts.new }
-    ensures polarities_after { (t : Rows of.Settled of.Unowned) → rows (proof_row (book_rules rules.entry) (counts_out counts))
+    ensures polarities_after { (t : Rows of.Settled of.Unowned) → rows (proof_row (book_rules rules.now) (counts_out counts))
         counts.proofs none_owned payload.now at ≡ ok t
         → polarities.new ≡ laid (map asked t.entries) polarities.old }
 {
@@ -83,13 +80,14 @@ pub fn read_proofs(
         unowned = noted.kept.state;
         place += noted.kept.size;
     }
-    Ok(Owned {
-        unowned,
+    Ok(Field {
+        value: unowned,
         next: place,
     })
 }
 
 // The place after the witnesses.
+// Kept (1a): the number of the head, which callers in C read; the readers of a witness take any u16 as the schema.
 pub fn read_witnesses(
     payload: &[u8],
     schema: u16,

@@ -12,6 +12,7 @@ use evr0_authorised::authorised::authorised;
 use evr0_fields::number::PropositionIndex;
 use evr0_rules::settle::Rules;
 
+// Kept (1a): callers in C read a flag and the values beside it.
 #[repr(C)]
 #[derive(Clone, Copy, Debug, Default, PartialEq, Eq)]
 pub struct Authorised {
@@ -38,6 +39,7 @@ impl From<Answer<bool>> for Authorised {
     }
 }
 
+// Kept (2a): C has no enum with a value, so each function by the four has one by a table of rules beside it; both call one function of Rules.
 #[unsafe(no_mangle)]
 pub extern "C" fn falgnust_authorised(
     bytes: &[u8],

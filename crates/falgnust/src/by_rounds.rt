@@ -12,6 +12,7 @@ use evr0_rounds::section::{Marked, depth_by_rounds};
 use evr0_rules::settle::Rules;
 
 // The cursor is the one that was brought where the section is refused.
+// Kept (1a): callers in C read a flag and the values beside it.
 #[repr(C)]
 #[derive(Clone, Copy, Debug, Default, PartialEq, Eq)]
 pub struct Rounds {
@@ -21,6 +22,7 @@ pub struct Rounds {
     pub cursor: usize,
 }
 
+// Kept (2a): each makes a struct of the C interface, with fields of its own.
 fn flat_rounds(found: Answer<Marked>, cursor: usize) -> Rounds
     ensures { result ≡ flat_rounds (answer_with cursor (answer_out marked_out found)) }
 {

@@ -7,11 +7,12 @@ ghost use Rattle.columns_answer.specs.Maps.{columns_out};
 ghost use Rattle.falgnust.specs.ColumnMaps.{flat_columns};
 
 use crate::refusal::{Answer, Refusal};
-use columns_take::take::{take_columns, take_columns_given};
-use columns_write::write::{write_columns, write_columns_given};
+use columns_take::take::take_columns;
+use columns_write::write::write_columns;
 use evr0_rules::settle::Rules;
 
 // The length written; or a refusal, with a zero beside it.
+// Kept (1a): callers in C read a flag and the values beside it.
 #[repr(C)]
 #[derive(Clone, Copy, Debug, Default, PartialEq, Eq)]
 pub struct Columns {
@@ -51,7 +52,16 @@ pub extern "C" fn falgnust_write_columns(
         (with_output (lent_of propositions.old proofs.old depths.old) output.old)
         (with_output (lent_of propositions.new proofs.new depths.new) output.new) result }
 {
-    write_columns(bytes, cursor, propositions, proofs, depths, output).into()
+    write_columns(
+        Rules::Four,
+        bytes,
+        cursor,
+        propositions,
+        proofs,
+        depths,
+        output,
+    )
+    .into()
 }
 
 // By a table of rules, which is loaded before the section is looked at.
@@ -69,7 +79,7 @@ pub extern "C" fn falgnust_write_columns_by_rules(
         (with_output (lent_of propositions.old proofs.old depths.old) output.old)
         (with_output (lent_of propositions.new proofs.new depths.new) output.new) result }
 {
-    write_columns_given(
+    write_columns(
         Rules::Table(rules),
         bytes,
         cursor,
@@ -93,7 +103,7 @@ pub extern "C" fn falgnust_take_columns(
         (with_output (lent_of propositions.old proofs.old depths.old) output.old)
         (with_output (lent_of propositions.new proofs.new depths.new) output.new) result }
 {
-    take_columns(columns, propositions, proofs, depths, output).into()
+    take_columns(Rules::Four, columns, propositions, proofs, depths, output).into()
 }
 
 // By a table of rules, which is loaded before the columns are looked at.
@@ -110,7 +120,7 @@ pub extern "C" fn falgnust_take_columns_by_rules(
         (with_output (lent_of propositions.old proofs.old depths.old) output.old)
         (with_output (lent_of propositions.new proofs.new depths.new) output.new) result }
 {
-    take_columns_given(
+    take_columns(
         Rules::Table(rules),
         columns,
         propositions,

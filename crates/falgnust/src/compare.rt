@@ -14,6 +14,7 @@ use section_pair::totals::Totals;
 
 // The four totals; or a refusal, with zeros beside it. `whose` says whose refusal it is: 0 none, 1 that of the table of rules, 2 of the
 // first section, 3 of the second, 4 of the pair.
+// Kept (1a): callers in C read a flag, a number that says whose refusal it is, and the values beside them.
 #[repr(C)]
 #[derive(Clone, Copy, Debug, Default, PartialEq, Eq)]
 pub struct Compared {
@@ -26,6 +27,7 @@ pub struct Compared {
     pub second_only: usize,
 }
 
+// Kept (1a): the number of C's struct that says whose refusal it is.
 fn refused_by(whose: u8, refused: local_format::refusal::Refusal) -> Compared
     ensures { result ≡ refused_by whose (refusal_out refused) }
 {

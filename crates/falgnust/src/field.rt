@@ -6,6 +6,7 @@ ghost use Rattle.falgnust.specs.Maps.{flat_field};
 use local_format::field::{LittleEndian, field_at};
 
 // The value and the place after it, or, where the field is cut, zeros: C has no Option.
+// Kept (1a): callers in C read a flag and the values beside it.
 #[repr(C)]
 #[derive(Clone, Copy, Debug, Default, PartialEq, Eq)]
 pub struct Field {
@@ -15,6 +16,7 @@ pub struct Field {
 }
 
 // Numbers that fit in 32 bits.
+// Kept (4d): `T: Into<u32>` alone does not promise that the number stays what it was; this trait promises it, for three widths.
 trait Word: LittleEndian {
     fn word(self) -> u32
         ensures { result ≡ Self.number self };
@@ -51,6 +53,7 @@ fn read<T: Word>(bytes: &[u8], at: usize) -> Field
     }
 }
 
+// Kept (2a): C has no generic functions: three names over one generic function.
 #[unsafe(no_mangle)]
 pub extern "C" fn falgnust_read_u8(bytes: &[u8], at: usize) -> Field
     ensures { result ≡ flat_field (field_at 1 bytes.now at) }

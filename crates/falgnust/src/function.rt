@@ -15,6 +15,7 @@ use semcode_functions::head::{Head, read_function};
 use semcode_functions::number::function_number;
 
 // The name, where the block starts and how long it is, and the place after it; or a refusal, with zeros beside it.
+// Kept (1a): callers in C read a flag and the values beside it.
 #[repr(C)]
 #[derive(Clone, Copy, Debug, Default, PartialEq, Eq)]
 pub struct Function {

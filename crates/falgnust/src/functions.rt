@@ -15,6 +15,7 @@ use semcode_symbols::functions::decode_functions;
 
 // How many functions there are, the cursor after them, and where the last one's block starts and what it holds. After a refusal the
 // cursor is the one that was brought; where there is no last block, it is not accepted and has zeros.
+// Kept (1a): callers in C read a flag and the values beside it.
 #[repr(C)]
 #[derive(Clone, Copy, Debug, Default, PartialEq, Eq)]
 pub struct Functions {
@@ -32,12 +33,14 @@ fn last_code(last: Option<FunctionBlock>) -> usize
     last.map_or(0, |block| block.code)
 }
 
-fn flat_last(last: Option<FunctionBlock>) -> Block
-    ensures { result ≡ flat_last (last_is last) }
-{
-    match last {
-        Some(block) => Ok(block.parsed).into(),
-        None => Block::default(),
+impl From<Option<FunctionBlock>> for Block {
+    ghost from_gives = { λ last b. b ≡ flat_last (last_is last) };
+
+    fn from(last: Option<FunctionBlock>) -> Block {
+        match last {
+            Some(block) => Ok(block.parsed).into(),
+            None => Block::default(),
+        }
     }
 }
 
@@ -50,7 +53,7 @@ fn flat_functions(answer: Answer<File>, cursor: usize) -> Functions
             functions: found.functions,
             cursor: found.cursor,
             last_code: last_code(found.last),
-            last: flat_last(found.last),
+            last: found.last.into(),
             ..Functions::default()
         },
         Err(refused) => Functions {
@@ -61,6 +64,7 @@ fn flat_functions(answer: Answer<File>, cursor: usize) -> Functions
     }
 }
 
+// Kept (6a): C lends a table and its length; no heap.
 #[unsafe(no_mangle)]
 pub extern "C" fn falgnust_decode_functions(
     bytes: &[u8],

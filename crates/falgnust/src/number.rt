@@ -17,6 +17,7 @@ use crate::record::{Component, Path, Symbol};
 use crate::text::Text;
 use semcode_read::{component_number, path_number, string_number, symbol_number};
 
+// Kept (2a): C has no generic functions: a name for each kind of entry.
 #[tactic(auto, using(semcode_decode::proofs::LentLaws::mapped))]
 #[unsafe(no_mangle)]
 pub extern "C" fn falgnust_string_number(

@@ -21,6 +21,7 @@ use evr0_read::entry::Entry;
 use evr0_rules::settle::Rules;
 
 // Where the cell starts in the payload, and the proof's number in it; or a refusal, with zeros beside it.
+// Kept (1a): callers in C read a flag and the values beside it.
 #[repr(C)]
 #[derive(Clone, Copy, Debug, Default, PartialEq, Eq)]
 pub struct Parent {
@@ -109,6 +110,7 @@ pub extern "C" fn falgnust_read_parent(payload: &[u8], at: usize) -> Parent
 }
 
 // Where the parent cell with a number starts in the payload, of `len` bytes, of an accepted section with so many parents.
+// Kept (1a): C has no Option: 0, where no record stands, for no place.
 #[unsafe(no_mangle)]
 pub extern "C" fn falgnust_parent_place(len: usize, parents: usize, number: u32) -> usize
     ensures { result ≡ parent_place len parents number }

@@ -19,6 +19,7 @@ use evr0_read::entry::{Entry, proof_at};
 use evr0_rules::settle::Rules;
 
 // Where the record starts in the payload, and its fields; or a refusal, with zeros beside it.
+// Kept (1a): callers in C read a flag, the operation as its number, and the values beside them.
 #[repr(C)]
 #[derive(Clone, Copy, Debug, Default, PartialEq, Eq)]
 pub struct Proof {

@@ -19,6 +19,7 @@ use evr0_read::entry::{Entry, proposition_at};
 use evr0_rules::settle::Rules;
 
 // Where the record starts in the payload, and its fields; or a refusal, with zeros beside it.
+// Kept (1a): callers in C read a flag and the values beside it.
 #[repr(C)]
 #[derive(Clone, Copy, Debug, Default, PartialEq, Eq)]
 pub struct Proposition {
@@ -53,6 +54,7 @@ impl From<Answer<Entry<evr0_records::proposition::Proposition>>> for Proposition
     }
 }
 
+// Kept (2a): C has no generic functions: four names over one generic function.
 #[unsafe(no_mangle)]
 pub extern "C" fn falgnust_proposition_number(
     bytes: &[u8],
@@ -79,6 +81,7 @@ pub extern "C" fn falgnust_proposition_number(
 }
 
 // By a table of rules, which is loaded before the section is looked at.
+// Kept (2a): C has no generic functions and no enum of rules: four names by the four rules and four by a table, over one generic function.
 #[unsafe(no_mangle)]
 pub extern "C" fn falgnust_proposition_number_by_rules(
     rules: &[u8],

@@ -9,6 +9,7 @@ ghost use Rattle.falgnust.specs.BlockMaps.{flat_symbol, flat_event, flat_path, f
 
 use crate::refusal::{Answer, Refusal};
 use local_format::field::Field;
+use lock_words::words::Part;
 use semcode_records::component::{DecodedAccessPathComponent, read_component};
 use semcode_records::path::{
     DecodedAccessPath, DecodedBorrowActivation, DecodedEvent, DecodedWriteExecution, read_path,
@@ -17,6 +18,7 @@ use semcode_records::symbol::{DecodedDebugSymbol, read_debug_symbol};
 
 // ---- Debug symbols
 
+// Kept (1a): callers in C read a flag and the values beside it.
 #[repr(C)]
 #[derive(Clone, Copy, Debug, Default, PartialEq, Eq)]
 pub struct Symbol {
@@ -65,6 +67,8 @@ pub extern "C" fn falgnust_read_debug_symbol(code: &[u8], at: usize) -> Symbol
 
 // 0: a borrow without activation; 1: on frame entry; 2: at a store site; 3: a write without execution; 4: at a store site; 5: at a record
 // site. The site is 0 where there is none. C has no enum with a value.
+// Kept (1a): callers in C read an event as a number, with its site beside it.
+// Kept (2d): path_words' Numbered is made by the same arms, for its own words: made public it would be copied here, field by field, into C's struct.
 #[repr(C)]
 #[derive(Clone, Copy, Debug, Default, PartialEq, Eq)]
 pub struct Event {
@@ -88,6 +92,7 @@ impl From<DecodedEvent> for Event {
     }
 }
 
+// Kept (1a): callers in C read a flag and the values beside it.
 #[repr(C)]
 #[derive(Clone, Copy, Debug, Default, PartialEq, Eq)]
 pub struct Path {
@@ -132,6 +137,7 @@ pub extern "C" fn falgnust_read_path(code: &[u8], at: usize, header_rev: u16) ->
 // ---- Components
 
 // The kind is the byte of the format; a variant's index is the second number.
+// Kept (1a, 2d): callers in C read a kind as a number; lock_words' Part has the same three, and one for both would put C's layout into lock_words.
 #[repr(C)]
 #[derive(Clone, Copy, Debug, Default, PartialEq, Eq)]
 pub struct Parts {
@@ -158,6 +164,19 @@ impl From<DecodedAccessPathComponent> for Parts {
     }
 }
 
+impl From<Part> for Parts {
+    ghost from_gives = { λ part p. p ≡ record { kind = part.kind; first = part.first; second = part.second } };
+
+    fn from(part: Part) -> Parts {
+        Parts {
+            kind: part.kind,
+            first: part.first,
+            second: part.second,
+        }
+    }
+}
+
+// Kept (1a): callers in C read a flag and the values beside it.
 #[repr(C)]
 #[derive(Clone, Copy, Debug, Default, PartialEq, Eq)]
 pub struct Component {
@@ -191,6 +210,7 @@ impl From<Answer<Field<DecodedAccessPathComponent>>> for Component {
     }
 }
 
+// Kept (1a): C gives the kind as the byte of the format.
 #[unsafe(no_mangle)]
 pub extern "C" fn falgnust_read_component(
     code: &[u8],

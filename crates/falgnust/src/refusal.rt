@@ -8,6 +8,7 @@ pub type Answer<T> = Result<T, local_format::refusal::Refusal>;
 
 // The kinds are numbered in document 01's order: 0 Invalid, 1 Limit, 2 Strings, 3 Debug, 4 Ownership, 5 Added; then those of
 // document 02: 6 Truncated, 7 Name, 8 Signature. All is zero in an accepted answer, and no refusal has number 0.
+// Kept (1a): callers in C read a kind and a number of document 01, and no enum.
 #[repr(C)]
 #[derive(Clone, Copy, Debug, Default, PartialEq, Eq)]
 pub struct Refusal {

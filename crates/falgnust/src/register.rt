@@ -21,6 +21,7 @@ use locks::claim::claim;
 // ---- Claims and releases
 
 // How many locks are held afterwards; or a refusal, with a zero beside it.
+// Kept (1a): callers in C read a flag and the values beside it.
 #[repr(C)]
 #[derive(Clone, Copy, Debug, Default, PartialEq, Eq)]
 pub struct Claimed {
@@ -47,6 +48,7 @@ impl From<Answer<usize>> for Claimed {
     }
 }
 
+// Kept (6a): C lends the register as an array of 64-bit numbers, and keeps it, or copies of it, between calls; no heap.
 #[tactic(auto, using(locks::proofs::CallLaws::claims_mapped))]
 #[unsafe(no_mangle)]
 pub extern "C" fn falgnust_claim(
@@ -94,6 +96,7 @@ pub extern "C" fn falgnust_held(register: &[u64; 6145]) -> usize
     held(register)
 }
 
+// Kept (1a): callers in C read a flag and the values beside it.
 #[repr(C)]
 #[derive(Clone, Copy, Debug, Default, PartialEq, Eq)]
 pub struct Lock {
@@ -137,6 +140,7 @@ pub extern "C" fn falgnust_lock_number(register: &[u64; 6145], number: usize) ->
 }
 
 // The component as in a path's.
+// Kept (1a): callers in C read a flag and the values beside it.
 #[repr(C)]
 #[derive(Clone, Copy, Debug, Default, PartialEq, Eq)]
 pub struct LockPart {
@@ -152,11 +156,7 @@ impl From<Answer<Part>> for LockPart {
         match read {
             Ok(part) => LockPart {
                 accepted: true,
-                component: Parts {
-                    kind: part.kind,
-                    first: part.first,
-                    second: part.second,
-                },
+                component: part.into(),
                 ..LockPart::default()
             },
             Err(refused) => LockPart {

@@ -9,6 +9,7 @@ use crate::refusal::{Answer, Refusal};
 use evr0_rules::load::load_rules;
 
 // How many rules the table holds; or a refusal, with a zero beside it.
+// Kept (1a): callers in C read a flag and the values beside it.
 #[repr(C)]
 #[derive(Clone, Copy, Debug, Default, PartialEq, Eq)]
 pub struct Rules {

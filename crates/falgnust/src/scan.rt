@@ -8,6 +8,7 @@ ghost use Rattle.falgnust.specs.Maps.{flat_scan, flat_utf8};
 use utf8::{Utf8Error, read_utf8, scan};
 
 // C has no Option: 0: not UTF-8; 1: UTF-8 without control characters; 2: UTF-8 with one. And the number of characters.
+// Kept (1a): callers in C read an answer as a number, with the characters beside it.
 #[repr(C)]
 #[derive(Clone, Copy, Debug, Default, PartialEq, Eq)]
 pub struct Scanned {
@@ -37,6 +38,7 @@ pub extern "C" fn falgnust_scan(bytes: &[u8]) -> Scanned
 }
 
 // What the bytes are and the place after them; all is zero where they pass the end.
+// Kept (1a): callers in C read a flag and the values beside it.
 #[repr(C)]
 #[derive(Clone, Copy, Debug, Default, PartialEq, Eq)]
 pub struct Utf8 {

@@ -12,6 +12,7 @@ use evr0_rules::settle::Rules;
 
 // The digests, the epoch, the schema, the places in the payload of both namespaces' lengths, how many characters each has, and the counts;
 // or a refusal, with zeros beside it. The cursor is the one that was brought where the section is refused.
+// Kept (1a): callers in C read a flag and the values beside it, the schema as its number.
 #[repr(C)]
 #[derive(Clone, Copy, Debug, Default, PartialEq, Eq)]
 pub struct Section {
@@ -42,15 +43,12 @@ impl From<DecodedEvr0> for Section {
             cursor,
             outcome,
         } = decoded;
-        let beside = Section {
-            source_set,
-            compiler_contract,
-            cursor,
-            ..Section::default()
-        };
         match outcome {
             Ok(given) => Section {
                 accepted: true,
+                refusal: Refusal::default(),
+                source_set,
+                compiler_contract,
                 epoch: given.epoch,
                 schema: given.schema,
                 policy_at: given.policy_namespace,
@@ -61,16 +59,20 @@ impl From<DecodedEvr0> for Section {
                 proofs: given.counts.proofs,
                 witnesses: given.counts.witnesses,
                 parents: given.counts.parents,
-                ..beside
+                cursor,
             },
             Err(refused) => Section {
                 refusal: refused.into(),
-                ..beside
+                source_set,
+                compiler_contract,
+                cursor,
+                ..Section::default()
             },
         }
     }
 }
 
+// Kept (6a): C lends a table and its length; no heap.
 #[unsafe(no_mangle)]
 pub extern "C" fn falgnust_decode_evr0_section(
     bytes: &[u8],

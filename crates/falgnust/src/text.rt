@@ -8,6 +8,7 @@ use crate::refusal::{Answer, Refusal};
 use local_format::text::{Span, string_at, text_at};
 
 // Where the bytes start, how many they are, the number of characters and the place after them; or a refusal, with zeros beside it.
+// Kept (1a): callers in C read a flag and the values beside it.
 #[repr(C)]
 #[derive(Clone, Copy, Debug, Default, PartialEq, Eq)]
 pub struct Text {

@@ -15,6 +15,7 @@ use evr0_rules::settle::Rules;
 use evr0_rulings::down::{Down, way_down};
 
 // The witness and the moves made; or, where the limit was spent, the proof reached; or a refusal. The other numbers are zeros.
+// Kept (1a): callers in C read two flags and the values beside them.
 #[repr(C)]
 #[derive(Clone, Copy, Debug, Default, PartialEq, Eq)]
 pub struct WayDown {

@@ -22,6 +22,7 @@ use evr0_read::entry::Entry;
 use evr0_rules::settle::Rules;
 
 // Where the record starts in the payload, and its fields; or a refusal, with zeros beside it.
+// Kept (1a): callers in C read a flag, the polarity as its number, and the values beside them.
 #[repr(C)]
 #[derive(Clone, Copy, Debug, Default, PartialEq, Eq)]
 pub struct Witness {
@@ -121,6 +122,7 @@ pub extern "C" fn falgnust_witness_number_by_rules(
 }
 
 // The witness at a place of a payload of this schema. A schema other than 2 means spans whose ends have 4 bytes.
+// Kept (1a): C gives the schema as its number, and any number.
 #[unsafe(no_mangle)]
 pub extern "C" fn falgnust_read_witness(payload: &[u8], schema: u16, at: usize) -> Witness
     ensures { result ≡ flat_witness (witness_beside (record_at (witness_of (span_width schema)) placed_witness payload.now at)) }
@@ -129,6 +131,7 @@ pub extern "C" fn falgnust_read_witness(payload: &[u8], schema: u16, at: usize) 
 }
 
 // Where the witness with a number starts in the payload, of `len` bytes, of an accepted section with this schema and these counts.
+// Kept (1a): C gives the schema as its number, and has no Option: 0, where no record stands, for no place.
 #[unsafe(no_mangle)]
 pub extern "C" fn falgnust_witness_place(
     len: usize,

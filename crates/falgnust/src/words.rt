@@ -5,6 +5,7 @@ ghost use Rattle.record_words.specs.Words.{text_whole, text_words, witness_whole
 ghost use Rattle.path_words.specs.Words.{path_words, Fits};
 
 // Of a proposition 5 words: the place and the length of its kind, owner, scope, type.
+// Kept (1a): callers in C read whether the words were filled, with zeros in the table where they were not.
 #[unsafe(no_mangle)]
 pub extern "C" fn falgnust_proposition_words(
     payload: &[u8],
@@ -19,6 +20,7 @@ pub extern "C" fn falgnust_proposition_words(
 
 // Of a proof 10 words: number, proposition, the place and the length of its rule's name, authority, first witness, how many witnesses, first
 // parent, how many parents, operation.
+// Kept (1a): callers in C read whether the words were filled, with zeros in the table where they were not.
 #[unsafe(no_mangle)]
 pub extern "C" fn falgnust_proof_words(payload: &[u8], starts: &[u64], words: &mut [u64]) -> bool
     ensures { Fills (text_whole 2 6 payload.now) (text_words 2 6 payload.now) starts.now
@@ -29,6 +31,7 @@ pub extern "C" fn falgnust_proof_words(payload: &[u8], starts: &[u64], words: &m
 
 // Of a witness 7 words: number, proposition, polarity, the place of its first digest, where its span starts and ends, the place of its second
 // digest. A schema other than 2 means spans whose ends have 4 bytes.
+// Kept (1a): C gives the schema as its number; callers read whether the words were filled, with zeros in the table where they were not.
 #[unsafe(no_mangle)]
 pub extern "C" fn falgnust_witness_words(
     payload: &[u8],
@@ -43,6 +46,7 @@ pub extern "C" fn falgnust_witness_words(
 }
 
 // The parent cells from a place on, a word each, as many as there are words.
+// Kept (1a): callers in C read whether the words were filled, with zeros in the table where they were not.
 #[unsafe(no_mangle)]
 pub extern "C" fn falgnust_parent_words(payload: &[u8], at: usize, words: &mut [u64]) -> bool
     ensures { Runs payload.now at words.old words.new result }
@@ -51,6 +55,7 @@ pub extern "C" fn falgnust_parent_words(payload: &[u8], at: usize, words: &mut [
 }
 
 // Of a text of a section, or of a string of a block, 2 words: the place and the length of its bytes.
+// Kept (1a): callers in C read whether the words were filled, with zeros in the table where they were not.
 #[unsafe(no_mangle)]
 pub extern "C" fn falgnust_text_words(bytes: &[u8], starts: &[u64], words: &mut [u64]) -> bool
     ensures { Fills (text_whole 0 0 bytes.now) (text_words 0 0 bytes.now) starts.now
@@ -61,6 +66,7 @@ pub extern "C" fn falgnust_text_words(bytes: &[u8], starts: &[u64], words: &mut 
 
 // Of a path of a block 4 words and one for each of its components: event, site, root, how many components; kind, first and second number from the
 // lowest bits on, 2, 32 and 16 of them. As many paths as are there and fit, from the first on: how many, and zeros past their words.
+// Kept (1a): callers in C read how many paths fit, and 0 for none.
 #[unsafe(no_mangle)]
 pub extern "C" fn falgnust_path_words(
     code: &[u8],

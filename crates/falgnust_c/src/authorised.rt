@@ -7,6 +7,7 @@ ghost use Rattle.falgnust.specs.EntryMaps.{flat_authorised};
 
 use falgnust::authorised::Authorised;
 
+// Kept (2a): only a static library exports C functions, and no crate can stand on one (D128): so each function of falgnust has one here that calls it.
 #[unsafe(no_mangle)]
 pub extern "C" fn falgnust_authorised(
     bytes: &[u8],

@@ -21,6 +21,7 @@ pub extern "C" fn falgnust_read_path(code: &[u8], at: usize, header_rev: u16) ->
     falgnust::record::falgnust_read_path(code, at, header_rev)
 }
 
+// Kept (1a): C gives the kind as the byte of the format.
 #[unsafe(no_mangle)]
 pub extern "C" fn falgnust_read_component(
     code: &[u8],

@@ -56,6 +56,7 @@ pub extern "C" fn falgnust_witness_number_by_rules(
 }
 
 // The witness at a place of a payload of this schema. A schema other than 2 means spans whose ends have 4 bytes.
+// Kept (1a): C gives the schema as its number.
 #[unsafe(no_mangle)]
 pub extern "C" fn falgnust_read_witness(payload: &[u8], schema: u16, at: usize) -> Witness
     ensures { result ≡ flat_witness (witness_beside (record_at (witness_of (span_width schema)) placed_witness payload.now at)) }
@@ -64,6 +65,7 @@ pub extern "C" fn falgnust_read_witness(payload: &[u8], schema: u16, at: usize) 
 }
 
 // Where the witness with a number starts in the payload, of `len` bytes, of an accepted section with this schema and these counts.
+// Kept (1a): C gives the schema as its number.
 #[unsafe(no_mangle)]
 pub extern "C" fn falgnust_witness_place(
     len: usize,

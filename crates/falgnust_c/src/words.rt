@@ -28,6 +28,7 @@ pub extern "C" fn falgnust_proof_words(payload: &[u8], starts: &[u64], words: &m
 
 // Of a witness 7 words: number, proposition, polarity, the place of its first digest, where its span starts and ends, the place of its second
 // digest. A schema other than 2 means spans whose ends have 4 bytes.
+// Kept (1a): C gives the schema as its number.
 #[unsafe(no_mangle)]
 pub extern "C" fn falgnust_witness_words(
     payload: &[u8],

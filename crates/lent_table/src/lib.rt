@@ -24,6 +24,7 @@ impl Zero for u64 {
 }
 
 // Zeros in the whole table, by a loop alone: less code where a reader is to be compiled into its caller.
+// Kept (4d): `fill` asks that an entry's `clone` cannot fail, which the trait would have to promise as a law of its own.
 pub fn clear_many<T: Zero>(table: &mut [T])
     ensures { table.new ≡ lent_by T.ZERO (length table.old) [] }
 {
@@ -32,8 +33,8 @@ pub fn clear_many<T: Zero>(table: &mut [T])
     }
 }
 
-// Zeros in the whole table. At most four entries are cleared by four steps, which are compiled without a loop: it would become a call of
-// memset, which costs more where a section or a block is small.
+// Zeros in the whole table. At most four entries are cleared by four steps, which are compiled without a loop.
+// Kept (4b, 7b): a loop alone is compiled to a call of memset, a seventh of all instructions where a small section is refused early.
 pub fn clear<T: Zero>(table: &mut [T])
     ensures { table.new ≡ lent_by T.ZERO (length table.old) [] }
 {

@@ -1,5 +1,5 @@
 -- Laws of a field, over its width.
-use mathlib.Core.Path.{◌≡◌, refl, ap, sym}
+use mathlib.Core.Path.{◌≡◌, refl}
 use Prim.Native.Nat.{ℕ, zero, suc, ◌+◌, ◌-◌, ◌*◌, ◌^◌, ◌≤◌, ◌<◌}
 use native.Mathlib.Omega.{arith}
 use native.Mathlib.Nat.{add_assoc, pow-succ'}
@@ -9,10 +9,9 @@ use lib.Dec.{leb}
 use lib.ListN.{length, get_or, take, drop, length-take}
 use lib.Seq.{get_or-drop, get_or-take}
 use borrow.Author.Tests.{le-leb, lt-leb, leb-true, leb-false}
-use Rattle.local_format.specs.Refusal.{Refusal, refusal}
-use Rattle.local_format.specs.Out.{Out, ok, refused, refuse}
-use Rattle.local_format.specs.Field.{Field, whole, cut, Got, le, field_at, or_cut, field}
-use Rattle.local_format.proofs.OutLaws.{told, never, refused_same}
+use Rattle.local_format.specs.Out.{Out, ok, refuse}
+use Rattle.local_format.specs.Field.{whole, cut, Got, le, field_at, or_cut, field}
+use Rattle.local_format.proofs.OutLaws.{never}
 
 -- ---- A reader's answer
 module _ (width : ℕ) (s : List ℕ) (at : ℕ) where
@@ -43,11 +42,6 @@ module _ (s : List ℕ) (at : ℕ) where
   le_8 = simp add_assoc (omega arith)
 
 -- ---- What an answer says
--- a caller's `let else`: from what the reader ensures and the variant that was found
-pub field_told : {R : Type 0} (out : R → Field) {r x : R} {f : Field} (number at : ℕ)
-    → out r ≡ f → r ≡ x → or_cut number at f ≡ or_cut number at (out x)
-field_told out number at e h = ap (or_cut number at) (told out e h)
-
 module _ (number width : ℕ) (s : List ℕ) (at : ℕ) where
   -- whatever holds of a field that is there and of one that is cut
   by_end : (P : Out Got → Type 0) → (at + width ≤ length s → P (ok (record { value = le width s at; next = at + width })))
@@ -64,11 +58,6 @@ module _ (number width : ℕ) (s : List ℕ) (at : ℕ) where
   field_ok {g} =
       by_end (λ x. x ≡ ok g → (g.next ≡ at + width) × (at + width ≤ length s) × (g.value ≡ le width s at)) (λ h k. (cc, h, cc))
       (λ h k. absurd (never k))
-
-  pub field_refused : {r : Refusal} → field number width s at ≡ refused r → (r ≡ refusal number at) × (length s < at + width)
-  field_refused {r} =
-      by_end (λ x. x ≡ refused r → (r ≡ refusal number at) × (length s < at + width)) (λ h k. absurd (never (sym k)))
-      (λ h k. (sym (refused_same k), h))
 
 -- a field that is there
 pub field_there : (number width : ℕ) (s : List ℕ) (at : ℕ) → at + width ≤ length s

@@ -1,18 +1,24 @@
 -- Laws of comparing byte strings.
 use mathlib.Core.Path.{◌≡◌, refl, ap, ap₂, sym, ◌∙◌}
-use Prim.Native.Nat.{ℕ, zero, suc, ◌+◌, ◌*◌, ◌≤◌, ◌<◌}
+use Prim.Native.Nat.{ℕ, suc, ◌+◌, ◌≤◌, ◌<◌}
 use native.Mathlib.Omega.{arith}
-use native.Mathlib.Numerals.{add-one}
 use mathlib.Core.List.{List, [], ◌∷◌}
 use mathlib.Core.Bool.{Bool, true, false, ◌&&◌, and-false}
 use lib.Dec.{eqb, leb}
-use borrow.Author.Tests.{eq-eqb, ne_eqb, eqb-true, eqb-false, le-leb, lt-leb, leb-true}
-use lib.ListN.{length, get_or, take, drop}
-use lib.Seq.{drop-cons}
+use borrow.Author.Tests.{eq-eqb, ne_eqb, eqb-true, eqb-false, le-leb, lt-leb, leb-true, leb-false}
+use lib.ListN.{length, take, drop, length-take, length-drop}
 use lib.Pointwise.{pointwise}
-use Rattle.local_format.specs.Field.{le}
+use lib.Seq.{take_all}
+use Rattle.std.specs.List.{starts_with}
 use Rattle.local_format.specs.Tag.{equal, tag_at}
 use Rattle.utf8.proofs.BoolLaws.{both}
+
+eqb_sym : (x y : ℕ) → eqb x y ≡ eqb y x
+eqb_sym x y = go (eqb y x) refl
+  where
+    go : (t : Bool) → eqb y x ≡ t → eqb x y ≡ t
+    go true e = eq-eqb x y (sym (eqb-true y x e))
+    go false e = ne_eqb x y (λ z. eqb-false y x e (sym z))
 
 pub unequal : (a b : List ℕ) → (length a ≡ length b → ⊥) → false ≡ equal a b
 unfolding equal
@@ -34,6 +40,13 @@ equal_is (x ∷ xs) (y ∷ ys) h = go (eqb x y) refl (equal_is xs ys) h
     go true e ih k = ap₂ (λ (z : ℕ) (zs : List ℕ). z ∷ zs) (eqb-true x y e) (ih k)
     go false e ih k = let z : x ∷ xs ≡ y ∷ ys = cc in z
 
+equal_sym : (a b : List ℕ) → equal a b ≡ equal b a
+unfolding equal
+equal_sym [] [] = refl
+equal_sym [] (y ∷ ys) = refl
+equal_sym (x ∷ xs) [] = refl
+equal_sym (x ∷ xs) (y ∷ ys) = ap₂ (λ (t u : Bool). t && u) (eqb_sym x y) (equal_sym xs ys)
+
 -- what `==` answers of two slices
 pub equal_pointwise : (a b : List ℕ) → pointwise eqb a b ≡ equal a b
 unfolding equal
@@ -42,43 +55,29 @@ equal_pointwise [] (y ∷ ys) = refl
 equal_pointwise (x ∷ xs) [] = refl
 equal_pointwise (x ∷ xs) (y ∷ ys) = ap (λ (t : Bool). eqb x y && t) (equal_pointwise xs ys)
 
-module _ (a b : List ℕ) (i : ℕ) where
-  pub turn : i < length a → i < length b
-      → equal (drop i a) (drop i b) ≡ (eqb (get_or a i 0) (get_or b i 0) && equal (drop (i + 1) a) (drop (i + 1) b))
-  unfolding equal
-  turn h k = rw (add-one, drop-cons a i 0 h, drop-cons b i 0 k)
-
--- ---- Fields of the same width
--- a byte and the number of those after it
-eqb_byte : (x y p q : ℕ) → x < 256 → y < 256 → eqb (x + 256 * p) (y + 256 * q) ≡ (eqb x y && eqb p q)
-eqb_byte x y p q h k = go (eqb x y) refl (eqb p q) refl
-  where
-    go : (t : Bool) → eqb x y ≡ t → (u : Bool) → eqb p q ≡ u → eqb (x + 256 * p) (y + 256 * q) ≡ (t && u)
-    go true e true f = eq-eqb (x + 256 * p) (y + 256 * q) (omega (arith, eqb-true x y e, eqb-true p q f))
-    go true e false f = ne_eqb (x + 256 * p) (y + 256 * q) (λ z. eqb-false p q f (omega (arith, eqb-true x y e)))
-    go false e u f = ne_eqb (x + 256 * p) (y + 256 * q) (λ z. eqb-false x y e (omega arith))
-
--- two lists of bytes are the same from a place on where a field is, and what follows it
-pub turns : (width : ℕ) (a b : List ℕ) → ((i : ℕ) → get_or a i 0 < 256) → ((i : ℕ) → get_or b i 0 < 256)
-    → (i : ℕ) → i + width ≤ length a → i + width ≤ length b
-    → equal (drop i a) (drop i b) ≡ (eqb (le width a i) (le width b i) && equal (drop (i + width) a) (drop (i + width) b))
-unfolding le
-turns zero a b p q i h k = let e : i + 0 ≡ i = omega arith in rw e
-turns (suc width) a b p q i h k =
-    let e : i + suc width ≡ i + 1 + width = omega arith in
-    rw (e, eqb_byte (get_or a i 0) (get_or b i 0) (le width a (i + 1)) (le width b (i + 1)) (p i) (q i))
-    (turn a b i (omega arith) (omega arith)
-    ∙ ap (λ (t : Bool). eqb (get_or a i 0) (get_or b i 0) && t) (turns width a b p q (i + 1) (omega arith) (omega arith))
-    ∙ sym (and_assoc (eqb (get_or a i 0) (get_or b i 0)) (eqb (le width a (i + 1)) (le width b (i + 1))) _))
-  where
-    and_assoc : (p q r : Bool) → ((p && q) && r) ≡ (p && (q && r))
-    and_assoc true q r = refl
-    and_assoc false q r = refl
+-- what `starts_with` answers of two slices of one length
+pub equal_starts : (a b : List ℕ) → length a ≡ length b → starts_with eqb a b ≡ equal a b
+equal_starts a b h = rw (take_all (length b) a (omega (arith, h))) (equal_pointwise b a ∙ equal_sym b a)
 
 module _ (tag s : List ℕ) (at : ℕ) where
   pub tag_cut : length s < at + length tag → false ≡ tag_at tag s at
   unfolding tag_at
   tag_cut h = simp (lt-leb (at + length tag) (length s) h)
+
+  -- what `starts_with` answers of the bytes from a place on
+  pub tag_starts : at ≤ length s → starts_with eqb (drop at s) tag ≡ tag_at tag s at
+  unfolding tag_at
+  tag_starts h = go (leb (at + length tag) (length s)) refl
+    where
+      front : List ℕ
+      front = take (length tag) (drop at s)
+
+      go : (t : Bool) → leb (at + length tag) (length s) ≡ t → pointwise eqb tag front ≡ (t && equal front tag)
+      go true e = equal_pointwise tag front ∙ equal_sym tag front
+      go false e =
+          let cut = leb-false (at + length tag) (length s) e in
+          let short : length front < length tag = rw (length-take, length-drop) (omega (arith, cut)) in
+          equal_pointwise tag front ∙ sym (unequal tag front (λ k. omega (arith, k, short)))
 
   pub tag_whole : at + length tag ≤ length s → equal (take (length tag) (drop at s)) tag ≡ tag_at tag s at
   unfolding tag_at

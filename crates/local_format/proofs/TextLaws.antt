@@ -1,10 +1,10 @@
 -- Laws of texts at a place: what a reader answers, and where a text that was read, or a refusal, lies.
 use mathlib.Core.Path.{◌≡◌, refl}
-use Prim.Native.Nat.{ℕ, ◌+◌, ◌≤◌, ◌<◌}
+use Prim.Native.Nat.{ℕ, ◌+◌, ◌≤◌}
 use native.Mathlib.Omega.{arith}
 use mathlib.Core.List.{List}
 use mathlib.Core.Bool.{Bool, true, false, cond, not, ◌&&◌}
-use borrow.Author.Tests.{le-leb, lt-leb, leb-true}
+use borrow.Author.Tests.{le-leb, leb-true}
 use lib.Dec.{leb}
 use lib.ListN.{length}
 use Rattle.local_format.specs.Out.{Out, ok, refuse, check, ◌>>=◌, ◌>>◌}
@@ -34,39 +34,9 @@ module _ (s : List ℕ) (at : ℕ) where
   unfolding text_at
   text_no_length e = rw (← e)
 
-  pub string_no_length : cut ≡ field_at 2 s at → refuse 32 at ≡ string_at s at
-  unfolding string_at
-  string_no_length e = rw (← e)
-
   module _ (len start : ℕ) (e : whole (record { value = len; next = start }) ≡ field_at 2 s at) where
-    pub text_empty : len < 1 → refuse 6 start ≡ text_at s at
-    unfolding text_at
-    text_empty h = rw (← e, lt-leb 1 len h)
-
-    pub text_long : 4096 < len → refuse 6 start ≡ text_at s at
-    unfolding text_at
-    text_long h = rw (← e, le-leb 1 len (omega arith), lt-leb len 4096 h)
-
-    pub text_is : 1 ≤ len → len ≤ 4096 → (x : Utf8) → x ≡ utf8_at s start len → text_from start len x ≡ text_at s at
-    unfolding text_at utf8_at field_at
-    text_is p q x u = rw (u, ← e, le-leb 1 len p, le-leb len 4096 q) (go (leb (start + len) (length s)) (decode (bytes_at s start len)))
-      where
-        marked : (c : Bool) (n : ℕ)
-            → text_from start len (scan.whole (text n c) (start + len))
-            ≡ (check (not c) 8 (start + len) >> ok (record { start = start; len = len; chars = n; next = start + len }))
-        marked true n = refl
-        marked false n = refl
-
-        go : (t : Bool) (d : Decoded)
-            → text_from start len (cond t (scan.whole (scan_of d) (start + len)) scan.cut)
-            ≡ (or_cut 5 start (cond t (whole (record { value = le len s start; next = start + len })) cut) >>= λ body.
-            or_ill 7 body.next d >>= λ cs.
-            (check (not (any_control cs)) 8 body.next >> ok (record { start = start; len = len; chars = length cs; next = body.next })))
-        go true (points cs) = marked (any_control cs) (length cs)
-        go true ill = refl
-        go false d = refl
-
-    pub text_goes_on : {done : Unit {0}} → ok done ≡ check (leb 1 len && leb len 4096) 6 start → (x : Utf8) → x ≡ utf8_at s start len → text_from start len x ≡ text_at s at
+    pub text_goes_on : {done : Unit {0}} → ok done ≡ check (leb 1 len && leb len 4096) 6 start
+        → (x : Utf8) → x ≡ utf8_at s start len → text_from start len x ≡ text_at s at
     unfolding text_at utf8_at field_at
     text_goes_on c x u = rw (u, ← e, ← c) (go (leb (start + len) (length s)) (decode (bytes_at s start len)))
       where
@@ -85,22 +55,11 @@ module _ (s : List ℕ) (at : ℕ) where
         go true ill = refl
         go false d = refl
 
-    pub string_long : 1024 < len → refuse 33 start ≡ string_at s at
-    unfolding string_at
-    string_long h = rw (← e, lt-leb len 1024 h)
+    pub text_is : 1 ≤ len → len ≤ 4096 → (x : Utf8) → x ≡ utf8_at s start len → text_from start len x ≡ text_at s at
+    text_is p q = text_goes_on (simp (le-leb 1 len p, le-leb len 4096 q))
 
-    pub string_is : len ≤ 1024 → (x : Utf8) → x ≡ utf8_at s start len → string_from start len x ≡ string_at s at
-    unfolding string_at utf8_at decode_at
-    string_is q x u = rw (u, ← e, le-leb len 1024 q) (go (leb (start + len) (length s)) (decode (bytes_at s start len)))
-      where
-        go : (t : Bool) (d : Decoded)
-            → string_from start len (cond t (scan.whole (scan_of d) (start + len)) scan.cut)
-            ≡ (or_ill 34 start (cond t d ill) >>= λ cs. ok (record { start = start; len = len; chars = length cs; next = start + len }))
-        go true (points cs) = refl
-        go true ill = refl
-        go false d = refl
-
-    pub string_goes_on : {done : Unit {0}} → ok done ≡ check (leb len 1024) 33 start → (x : Utf8) → x ≡ utf8_at s start len → string_from start len x ≡ string_at s at
+    pub string_goes_on : {done : Unit {0}} → ok done ≡ check (leb len 1024) 33 start
+        → (x : Utf8) → x ≡ utf8_at s start len → string_from start len x ≡ string_at s at
     unfolding string_at utf8_at decode_at
     string_goes_on c x u = rw (u, ← e, ← c) (go (leb (start + len) (length s)) (decode (bytes_at s start len)))
       where

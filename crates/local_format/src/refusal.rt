@@ -17,6 +17,7 @@ pub enum Kind {
     Signature,
 }
 
+// Kept (1a): refusals go by document 01's numbers, which callers in C read; a variant for each would say a number's name twice.
 #[derive(Clone, Copy, Debug, PartialEq, Eq)]
 pub struct Refusal {
     pub kind: Kind,
@@ -25,6 +26,7 @@ pub struct Refusal {
 }
 
 // The kind of each number.
+// Kept (4d): a table of document 01, not a value in another type: `Kind::from(61)` would read as if 61 were a kind.
 #[tactic(auto, unfolding(crate::specs::Refusal::kind_of, crate::specs::Refusal::among))]
 pub fn kind_of(number: u8) -> Kind
     ensures { kind_out result ≡ kind_of number }
@@ -85,6 +87,7 @@ pub fn diag_offset(base_offset: usize, cursor: usize) -> usize
 }
 
 // A refusal of a block that lies at a base.
+// Kept (2d): `evr0_tables::part::moved` is `map_err` by this function, for the four callers that hand an answer on by `?`.
 pub fn based(refused: Refusal, base: usize) -> Refusal
     ensures { refusal_out result ≡ at_offset (refusal_out refused) (held base refused.offset) }
 {

@@ -16,6 +16,7 @@ fn same_source(lock: &[u64; 24], key: &[u64; 24]) -> bool
 }
 
 // Both have the same parts up to the shorter. Paths of one record differ in their last part more often than in their first.
+// Kept (6a): a lock is 24 words of the register that C keeps, so its parts stand in the last 16 of them.
 fn parts_touch(lock: &[u64; 24], key: &[u64; 24]) -> bool
     ensures { result ≡ either_begins lock.now key.now }
 {
@@ -28,6 +29,7 @@ fn parts_touch(lock: &[u64; 24], key: &[u64; 24]) -> bool
 }
 
 // Symbol and parts first: they tell most locks apart, and stand in few lines of memory.
+// Kept (6a): the same 24 words.
 fn meets(lock: &[u64; 24], key: &[u64; 24]) -> bool
     ensures { result ≡ hinders same_root (lock_in lock.now) (lock_in key.now) }
 {

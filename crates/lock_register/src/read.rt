@@ -8,7 +8,7 @@ ghost use Rattle.lock_register.specs.Maps.{head_is};
 
 use local_format::refusal::{Refusal, refuse};
 pub use lock_words::words::held;
-use lock_words::words::{Part, held_locks, part_in, parts};
+use lock_words::words::{Part, held_locks, parts};
 
 #[derive(Clone, Copy, Debug, PartialEq, Eq)]
 pub struct Lock {
@@ -45,5 +45,5 @@ pub fn lock_part(register: &[u64; 6145], number: usize, part: usize) -> Result<P
     if parts(lock[3]) <= part {
         return Err(refuse(62, 0));
     }
-    Ok(part_in(lock[8 + part]))
+    Ok(Part::from(lock[8 + part]))
 }

@@ -5,6 +5,7 @@ use lock_words::place::copy_lock;
 use lock_words::words::held;
 
 // Drops what an owner holds, and answers how many locks are held afterwards: each lock that stays goes down to its place.
+// Kept (6a): the register is an array of words that C keeps, where `retain` is a method of Vec, on the heap: locks go down by `copy_within`.
 pub fn release(register: &mut [u64; 6145], owner: u32) -> usize
     ensures { Releases owner register.old register.new result }
 {

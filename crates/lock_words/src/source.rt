@@ -5,6 +5,7 @@ ghost use Rattle.lock_words.specs.Maps.{source_is};
 use local_format::field::LittleEndian;
 
 // The four words of 32 bytes: eight bytes to a word, lowest first.
+// Kept (4d): `source.as_chunks::<8>()` and `u64::from_le_bytes` of each of four is no shorter; `le_at` is the repository's name for both.
 pub fn source_words(source: &[u8; 32]) -> [u64; 4]
     ensures { source_is result ≡ source.now }
 {
@@ -17,6 +18,7 @@ pub fn source_words(source: &[u8; 32]) -> [u64; 4]
 }
 
 // The 32 bytes of four words.
+// Kept (4d): `source.map(u64::to_le_bytes).as_flattened()` lends a slice, of which 32 bytes by value would still be a copy.
 pub fn source_bytes(source: [u64; 4]) -> [u8; 32]
     ensures { result ≡ source_is source }
 {

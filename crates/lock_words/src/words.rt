@@ -9,7 +9,7 @@ use semcode_records::component::DecodedAccessPathComponent;
 
 // ---- A part
 
-// C takes the kind as a byte, so it stays a number.
+// Kept (1a, 2d): a register that C keeps may hold any words, so numbers that no DecodedAccessPathComponent has; C's layout is falgnust's Parts.
 #[derive(Clone, Copy, Debug, PartialEq, Eq)]
 pub struct Part {
     pub kind: u8,
@@ -27,6 +27,7 @@ fn packed(kind: u64, first: u32, second: u16) -> u64
 }
 
 // The word of a path's component.
+// Kept (2d, 4d): a `From` in semcode_records could promise path_words' word alone; this part of it would then take a lemma over the four kinds here.
 pub fn component_word(component: DecodedAccessPathComponent) -> u64
     ensures { part_in result ≡ part_of (component_is component) }
 {
@@ -39,14 +40,17 @@ pub fn component_word(component: DecodedAccessPathComponent) -> u64
 }
 
 // The part of a word.
-#[tactic(auto, unfolding(crate::specs::Words::part_in))]
-pub fn part_in(word: u64) -> Part
-    ensures { part_is result ≡ part_in word }
-{
-    Part {
-        kind: (word % 4) as u8,
-        first: (word / 4 % 4294967296) as u32,
-        second: (word / 17179869184 % 65536) as u16,
+impl From<u64> for Part {
+    ghost from_gives = { λ word p. part_is p ≡ part_in word };
+
+    // Kept (6a): a part has one word of the register, whose layout C sees.
+    #[tactic(auto, unfolding(crate::specs::Words::part_in))]
+    fn from(word: u64) -> Part {
+        Part {
+            kind: (word % 4) as u8,
+            first: (word / 4 % 4294967296) as u32,
+            second: (word / 17179869184 % 65536) as u16,
+        }
     }
 }
 

@@ -10,48 +10,47 @@ use lib.ListN.{length, get_or, set, take, drop, length-set, length-drop}
 use lib.Seq.{drop-set-add, take-suc-set, take-set-le, get_or-take}
 use package.borrow.Author.Tests.{leb-true, not-false}
 use Rattle.local_format.specs.Refusal.{Refusal}
-use Rattle.local_format.specs.Out.{Out, ok, refused, ◌>>=◌}
+use Rattle.local_format.specs.Out.{Out, ok, refused}
 use Rattle.local_format.proofs.OutLaws.{never, ok_same, bind_ok}
 use Rattle.semcode_records.specs.Records.{Taken, taken, Table, no_records, before, records}
 use Rattle.semcode_records.specs.Component.{Component, component_at}
-use Rattle.semcode_records.specs.Path.{Event, borrow, write, Kinded, event_of, or_unknown, kind_of_event, Path, path_at}
+use Rattle.semcode_records.specs.Path as of_path
+use Rattle.semcode_records.specs.Path.{Event, borrow, write, or_unknown, kind_of_event, front_at, Path, path_at}
+use Rattle.semcode_records.specs.Maps.{front_is}
+use Rattle.semcode_records.specs.declared.path.Front as path
 use Rattle.semcode_records.proofs.RecordsLaws.{none_left_lem, first_refused_lem, first_read, as_many}
-use Rattle.semcode_records.proofs.PathLaws.{kind_read, is_known, path_components}
+use Rattle.semcode_records.proofs.PathLaws.{front_kind, is_known, path_components}
 use Rattle.lock_rules.specs.Lock.{Part, Lock, is_write, part_of}
 use Rattle.lock_rules.proofs.ListLaws.{map_append}
 use Rattle.lock_rules.specs.Source.{Root, root_under}
 use Rattle.lock_words.specs.Words.{part_in, parts_in, source_of, source_in, root_in, lock_in}
-use Rattle.locks.specs.Phase.{Front, front_of, FrontOf, parts_of, Filled, KeyOf}
-use Rattle.std.specs.Prelude.{Some, None}
-use Rattle.std.proofs.lemmas.Option.{same_Some, none-some}
+use Rattle.locks.specs.Phase.{Front, FrontOf, parts_of, Filled, KeyOf}
 
 -- ---- What stands in front of the components
 
--- what is left of a path after the count of its components
-abbrev after_count : ℕ → List ℕ → ℕ → Kinded → ℕ → ℕ → ℕ → Out (Taken Path)
-after_count revision s kind kinded root count start = do
-  components ← records (component_at revision kind s) count start
-  event ← or_unknown 60 components.end kinded
-  taken (record { event = event; root = root; components = components }) components.end
+-- of the front that was read, what a lock is made of
+abbrev pub front_in : path.Front → Front
+front_in f = record { kind = f.kind; root = f.root_symbol_id; count = f.component_count; start = f.components_start }
 
-pub front_is : (revision : ℕ) (s : List ℕ) (kind mode : ℕ) (kinded : Kinded) (root-at root count start : ℕ)
-    → event_of kind revision s mode ≡ taken kinded root-at
-    → FrontOf (after_count revision s kind kinded root count start) (record { kind = kind; root = root; count = count; start = start })
-front_is revision s kind mode kinded root-at root count start e t h =
-    let read = component_at revision kind s in
-    let c = bind_ok (records read count start) _ h in
-    let x = bind_ok (or_unknown 60 c.0.end kinded) _ c.2 in
-    let many = as_many read count start c.1 in
-    let k = kind_read kind revision s mode x.0 e (is_known 60 c.0.end kinded x.1) in
-    rw (← ok_same x.2, many.0, many.1, ← k)
+module _ (revision : ℕ) (s : List ℕ) (at : ℕ) where
+  -- where it is read, a path that is read there has it
+  pub found : (f : path.Front) → ok (front_is f) ≡ front_at revision s at → FrontOf (path_at revision s at) (front_in f)
+  unfolding path_at
+  found f e t h =
+      let a = bind_ok (front_at revision s at) _ h in
+      let read = component_at revision a.0.kind s in
+      let c = bind_ok (records read a.0.count a.0.start) _ a.2 in
+      let x = bind_ok (or_unknown 60 c.0.end a.0.kinded) _ c.2 in
+      let many = as_many read a.0.count a.0.start c.1 in
+      let k = front_kind revision s at x.0 a.1 (is_known 60 c.0.end a.0.kinded x.1) in
+      let same : front_is f ≡ a.0 = ok_same (e ∙ a.1) in
+      rw (← ok_same x.2, many.0, many.1, ← k)
+      (ap (λ (f : of_path.Front). record { kind = f.kind; root = f.root; count = f.count; start = f.start }) same)
 
--- what is found in front of a path's components is what stands there
-pub found : (read : Out (Taken Path)) (f : Front) → ((t : Taken Path) → read ≡ ok t → Some f ≡ Some (front_of t.value)) → FrontOf read f
-found read f e t h = same_Some _ _ (e t h)
-
--- where nothing is found, no path is read
-pub not_found : {read : Out (Taken Path)} → ((t : Taken Path) → read ≡ ok t → None ≡ Some (front_of t.value)) → (t : Taken Path) → read ≡ ok t → ⊥
-not_found e t h = none-some (front_of t.value) (e t h)
+  -- where it is refused, no path is read there
+  pub not_found : {r : Refusal} → refused r ≡ front_at revision s at → (t : Taken Path) → path_at revision s at ≡ ok t → ⊥
+  unfolding path_at
+  not_found e t h = let a = bind_ok (front_at revision s at) _ h in never (e ∙ a.1)
 
 -- ---- The words of the components
 
@@ -151,8 +150,8 @@ pub record Begun (key : List ℕ) (a b c d owner : ℕ) (f : Front) : Type 0 whe
   pub is_c : get_or key 6 0 ≡ c
   pub is_d : get_or key 7 0 ≡ d
 
-front_at : (key after : List ℕ) → take 8 after ≡ take 8 key → (j : ℕ) → j < 8 → get_or after j 0 ≡ get_or key j 0
-front_at key after e j h =
+front_word : (key after : List ℕ) → take 8 after ≡ take 8 key → (j : ℕ) → j < 8 → get_or after j 0 ≡ get_or key j 0
+front_word key after e j h =
     sym (get_or-take 8 after j 0 h) ∙ ap (λ (l : List ℕ). get_or l j 0) e ∙ get_or-take 8 key j 0 h
 
 module _ (revision : ℕ) (s : List ℕ) (at : ℕ) (f : Front) (is : FrontOf (path_at revision s at) f) (owner : ℕ) (small : owner < 4294967296)
@@ -169,7 +168,7 @@ module _ (revision : ℕ) (s : List ℕ) (at : ℕ) (f : Front) (is : FrontOf (p
       let start : f.start ≡ t.value.components.start = ap (λ (f : Front). f.start) g in
       let all_read : records (component_at revision f.kind s) n f.start ≡ ok t.value.components =
       rw (k, m, start) (path_components revision s at e) in
-      let at_front = front_at key after x.front in
+      let at_front = front_word key after x.front in
       lock_is
       (ap (λ (w : ℕ). w % 4294967296) (at_front 0 (omega arith) ∙ begun.is_owner) ∙ under small)
       (ap (λ (w : ℕ). not (eqb w 0)) (at_front 1 (omega arith) ∙ begun.is_kind ∙ k) ∙ writes t.value.event)

@@ -1,4 +1,3 @@
 pub mod Claim
 pub mod Call
 pub mod Phase
-pub mod Maps

@@ -7,7 +7,7 @@ ghost use Rattle.lock_words.specs.Maps.{source_is};
 ghost use Rattle.locks.specs.Claim.{Claims};
 ghost use Rattle.locks.specs.Phase.{LongAnswer, MetAnswer, Stored, TriedPaths};
 
-use crate::key::{path_key, read_front};
+use crate::key::path_key;
 use lent_table::clear;
 use local_format::refusal::{Refusal, refuse};
 use lock_register::meet::{hindered, symbol_held};
@@ -15,6 +15,7 @@ use lock_words::place::put_lock;
 use lock_words::source::source_words;
 use lock_words::words::held;
 use semcode_decode::decode::{ANY_SYMBOLS, parse_block};
+use semcode_records::path::read_front;
 
 // The paths that stand at these starts in a block, claimed by an owner under a source set.
 #[derive(Clone, Copy)]
@@ -32,8 +33,8 @@ impl<'a> PathClaim<'a> {
         ensures { LongAnswer self.now.header_rev self.now.code.now self.now.starts.now (length self.now.starts.now) result }
     {
         for start in self.starts {
-            if let Some(path) = read_front(self.code, *start as usize, self.header_rev) {
-                if 16 < path.count {
+            if let Ok(path) = read_front(self.code, *start as usize, self.header_rev) {
+                if 16 < path.component_count {
                     return true;
                 }
             }
@@ -48,8 +49,8 @@ impl<'a> PathClaim<'a> {
     {
         for start in self.starts {
             let at = *start as usize;
-            if let Some(path) = read_front(self.code, at, self.header_rev) {
-                if symbol_held(register, path.root) {
+            if let Ok(path) = read_front(self.code, at, self.header_rev) {
+                if symbol_held(register, path.root_symbol_id) {
                     let key = path_key(self.code, at, self.header_rev, self.source, self.owner);
                     if hindered(register, &key) {
                         return true;
@@ -61,13 +62,14 @@ impl<'a> PathClaim<'a> {
     }
 
     // A lock for each path, behind those that are held, and then the number of all.
+    // Kept (6a): the register is a table of words that C keeps, and its first word is how many locks are held.
     fn store(&self, register: &mut [u64; 6145])
         requires { held_in register.old + length self.now.starts.now ≤ 256 }
         ensures { Stored self.now.header_rev self.now.code.now self.now.starts.now (length self.now.starts.now)
             (source_is self.now.source) self.now.owner register.old register.new }
     {
-        let mut to = held(register);
-        for start in self.starts {
+        let before = held(register);
+        for (i, start) in self.starts.iter().enumerate() {
             let key = path_key(
                 self.code,
                 *start as usize,
@@ -75,10 +77,9 @@ impl<'a> PathClaim<'a> {
                 self.source,
                 self.owner,
             );
-            put_lock(register, to, &key);
-            to += 1;
+            put_lock(register, before + i, &key);
         }
-        register[0] = to as u64;
+        register[0] = (before + self.starts.len()) as u64;
     }
 
     // Paths that have been read: 66, 67, 68 in this order, and then a lock for each. It answers how many locks are held afterwards.
@@ -103,6 +104,8 @@ impl<'a> PathClaim<'a> {
 
 // An owner claims all paths of a block, or none, under a source set, and is told how many locks are held afterwards. Starts and families go to the
 // lent tables; after any refusal these are zeros.
+// Kept (5d): eight functions that falgnust calls get the three apart from C: each caller would make the struct, and a reader takes it apart for one table.
+// Kept (5a): base, code and revision are the Rust's own parameters in front of them, in the order of C.
 pub fn claim(
     register: &mut [u64; 6145],
     owner: u32,

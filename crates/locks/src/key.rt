@@ -3,72 +3,16 @@ ghost use Rattle.std.specs.Prelude.{◌≤◌};
 ghost use Rattle.semcode_records.specs.Component.{component_at};
 ghost use Rattle.semcode_records.specs.Path.{path_at};
 ghost use Rattle.locks.specs.Phase.{Filled, KeyOf};
-ghost use Rattle.locks.specs.Maps.{Fronts};
 ghost use Rattle.lock_words.specs.Maps.{source_is};
 
-use local_format::field::{Field, field_at};
+use local_format::field::Field;
 use lock_words::words::{component_word, parts};
 use semcode_records::component::read_component;
-use semcode_records::path::after_event_kind;
-
-// What stands in front of a path's components: the byte of its event's kind, its root, how many components it has, and where they start.
-#[derive(Clone, Copy, Debug, PartialEq, Eq)]
-pub(crate) struct Front {
-    pub kind: u8,
-    pub root: u32,
-    pub count: u16,
-    pub start: usize,
-}
-
-// Of a path that stands at this place; the components are not read. The reader of paths keeps its own to itself, so that it is compiled into it.
-pub(crate) fn read_front(code: &[u8], at: usize, header_rev: u16) -> Option<Front>
-    ensures { Fronts (path_at header_rev code.now at) result }
-{
-    let Some(
-        Field {
-            value: kind,
-            next: mode_at,
-        },
-    ) = field_at::<u8>(code, at)
-    else {
-        return None;
-    };
-    let Ok(
-        Field {
-            value: _,
-            next: root_at,
-        },
-    ) = after_event_kind(kind, code, mode_at, header_rev)
-    else {
-        return None;
-    };
-    let Some(
-        Field {
-            value: root,
-            next: count_at,
-        },
-    ) = field_at::<u32>(code, root_at)
-    else {
-        return None;
-    };
-    let Some(
-        Field {
-            value: count,
-            next: start,
-        },
-    ) = field_at::<u16>(code, count_at)
-    else {
-        return None;
-    };
-    Some(Front {
-        kind,
-        root,
-        count,
-        start,
-    })
-}
+use semcode_records::path::read_front;
 
 // The words of so many components.
+// Kept (1a, 6a): the kind is the path's byte, handed on to the reader of a component; the key has the 24 words of a lock, as C keeps it.
+// Kept (5d): `read_component` takes the four apart; a struct of them would be made in each of these functions for that one call.
 fn fill_parts(code: &[u8], at: usize, header_rev: u16, kind: u8, n: usize, key: &mut [u64; 24])
     requires { n ≤ 16 }
     ensures { Filled (component_at header_rev kind code.now) n at key.old key.new }
@@ -83,6 +27,9 @@ fn fill_parts(code: &[u8], at: usize, header_rev: u16, kind: u8, n: usize, key: 
     }
 }
 
+// Kept (1d): zeros where the front is refused: both callers have starts of a block that was read, and would take an Option apart for nothing.
+// Kept (4c): by `key[4..8].copy_from_slice(&source)` the search found no proof that these four words of the key are those of the source.
+// Kept (6a): a lock is 24 words of the register that C keeps.
 pub(crate) fn path_key(
     code: &[u8],
     at: usize,
@@ -93,13 +40,13 @@ pub(crate) fn path_key(
     ensures { KeyOf (path_at header_rev code.now at) (source_is source) owner result }
 {
     let mut key = [0; 24];
-    let Some(path) = read_front(code, at, header_rev) else {
+    let Ok(path) = read_front(code, at, header_rev) else {
         return key;
     };
-    let count = path.count as u64;
+    let count = path.component_count as u64;
     key[0] = owner as u64;
     key[1] = path.kind as u64;
-    key[2] = path.root as u64;
+    key[2] = path.root_symbol_id as u64;
     key[3] = count;
     key[4] = source[0];
     key[5] = source[1];
@@ -107,7 +54,7 @@ pub(crate) fn path_key(
     key[7] = source[3];
     fill_parts(
         code,
-        path.start,
+        path.components_start,
         header_rev,
         path.kind,
         parts(count),

@@ -1,7 +1,7 @@
 // The fields of paths and of their components as words of a lent table, for whoever copies all paths of a block that was decoded.
 #![tactic(auto)]
 
-ghost use Rattle.std.specs.Prelude.{◌≡◌, ℕ, Some, unwrap_or, [], ◌∷◌, ◌+◌, ◌-◌, ◌*◌, ◌%◌, ◌^◌, ◌≤◌, ◌<◌, length};
+ghost use Rattle.std.specs.Prelude.{◌≡◌, ℕ, Some, is_some, unwrap_or, [], ◌∷◌, ◌+◌, ◌-◌, ◌*◌, ◌%◌, ◌^◌, ◌≤◌, ◌<◌, length};
 ghost use Rattle.semcode_records.specs.Component.{component_at};
 ghost use Rattle.semcode_records.specs.Maps.{component_is, event_is};
 ghost use Rattle.record_words.specs.Words.{Puts};
@@ -21,6 +21,7 @@ use semcode_records::path::{
 
 // ---- A component
 
+// Kept (4d): as a `From` it would stand in semcode_records, which knows no words; lock_words has a function of its own, with another promise.
 fn component_word(component: DecodedAccessPathComponent) -> u64
     ensures { result ≡ component_word (component_is component) }
 {
@@ -35,6 +36,7 @@ fn component_word(component: DecodedAccessPathComponent) -> u64
 }
 
 // A component's word and the place after it, where it is there.
+// Kept (1a): the byte of the path's event, which may be of no known kind.
 fn slow_step(code: &[u8], at: usize, header_rev: u16, kind: u8) -> Option<Field<u64>>
     ensures { step_is result ≡ step_of (component_at header_rev kind code.now at) }
 {
@@ -53,6 +55,7 @@ fn power(bits: usize) -> u64
 }
 
 // The word of a component of so many bytes, whose kind and whose next 6 bytes these are.
+// Kept (1d): the kind's byte is the lowest bits of the word, so an enum of it would be made and turned back.
 fn sized_word(component_kind: u8, first: u32, second: u16, size: usize) -> u64
     requires { (1 ≤ size) × (size ≤ 7) }
     ensures { result ≡ component_kind + 4 * ((first + 4294967296 * second) % (2 ^ (8 * (size - 1)))) }
@@ -85,7 +88,8 @@ fn read_step(code: &[u8], at: usize, header_rev: u16, kind: u8) -> Option<Field<
     })
 }
 
-// So many components from a place on, to the words from `to` on: whether all are there, and nothing else.
+// So many components from a place on, to the words from `to` on; none where not all are there.
+// Kept (6d): cut out by the caller, two parameters go, and what stands before and past the slice is to be said there, of a table that `?` leaves half filled.
 fn put_components(
     code: &[u8],
     at: usize,
@@ -94,50 +98,47 @@ fn put_components(
     kind: u8,
     words: &mut [u64],
     to: usize,
-) -> bool
+) -> Option<()>
     requires { to + count ≤ length words.old }
-    ensures { PutsComponents (component_at header_rev kind code.now) count at to words.old words.new result }
+    ensures { PutsComponents (component_at header_rev kind code.now) count at to words.old words.new (is_some result) }
 {
     let mut cursor = at;
     for i in 0..count {
-        let Some(Field { value, next }) = read_step(code, cursor, header_rev, kind) else {
-            return false;
-        };
+        let Field { value, next } = read_step(code, cursor, header_rev, kind)?;
         words[to + i] = value;
         cursor = next;
     }
-    true
+    Some(())
 }
 
 // ---- A path
 
 // An event's number and its site.
+// Kept (1a): the number of `FalgnustEvent`, which C reads.
 #[derive(Clone, Copy)]
 struct Numbered {
     event: u8,
     site: u32,
 }
 
-fn event_numbered(event: DecodedEvent) -> Numbered
-    ensures { numbered_is result ≡ numbered (event_is event) }
-{
-    match event {
-        DecodedEvent::Borrow(DecodedBorrowActivation::None) => Numbered { event: 0, site: 0 },
-        DecodedEvent::Borrow(DecodedBorrowActivation::FrameEntry) => Numbered { event: 1, site: 0 },
-        DecodedEvent::Borrow(DecodedBorrowActivation::StoreVarSite(site)) => {
-            Numbered { event: 2, site }
-        }
-        DecodedEvent::Write(DecodedWriteExecution::None) => Numbered { event: 3, site: 0 },
-        DecodedEvent::Write(DecodedWriteExecution::StoreVarSite(site)) => {
-            Numbered { event: 4, site }
-        }
-        DecodedEvent::Write(DecodedWriteExecution::MakeRecordSite(site)) => {
-            Numbered { event: 5, site }
-        }
+impl From<DecodedEvent> for Numbered {
+    ghost from_gives = { λ event n. numbered_is n ≡ numbered (event_is event) };
+
+    fn from(event: DecodedEvent) -> Numbered {
+        let (event, site) = match event {
+            DecodedEvent::Borrow(DecodedBorrowActivation::None) => (0, 0),
+            DecodedEvent::Borrow(DecodedBorrowActivation::FrameEntry) => (1, 0),
+            DecodedEvent::Borrow(DecodedBorrowActivation::StoreVarSite(site)) => (2, site),
+            DecodedEvent::Write(DecodedWriteExecution::None) => (3, 0),
+            DecodedEvent::Write(DecodedWriteExecution::StoreVarSite(site)) => (4, site),
+            DecodedEvent::Write(DecodedWriteExecution::MakeRecordSite(site)) => (5, site),
+        };
+        Numbered { event, site }
     }
 }
 
 // Four words.
+// Kept (6d): called as `words[to..to + 4].copy_from_slice(&[..])` it is one line, but four casts; as a function it promises `Puts`, as put_components does.
 fn put_four(words: &mut [u64], to: usize, a: u8, b: u32, c: u32, d: u16)
     requires { to + 4 ≤ length words.old }
     ensures { Puts (a ∷ b ∷ c ∷ d ∷ []) to words.old words.new }
@@ -157,6 +158,7 @@ struct Opening {
 }
 
 // None where the path is refused.
+// Kept (2d): `semcode_records::path::read_front` reads the front alone, this asks the whole path by `read_path`: the answers are alike, no step is.
 fn slow_opening(code: &[u8], at: usize, header_rev: u16) -> Option<Opening>
     ensures { path_words header_rev code.now at ≡ opening_words (λ kind. component_at header_rev kind code.now) (opening_is result) }
 {
@@ -170,7 +172,7 @@ fn slow_opening(code: &[u8], at: usize, header_rev: u16) -> Option<Opening>
         return None;
     };
     let event = path.event;
-    let number = event_numbered(event);
+    let number = Numbered::from(event);
     Some(Opening {
         kind: event_kind(event),
         event: number.event,
@@ -214,6 +216,7 @@ fn read_opening(code: &[u8], at: usize, header_rev: u16) -> Option<Opening>
 }
 
 // The path at a place, to the words from `to` on: how many; none where it is refused or does not fit.
+// Kept (6d): how many words it takes is known only behind its front, so the caller can cut no slice for it.
 fn put_path(code: &[u8], at: usize, header_rev: u16, words: &mut [u64], to: usize) -> Option<usize>
     requires { to ≤ length words.old }
     ensures puts { PutsOne (path_words header_rev code.now at) to words.old words.new (unwrap_or result 0) }
@@ -232,7 +235,7 @@ fn put_path(code: &[u8], at: usize, header_rev: u16, words: &mut [u64], to: usiz
         opening.root,
         opening.count,
     );
-    let whole = put_components(
+    put_components(
         code,
         opening.start,
         count,
@@ -240,18 +243,19 @@ fn put_path(code: &[u8], at: usize, header_rev: u16, words: &mut [u64], to: usiz
         opening.kind,
         words,
         to + 4,
-    );
-    if whole { Some(4 + count) } else { None }
+    )?;
+    Some(4 + count)
 }
 
 // The paths that start at these places, as many as are there and fit, from the first on: how many. A path takes 4 words, event, site, root and
 // how many components, and a word for each component.
+// Kept (6a): C lends one table for all paths.
 pub fn read_paths(code: &[u8], header_rev: u16, starts: &[u64], words: &mut [u64]) -> usize
     ensures { Fits (path_words header_rev code.now) starts.now words.old words.new result }
 {
     let mut to: usize = 0;
-    for i in 0..starts.len() {
-        let Some(size) = put_path(code, starts[i] as usize, header_rev, words, to) else {
+    for (i, start) in starts.iter().enumerate() {
+        let Some(size) = put_path(code, *start as usize, header_rev, words, to) else {
             clear_from(words, to);
             return i;
         };

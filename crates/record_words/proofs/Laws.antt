@@ -85,14 +85,6 @@ module _ (front back : ℕ) (s : List ℕ) (at : ℕ) where
     pub after : rest ≡ after_text front s at
     pub inside : rest + 4 * back ≤ length s
 
-  pub text_none : None ≡ cond (text_whole front back s at) (Some (after_text front s at)) None → text_whole front back s at ≡ false
-  unfolding text_whole
-  text_none e = go (leb (after_text front s at + 4 * back) (length s)) e
-    where
-      go : (b : Bool) → None ≡ cond b (Some (after_text front s at)) None → b ≡ false
-      go true h = absurd (cc)
-      go false h = refl
-
   pub text_whole_lem : (rest : ℕ) → Some rest ≡ cond (text_whole front back s at) (Some (after_text front s at)) None → TextThere rest
   unfolding text_whole
   text_whole_lem rest e = go (leb (after_text front s at + 4 * back) (length s)) refl e

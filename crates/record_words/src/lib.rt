@@ -44,6 +44,7 @@ trait Record {
 }
 
 // The records that start at these places.
+// Kept (6d): by `words.chunks_exact_mut(size)` what was put into one chunk is still to be said of the whole table, where `Fills` says it of `to`.
 fn read_all<R: Record>(kind: &R, bytes: &[u8], starts: &[u64], words: &mut [u64]) -> bool
     ensures { Fills (R.is_whole kind.now bytes.now) (R.words_of kind.now bytes.now) starts.now
         words.old words.new result }
@@ -66,6 +67,7 @@ fn read_all<R: Record>(kind: &R, bytes: &[u8], starts: &[u64], words: &mut [u64]
 }
 
 // So many fields of 4 bytes, to the words from `to` on.
+// Kept (6d): `put_fields(bytes, at, &mut words[to..to + count])` moves the place into each call, and a promise of the words around it with it.
 fn put_fields(bytes: &[u8], at: usize, count: usize, words: &mut [u64], to: usize)
     requires { (4 * count ≤ length bytes.now - at) × (to + count ≤ length words.old) }
     ensures { Puts (fields count bytes.now at) to words.old words.new }
@@ -142,6 +144,7 @@ impl Record for Texts {
 }
 
 // Propositions: the place and the length of the kind, owner, scope, type.
+// Kept (1a, 2a): C has a function for each of the three, with a flag for whether all are there: no refusal has a number for words that do not fit.
 pub fn read_propositions(payload: &[u8], starts: &[u64], words: &mut [u64]) -> bool
     ensures { Fills (text_whole 0 3 payload.now) (text_words 0 3 payload.now) starts.now
         words.old words.new result }
@@ -151,6 +154,7 @@ pub fn read_propositions(payload: &[u8], starts: &[u64], words: &mut [u64]) -> b
 
 // Proofs: number, proposition, the place and the length of the rule's name, authority, first witness, witnesses, first parent, parents,
 // operation.
+// Kept (1a): the flag of C's function, as for read_propositions.
 pub fn read_proofs(payload: &[u8], starts: &[u64], words: &mut [u64]) -> bool
     ensures { Fills (text_whole 2 6 payload.now) (text_words 2 6 payload.now) starts.now
         words.old words.new result }
@@ -159,6 +163,7 @@ pub fn read_proofs(payload: &[u8], starts: &[u64], words: &mut [u64]) -> bool
 }
 
 // Texts of a section and strings of a block: the place and the length of each.
+// Kept (1a): the flag of C's function, as for read_propositions.
 pub fn read_strings(bytes: &[u8], starts: &[u64], words: &mut [u64]) -> bool
     ensures { Fills (text_whole 0 0 bytes.now) (text_words 0 0 bytes.now) starts.now
         words.old words.new result }
@@ -169,6 +174,9 @@ pub fn read_strings(bytes: &[u8], starts: &[u64], words: &mut [u64]) -> bool
 // ---- Witnesses and parents
 
 // The start and the end of a span.
+// Kept (1a): a payload's schema may be any number, and all but 2 have the narrow span.
+// Kept (6d, 7d): the same table and place; an `if` on the schema picks the width, where a closure would be made of it for one call.
+#[tactic(auto, using(evr0_section::proofs::Schemas::wide, evr0_section::proofs::Schemas::narrow))]
 fn put_span(bytes: &[u8], at: usize, schema: u16, words: &mut [u64], to: usize)
     requires { (at + 2 * span_width schema ≤ length bytes.now) × (to + 2 ≤ length words.old) }
     ensures { Puts (span_words (span_width schema) bytes.now at) to words.old words.new }
@@ -214,6 +222,7 @@ impl Record for Witnesses {
 }
 
 // Witnesses: number, proposition, polarity, the place of the first digest, start, end, the place of the second digest.
+// Kept (1a, 6a): the flag of C's function, as for read_propositions; C lends the table of words.
 pub fn read_witnesses(payload: &[u8], schema: u16, starts: &[u64], words: &mut [u64]) -> bool
     ensures { Fills (witness_whole (span_width schema) payload.now) (witness_words (span_width schema) payload.now)
         starts.now words.old words.new result }
@@ -222,6 +231,7 @@ pub fn read_witnesses(payload: &[u8], schema: u16, starts: &[u64], words: &mut [
 }
 
 // Parent cells: the fields of 4 bytes from `at` on, as many as there are words.
+// Kept (1a): the flag of C's function, as for read_propositions.
 pub fn read_parents(payload: &[u8], at: usize, words: &mut [u64]) -> bool
     ensures { Runs payload.now at words.old words.new result }
 {

@@ -53,30 +53,6 @@ module _ (s : Section) (r : ℕ) (t : List ℕ) where
   were_turn zero c h e = absurd (omega arith)
   were_turn (suc k) c h e = simp (e, sub-one, add-one)
 
-module _ (r : ℕ) (t : List ℕ) (j : ℕ) where
-  pub was_0 : get_or t j 0 ≡ 0 → was_marked r t j ≡ false
-  unfolding was_marked
-  was_0 e = rw (eq-eqb (get_or t j 0) 0 e)
-
-  pub was_now : (get_or t j 0 ≡ 0 → ⊥) → get_or t j 0 ≡ r → was_marked r t j ≡ false
-  unfolding was_marked
-  was_now n e = rw (ne_eqb (get_or t j 0) 0 n, eq-eqb (get_or t j 0) r e)
-
-  pub was_earlier : (get_or t j 0 ≡ 0 → ⊥) → (get_or t j 0 ≡ r → ⊥) → was_marked r t j ≡ true
-  unfolding was_marked
-  was_earlier n e = rw (ne_eqb (get_or t j 0) 0 n, ne_eqb (get_or t j 0) r e)
-
--- ---- A proof in its turn
-module _ (s : Section) (r : ℕ) (t : List ℕ) (i : ℕ) where
-  pub turn_marked : (get_or t i 0 ≡ 0 → ⊥) → turn_in s r t i ≡ get_or t i 0
-  unfolding turn_in
-  turn_marked n = rw (ne_eqb (get_or t i 0) 0 n)
-
-  pub turn_unmarked : (b : Bool) → get_or t i 0 ≡ 0 → were_marked s r t (proof_at s i).parent_count (proof_at s i).first_parent ≡ b
-      → turn_in s r t i ≡ cond b r 0
-  unfolding turn_in
-  turn_unmarked b z e = rw (eq-eqb (get_or t i 0) 0 z, e)
-
 -- ---- A round, from the first unmarked proof on
 module _ (s : Section) (r : ℕ) (ms : List ℕ) where
   pub round_starts : (first : ℕ) → first ≤ length ms → ((j : ℕ) → j < first → get_or ms j 0 ≡ 0 → ⊥) → ms ≡ partly s r ms first

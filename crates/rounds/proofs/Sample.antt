@@ -10,10 +10,12 @@ use Rattle.rounds.specs.Rounds.{is_marked, all_marked, turn, turns, after_rounds
 use Rattle.rounds.specs.Height.{height_of, heights}
 use Rattle.rounds.specs.Sample.{joined, upwards, on_itself, ops_from, up_from, chain_then}
 
+-- Kept (8d): an example of the definition, for readers.
 joined_rounds : rounds 0 joined ≡ ok (1 ∷ 1 ∷ 2 ∷ 3 ∷ 2 ∷ [])
 unfolding is_marked all_marked turn turns after_rounds none_left kin_from rounds proof_at parent_at proof_total parents_from agrees joined
 joined_rounds = refl
 
+-- Kept (8d): an example of the definition, for readers.
 joined_heights : heights joined ≡ 1 ∷ 1 ∷ 2 ∷ 3 ∷ 2 ∷ []
 unfolding gathered in_order height_of heights proof_at parent_at proof_total joined
 joined_heights = refl
@@ -43,6 +45,7 @@ upwards_25 : rounds 0 upwards ≡ refuse 25 0
 unfolding kin_from rounds proof_at parent_at proof_total parents_from agrees upwards
 upwards_25 = refl
 
+-- Kept (8d): an example of the definition, for readers.
 on_itself_25 : rounds 0 on_itself ≡ refuse 25 0
 unfolding kin_from rounds proof_at parent_at proof_total parents_from agrees on_itself
 on_itself_25 = refl
@@ -61,6 +64,7 @@ earlier_27 : depths 0 (chain_then 256 7 257) ≡ refuse 27 0
 unfolding proof_at witness_at parent_at proof_total parents_from agrees witnesses_from polarity_fits depth_of depths_from depths ops_from up_from chain_then
 earlier_27 = refl
 
+-- Kept (8d): an example of the definition, for readers.
 earlier_27_too : depths 0 (chain_then 256 8 0) ≡ refuse 27 0
 unfolding proof_at witness_at parent_at proof_total parents_from agrees witnesses_from polarity_fits depth_of depths_from depths ops_from up_from chain_then
 earlier_27_too = refl

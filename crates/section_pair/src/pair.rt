@@ -30,6 +30,7 @@ impl<'a> Section<'a> {
     ghost use Rattle.section_pair.specs.Maps.{totals_out};
 
     // Its source set, 12 bytes after the cursor.
+    #[tactic(auto, using(crate::proofs::PairLaws::inside_told))]
     fn source_set(self) -> &'a [u8]
         ensures { result.now ≡ bytes_at self.entry.bytes.now (self.entry.cursor + 12) 32 }
     {
@@ -50,6 +51,8 @@ impl<'a> Section<'a> {
     }
 
     // This section, the first, and the second. After 61 the table is full of the list's first bytes, and 74 leaves it as it was brought.
+    // Kept (6a): the tables are lent by C, and a count says how much of one is filled.
+    #[tactic(auto, using(crate::proofs::PairLaws::inside_told))]
     pub fn hold(self, second: Section, verdicts: &mut [u8]) -> Result<Totals, Refusal>
         ensures { (a : Told self.entry.bytes.now self.entry.cursor self.entry.end self.entry.count self.entry.starts.now self.entry.flags.now)
             (b : Told second.entry.bytes.now second.entry.cursor second.entry.end second.entry.count second.entry.starts.now second.entry.flags.now)

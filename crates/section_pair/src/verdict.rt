@@ -23,8 +23,10 @@ pub fn of_both(a: u8, b: u8) -> Verdict
 }
 
 // Its byte in the lent table.
-pub fn code(verdict: Verdict) -> u8
-    ensures { result ≡ code (verdict_out verdict) }
-{
-    verdict as u8
+impl From<Verdict> for u8 {
+    ghost from_gives = { λ verdict byte. byte ≡ code (verdict_out verdict) };
+
+    fn from(verdict: Verdict) -> u8 {
+        verdict as u8
+    }
 }

@@ -9,7 +9,7 @@ use Rattle.local_format.proofs.OutLaws.{never, ok_same}
 use Rattle.lent_table.specs.Lent.{Front}
 use Rattle.semcode_decode.specs.Block.{Block}
 use Rattle.semcode_decode.specs.Layout.{Layout, layout, string_starts, path_starts, block_families, Lent, Leaves}
-use Rattle.semcode_decode.specs.Begun.{Lays, Begins}
+use Rattle.semcode_decode.specs.Begun.{Lays}
 
 module _ (base : ℕ) where
   -- an accepted block is the same at every base
@@ -35,12 +35,6 @@ pub begun : (x : Out Block) {l : Layout} {strings paths strings' paths' : List �
     → Front (string_starts x) strings' × Front (path_starts x) paths'
 begun (ok b) h = (rw h.of_strings (take_at _ _ _ refl), rw h.of_paths (take_at _ _ _ refl))
 begun (refused r) h = (refl, refl)
-
--- a block that is not refused leaves the same with zeros after a refusal
-pub not_refused : (x : Out Block) {l : Layout} {strings paths strings' paths' : List ℕ} → Lays x strings paths strings' paths' (ok l)
-    → Begins x strings paths strings' paths' (ok l)
-not_refused (ok b) h = record { answer = h.answer; of_strings = h.of_strings; of_paths = h.of_paths }
-not_refused (refused r) h = absurd (never (sym h.answer))
 
 -- the same is left where a map of the answer is told
 pub mapped : {A B : Type 0} (f : A → B) {block : Out Block} {before after : Lent} {told due : A} {answer : B} → Leaves block before after told due

@@ -1,6 +1,6 @@
 -- The section SIG0: what a reader answers of it, and that the families of an accepted block are its bytes at their place.
-use mathlib.Core.Path.{◌≡◌, ap, sym, ◌∙◌}
-use Prim.Native.Nat.{ℕ, zero, suc, ◌+◌, ◌<◌, min}
+use mathlib.Core.Path.{◌≡◌, refl, ap, sym, ◌∙◌}
+use Prim.Native.Nat.{ℕ, zero, suc, ◌+◌, ◌≤◌, ◌<◌, min}
 use native.Mathlib.Omega.{arith}
 use native.Mathlib.Numerals.{add-one}
 use mathlib.Core.Bool.{◌&&◌}
@@ -13,9 +13,10 @@ use Rattle.local_format.specs.Out.{Out, ok, refused}
 use Rattle.local_format.specs.Field.{field, le}
 use Rattle.local_format.specs.Text.{bytes_at}
 use Rattle.local_format.proofs.OutLaws.{never, refused_same, ok_same, bind_ok, checked_ok}
-use Rattle.local_format.proofs.FieldLaws.{field_ok}
-use Rattle.semcode_records.specs.Records.{Taken, Table, records, ends}
-use Rattle.semcode_records.proofs.RecordsLaws.{as_many}
+use borrow.Author.Tests.{le-leb}
+use Rattle.local_format.proofs.FieldLaws.{field_ok, field_there, le_1}
+use Rattle.semcode_records.specs.Records.{Taken, taken, Table, records, ends}
+use Rattle.semcode_records.proofs.RecordsLaws.{as_many, ends_before}
 use Rattle.semcode_decode.specs.Block.{Rooms, Block, family_at, block_of}
 use Rattle.semcode_decode.specs.Layout.{Layout, layout, extent, families_of, block_families}
 use Rattle.semcode_decode.proofs.BlockLaws.{layout_ok}
@@ -28,13 +29,32 @@ extent_refused (refused q) e = ap refused (refused_same e)
 
 -- ---- The families are bytes
 module _ (s : List ℕ) where
-  family_is : (at : ℕ) (t : Taken ℕ) → family_at s at ≡ ok t → (t.value ≡ get_or s at 0) × (t.next ≡ at + 1) × (at < length s)
+  pub family_is : (at : ℕ) (t : Taken ℕ) → family_at s at ≡ ok t → (t.value ≡ get_or s at 0) × (t.next ≡ at + 1) × (at < length s)
   unfolding family_at le
   family_is at t e =
       let (g, f, e1) = bind_ok (field 72 1 s at) _ e in
       let (c, e2) = checked_ok (leb 1 g.value && leb g.value 15) 72 at _ e1 in
       let w = field_ok 72 1 s at f in
       rw (← ok_same e2) (omega arith, w.0, omega arith)
+
+  family_there : (at : ℕ) → at < length s → 1 ≤ get_or s at 0 → get_or s at 0 ≤ 15 → family_at s at ≡ taken (le 1 s at) (at + 1)
+  unfolding family_at
+  family_there at h l m =
+      let e = le_1 s at in
+      rw (field_there 72 1 s at (omega arith), le-leb 1 (le 1 s at) (omega arith), le-leb (le 1 s at) 15 (omega arith)) refl
+
+  -- where all are there, they end behind the last
+  pub families_whole : (count at : ℕ) → at + count ≤ length s
+      → ((i : ℕ) → i < count → (1 ≤ get_or s (at + i) 0) × (get_or s (at + i) 0 ≤ 15)) → ends (records (family_at s) count at) ≡ ok (at + count)
+  unfolding records
+  families_whole zero at h f = let e : at ≡ at + 0 = omega arith in ap ok e
+  families_whole (suc count) at h f =
+      let here : at + 0 ≡ at = omega arith in
+      let (l, m) = rw here at (f 0 (omega arith)) in
+      let e : at + 1 + count ≡ at + suc count = omega arith in
+      let rest = families_whole count (at + 1) (omega arith)
+      (λ i k. let n : at + suc i ≡ at + 1 + i = omega arith in rw n at (f (suc i) (omega arith))) in
+      rw (family_there at (omega arith) l m) (ends_before _ (records (family_at s) count (at + 1)) ∙ rest ∙ ap ok e)
 
 -- of the first bytes of a list, also where they are read in the whole
 module _ (u : List ℕ) (n : ℕ) where

@@ -16,16 +16,19 @@ use local_format::refusal::{Refusal, based};
 // As many symbols as any block has, for who lends no list of them.
 pub const ANY_SYMBOLS: usize = MAX_DEBUG_SYMBOLS_PER_FUNCTION as usize;
 
-// Counts, tags found and places in the block. A flag stands beside each tag's numbers, as in the C interface.
+// Counts, tags found and places in the block.
 #[derive(Clone, Copy, Debug, PartialEq, Eq)]
 pub struct StringTableDebugOwnershipParse {
     pub string_count: usize,
     pub string_table_end_offset: usize,
+    // Kept (1a): a field of the Rust's own struct, which C reads as a flag.
     pub has_debug_section: bool,
     pub debug_symbol_count: usize,
     pub debug_symbols_start: usize,
+    // Kept (1a): a field of the Rust's own struct, which C reads as a flag.
     pub has_ownership_section: bool,
     pub path_count: usize,
+    // Kept (1a): a field of the Rust's own struct, which C reads as a flag.
     pub has_signature: bool,
     pub parameter_count: usize,
     pub families_start: usize,
@@ -74,6 +77,7 @@ fn read_block(
 }
 
 // The same, where a refusal leaves zeros in the lent tables.
+// Kept (2d): this leaves what stands past the starts, for a loop over functions that clears once; `parse_block` clears it and copies the families.
 pub fn parse_tables(
     code: &[u8],
     header_rev: u16,

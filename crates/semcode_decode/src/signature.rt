@@ -1,7 +1,7 @@
 // The section SIG0: the families of a function's parameters.
-ghost use Rattle.std.specs.Prelude.{◌≡◌};
+ghost use Rattle.std.specs.Prelude.{◌≡◌, ℕ, true, ◌≤◌, ◌<◌, length, get_or};
 ghost use Rattle.local_format.specs.Maps.{answer_out};
-ghost use Rattle.semcode_records.specs.Records.{next_of};
+ghost use Rattle.semcode_records.specs.Records.{records, ends};
 ghost use Rattle.semcode_records.specs.Maps.{taken_out};
 ghost use Rattle.semcode_decode.specs.Block.{family_at, family_table, signature_at};
 ghost use Rattle.semcode_decode.specs.Layout.{extent, tagged};
@@ -11,7 +11,6 @@ use crate::table::Table;
 use local_format::field::{Field, field_at};
 use local_format::refusal::{Kind, Refusal, check, refuse, refuse_as};
 use local_format::tag::tag_at;
-use semcode_records::records::records_end;
 
 pub const SEMCODE_SIGNATURE_MIN_REVISION: u16 = 20;
 
@@ -38,6 +37,33 @@ fn read_family(bytes: &[u8], at: usize) -> Result<Field<u8>, Refusal>
     })
 }
 
+// Whether each is a byte from 1 to 15. The loop looks at all of them, where `iter().all(..)` ends at the first that is none.
+fn all_families(families: &[u8]) -> bool
+    ensures { result ≡ true → (i : ℕ) → i < length families.now
+        → (1 ≤ get_or families.now i 0) × (get_or families.now i 0 ≤ 15) }
+{
+    let mut all = true;
+    for family in families {
+        all &= (1 <= *family) & (*family <= 15);
+    }
+    all
+}
+
+// The place after so many families; where not all are there, they are read for the first refusal.
+fn families_end(bytes: &[u8], at: usize, count: u16) -> Result<usize, Refusal>
+    requires { at ≤ length bytes.now }
+    ensures { answer_out (λ end. end) result ≡ ends (records (family_at bytes.now) count at) }
+{
+    let end = at + count as usize;
+    if end <= bytes.len() && all_families(&bytes[at..end]) {
+        return Ok(end);
+    }
+    for place in at..end {
+        read_family(bytes, place)?;
+    }
+    Ok(end)
+}
+
 // The count and the families, for a lent table of so many bytes.
 #[tactic(auto, unfolding(crate::specs::Block::family_table))]
 fn family_table(bytes: &[u8], at: usize, families: usize) -> Result<Table, Refusal>
@@ -48,17 +74,10 @@ fn family_table(bytes: &[u8], at: usize, families: usize) -> Result<Table, Refus
     };
     check(count <= MAX_SIGNATURE_PARAMETERS_PER_FUNCTION, 73, next)?;
     check(count as usize <= families, 61, next)?;
-    let end = records_end(
-        next,
-        count,
-        |place: usize| -> Result<usize, Refusal>
-            ensures { answer_out (λ end. end) result ≡ next_of (family_at bytes.entry.now place) }
-        { Ok(read_family(bytes, place)?.next) },
-    )?;
     Ok(Table {
         start: next,
         count: count as usize,
-        end,
+        end: families_end(bytes, next, count)?,
     })
 }
 

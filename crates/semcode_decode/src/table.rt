@@ -43,6 +43,7 @@ pub fn table_of(section: Option<Table>, at: usize) -> Table
 }
 
 // So many records from a place on, of which `end` tells where each ends, with their starts at the front of a table, and past them what stood there.
+// Kept (6a): C lends the table of starts; no heap, so no Vec of them is made.
 fn fill_starts<F: Fn(usize) -> Result<usize, Refusal>>(
     at: usize,
     count: u16,
@@ -72,9 +73,8 @@ fn fill_starts<F: Fn(usize) -> Result<usize, Refusal>>(
 
 // ---- The strings
 
-// The tables have numbers of their own for a cut and a high count, and read them line by line as their definitions do.
-
 // The count and the strings.
+// Kept (2d): the four tables differ in refusals, limit, room and walk: one function would take all these, the walk as a closure, for two `check`s and a `let`.
 #[tactic(auto, unfolding(crate::specs::Block::string_table))]
 pub fn string_table(bytes: &[u8], at: usize, strings: &mut [u64]) -> Result<Table, Refusal>
     ensures result_value { answer_out table_is result ≡ extent (string_table bytes.now (length strings.old) at) }
@@ -126,7 +126,7 @@ fn debug_table(bytes: &[u8], at: usize, symbols: usize) -> Result<Table, Refusal
     skip_symbols(bytes, next, count)
 }
 
-// The sections stay apart: one function of both would take the reader of the table, and is no shorter.
+// Kept (2d): `section(bytes, at, b"DBG0", |at| debug_table(bytes, at, symbols))` would need the closure's contract beside this one, for one `if`.
 #[tactic(auto, unfolding(crate::specs::Block::section_at))]
 pub fn debug_section(bytes: &[u8], at: usize, symbols: usize) -> Result<Option<Table>, Refusal>
     ensures { answer_out (section_is at) result ≡

@@ -71,6 +71,9 @@ fn next_function(
 
 // The starts stand at the front of the tables, and what stands past them is left; a refusal leaves zeros in those of a block. The loop goes by where
 // each function ends.
+// Kept (5d): as `locks::claim` for three of them; the table of starts is of the file alone, so it would stand beside such a struct.
+// Kept (5a): bytes, cursor and revision are the Rust's own parameters in front of them, in the order of C.
+// Kept (6a): C lends the table of starts with its length; the answer says how many of its entries count.
 fn each_function(
     bytes: &[u8],
     cursor: usize,
@@ -128,6 +131,7 @@ pub fn clear_all(functions: &mut [u64], strings: &mut [u64], paths: &mut [u64], 
 }
 
 // Zeros past the starts, and the last function's families.
+// Kept (6a): the tables are C's, and `found` says how many entries of each count.
 fn leave(
     found: File,
     bytes: &[u8],

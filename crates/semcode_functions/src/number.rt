@@ -11,6 +11,7 @@ use local_format::field::Field;
 use local_format::refusal::{Refusal, refuse};
 use semcode_decode::decode::ANY_SYMBOLS;
 
+// Kept (2d): as semcode_read's four, `string_number` and the others, over a file in place of a block.
 pub fn function_number(
     bytes: &[u8],
     cursor: usize,

@@ -40,7 +40,8 @@ fn not_there(strings: &mut [u64], paths: &mut [u64], families: &mut [u8]) -> Ref
     refuse(62, 0)
 }
 
-// The four functions stay apart: they share two calls, and each has a count, a place and a reader of its own.
+// Kept (2d): the four share two calls; each has a count, a place and a reader of its own, which one function would take as three closures.
+// Kept (7d): `number_in(.., |p| p.string_count, |p| .., |at| string_at(code, at))` states more at each call than this `if`.
 pub fn string_number(
     base_offset: usize,
     code: &[u8],
@@ -69,6 +70,7 @@ pub fn string_number(
     Err(not_there(strings, paths, families))
 }
 
+// Kept (7d): as `string_number`, with a place by arithmetic where that one looks it up in a lent table.
 pub fn symbol_number(
     base_offset: usize,
     code: &[u8],
@@ -97,6 +99,7 @@ pub fn symbol_number(
     Err(not_there(strings, paths, families))
 }
 
+// Kept (7d): as `string_number`, with the revision for its reader.
 pub fn path_number(
     base_offset: usize,
     code: &[u8],
@@ -126,6 +129,8 @@ pub fn path_number(
 }
 
 // The component after so many others.
+// Kept (1a): the byte of the path's event, as `read_component` takes it.
+// Kept (5a): the readers of components are public, and take bytes, place, revision and kind apart as the functions of C hand them on.
 fn component_after(
     bytes: &[u8],
     at: usize,

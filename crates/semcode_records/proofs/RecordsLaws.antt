@@ -56,9 +56,6 @@ module _ {A : Type 0} (read : ℕ → Out (Taken A)) where
     pub ends_refused : {r : Refusal} → refused r ≡ next_of (read at) → refused r ≡ ends (records read (count - i) at)
     ends_refused e = rw (first_refused_lem (next_refused (read at) (sym e)))
 
-    pub ends_next : {n : ℕ} → ok n ≡ next_of (read at) → ends (records read (count - i) at) ≡ ends (records read (count - (i + 1)) n)
-    ends_next e = let t = next_read (read at) (sym e) in ends_on t.1
-
   -- as many records as were asked for, from the place that was given
   pub as_many : (count at : ℕ) {t : Table A} → records read count at ≡ ok t → (length t.entries ≡ count) × (t.start ≡ at)
   unfolding records
@@ -108,13 +105,6 @@ module _ {A : Type 0} (read : ℕ → Out (Taken A)) where
           >>= λ t. ok (places_in t))
       go (ok t) later = rw (later t.next) (places_before (record { start = at; value = t.value; next = t.next }) (records read count t.next))
       go (refused r) later = refl
-
-  pub ends_places : (count at : ℕ) → ends (records (places read) count at) ≡ ends (records read count at)
-  ends_places count at = rw (records_places count at) (go (records read count at))
-    where
-      go : (x : Out (Table A)) → ends (x >>= λ t. ok (places_in t)) ≡ ends x
-      go (ok t) = refl
-      go (refused r) = refl
 
   -- what a closure tells of a reader it tells of its places
   pub tells_places : {answers : ℕ → Result ℕ code.Refusal → Type 0} → Tells read answers → Tells (places read) answers

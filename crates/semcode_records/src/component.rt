@@ -2,11 +2,10 @@
 ghost use Rattle.std.specs.Prelude.{◌≡◌, ◌<◌};
 ghost use Rattle.local_format.specs.Maps.{answer_out};
 ghost use Rattle.semcode_records.specs.Maps.{taken_out, component_is};
-ghost use Rattle.semcode_records.specs.Records.{records, ends, next_of};
+ghost use Rattle.semcode_records.specs.Records.{records, ends};
 ghost use Rattle.semcode_records.specs.Component.{tuple_index_at, field_symbol_at, variant_at, sequence_index_at, component_of, component_at};
 ghost use Rattle.semcode_records.specs.Sizes.{sizes, size_in};
 
-use crate::records::records_end;
 use local_format::field::{Field, field_at};
 use local_format::refusal::{Refusal, check, refuse};
 
@@ -34,7 +33,7 @@ pub enum DecodedAccessPathComponent {
     SequenceIndexStatic(u32),
 }
 
-// Each reader takes its number apart by itself, as the project asks of record readers.
+// Kept (2d): each has a width, a refusal and a variant of its own: `index_at::<u16>(bytes, at, 51, TupleIndex)` hands on all of its body but one `let`.
 #[tactic(auto, unfolding(crate::specs::Component::tuple_index_at))]
 fn read_tuple_index(bytes: &[u8], at: usize) -> Result<Field<DecodedAccessPathComponent>, Refusal>
     ensures { answer_out (taken_out component_is) result ≡ tuple_index_at bytes.now at }
@@ -67,7 +66,7 @@ fn read_field_symbol(bytes: &[u8], at: usize) -> Result<Field<DecodedAccessPathC
     })
 }
 
-// `kind` is the path's event kind.
+// Kept (1a): `kind` is the byte of the path's event, which may be of no known kind: a type of the two known ones would ask more of callers.
 #[tactic(auto, unfolding(crate::specs::Component::variant_at))]
 fn read_adt_payload(
     bytes: &[u8],
@@ -124,6 +123,7 @@ fn read_sequence_index(
 }
 
 // What follows the component kind.
+// Kept (1a, 7d): the byte may be of no known kind, which is refused here; a `match` from a byte to its reader is today's form.
 #[tactic(auto, unfolding(crate::specs::Component::component_of))]
 fn after_component_kind(
     component_kind: u8,
@@ -166,6 +166,7 @@ pub fn read_component(
 }
 
 // The place after so many components, by reading each.
+// Kept (2d): this keeps the place alone; the walks of path_words and locks put words, so one for all would take a closure that here does nothing.
 pub fn skip_components(
     bytes: &[u8],
     at: usize,
@@ -176,19 +177,17 @@ pub fn skip_components(
     ensures { answer_out (λ end. end) result ≡
         ends (records (component_at header_rev kind bytes.now) component_count at) }
 {
-    records_end(
-        at,
-        component_count,
-        |place: usize| -> Result<usize, Refusal>
-            ensures { answer_out (λ end. end) result ≡
-                next_of (component_at header_rev kind bytes.entry.now place) }
-        { Ok(read_component(bytes, place, header_rev, kind)?.next) },
-    )
+    let mut cursor = at;
+    for _ in 0..component_count {
+        cursor = read_component(bytes, cursor, header_rev, kind)?.next;
+    }
+    Ok(cursor)
 }
 
 // ---- Components passed by their sizes
 
 // The bytes of a component of each kind that a path with this event kind can have, 8 bits for a kind; 0 where it can't.
+// Kept (1d): a table of four `Option<u8>` needs a branch for a kind that can't stand and one for none; 0 among the sizes needs one test.
 #[tactic(auto, unfolding(crate::specs::Sizes::sizes))]
 pub fn component_sizes(header_rev: u16, kind: u8) -> u64
     ensures { result ≡ sizes header_rev kind }
@@ -202,6 +201,7 @@ pub fn component_sizes(header_rev: u16, kind: u8) -> u64
     0x05000503
 }
 
+// Kept (1d): 0 is the table's own mark, and each caller tests it once: an Option would be made by a test here, and taken apart by one at each call.
 #[tactic(auto, unfolding(crate::specs::Sizes::size_in))]
 pub fn component_size(table: u64, component_kind: u8) -> usize
     ensures { (result ≡ size_in table component_kind) × (result < 256) }
@@ -213,6 +213,7 @@ pub fn component_size(table: u64, component_kind: u8) -> usize
 }
 
 // The components that are left, and where they start.
+// Kept (1d): both count also where none is left: `Passed { left: 0, next }` is the end of all, and no mark of nothing.
 #[derive(Clone, Copy, Debug, PartialEq, Eq)]
 pub struct Passed {
     pub left: u16,

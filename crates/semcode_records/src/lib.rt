@@ -3,5 +3,4 @@
 
 pub mod component;
 pub mod path;
-pub mod records;
 pub mod symbol;

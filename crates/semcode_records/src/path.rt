@@ -53,6 +53,7 @@ pub struct DecodedAccessPath {
 
 // ---- The event
 
+// Kept (2d): a borrow on frame entry has no anchor and a write always has one; the rest that is alike is two `let`s with numbers of their own.
 #[tactic(auto, unfolding(crate::specs::Path::activation_at))]
 fn read_activation(bytes: &[u8], at: usize) -> Result<Field<DecodedBorrowActivation>, Refusal>
     ensures { answer_out (taken_out activation_is) result ≡ activation_at bytes.now at }
@@ -119,7 +120,7 @@ fn read_execution(bytes: &[u8], at: usize) -> Result<Field<DecodedWriteExecution
     Ok(Field { value, next })
 }
 
-// The byte of an event's kind.
+// Kept (1a, 4d): the byte goes to readers that take one of any kind, as C lends it; `u8::from(event)` would not say which byte of it that is.
 pub fn event_kind(event: DecodedEvent) -> u8
     ensures { result ≡ kind_of_event (event_is event) }
 {
@@ -129,8 +130,8 @@ pub fn event_kind(event: DecodedEvent) -> u8
     }
 }
 
-// What follows the event kind; an unknown kind has no event, and brings no mode. The kind stays a byte, since an unknown one is refused only behind
-// the components.
+// What follows the event kind; an unknown kind has no event, and brings no mode.
+// Kept (1a, 7d): an unknown kind is refused only behind the components, so it stays a byte; a `match` of it to two readers is today's form.
 #[tactic(auto, unfolding(crate::specs::Path::event_of))]
 pub fn after_event_kind(
     kind: u8,
@@ -182,17 +183,16 @@ pub fn after_event_kind(
 // What stands in front of a path's components: the byte of its event's kind, its event where the kind is known, its root, how many components it has,
 // and where they start.
 #[derive(Clone, Copy, Debug, PartialEq, Eq)]
-struct Front {
-    kind: u8,
-    event: Option<DecodedEvent>,
-    root_symbol_id: u32,
-    component_count: u16,
-    components_start: usize,
+pub struct Front {
+    pub kind: u8,
+    pub event: Option<DecodedEvent>,
+    pub root_symbol_id: u32,
+    pub component_count: u16,
+    pub components_start: usize,
 }
 
-// It has one caller, so that it is compiled into it.
 #[tactic(auto, unfolding(crate::specs::Path::front_at))]
-fn read_front(bytes: &[u8], at: usize, header_rev: u16) -> Result<Front, Refusal>
+pub fn read_front(bytes: &[u8], at: usize, header_rev: u16) -> Result<Front, Refusal>
     ensures { answer_out front_is result ≡ front_at header_rev bytes.now at }
 {
     let Some(
@@ -268,6 +268,7 @@ pub fn read_path(
 // ---- The place after a path
 
 // The bytes of a site behind an event's kind and mode: a borrow on frame entry has none.
+// Kept (1d): the two bytes as they stand in the block: enums would be made of them by a branch each, and this size is there to spare those.
 pub fn site_size(kind: u8, mode: u8) -> usize
     requires { kind + mode ≤ 2 }
     ensures { (result ≡ site_size kind mode) × (result ≤ 4) }
@@ -277,6 +278,7 @@ pub fn site_size(kind: u8, mode: u8) -> usize
 
 // The place after a path, or none where it is not seen so: where modes stand, and each part of any length would be there whole. No branch is for the
 // event or for a component's kind.
+// Kept (2d): `path_words::read_opening` asks the same of the first two bytes, and then reads five fields where this passes components.
 fn seen_end(bytes: &[u8], at: usize, header_rev: u16) -> Option<usize>
     ensures { (end : ℕ) → result ≡ Some end → next_of (path_at header_rev bytes.now at) ≡ ok end }
 {

@@ -1,13 +1,11 @@
 // All functions of a file, with the last one's debug symbols in a lent list of records.
-ghost use Rattle.std.specs.Prelude.{◌≡◌, ◌<◌, ◌^◌};
+ghost use Rattle.std.specs.Prelude.{◌≡◌};
 ghost use Rattle.local_format.specs.Maps.{answer_out};
 ghost use Rattle.semcode_records.specs.Maps.{symbol_is};
 ghost use Rattle.semcode_functions.specs.File.{file, file_tables};
 ghost use Rattle.semcode_functions.specs.Maps.{last_is, file_is};
 ghost use Rattle.semcode_symbols.specs.FileSymbols.{
   last_in,
-  last_count,
-  last_start,
   file_lists,
   PlacedFile,
   FillsFile,
@@ -24,22 +22,6 @@ fn last_of(answer: Result<File, Refusal>) -> Option<FunctionBlock>
     ensures { last_is result ≡ last_in (answer_out file_is answer) }
 {
     answer.ok()?.last
-}
-
-fn last_symbol_count(last: Option<FunctionBlock>) -> usize
-    ensures { result ≡ last_count (last_is last) }
-{
-    last.map_or(0, |block| block.parsed.debug_symbol_count)
-}
-
-fn last_symbols_start(last: Option<FunctionBlock>) -> usize
-    requires { last_start (last_is last) < 2 ^ 64 }
-    ensures { result ≡ last_start (last_is last) }
-{
-    match last {
-        Some(FunctionBlock { code, parsed }) => code + parsed.debug_symbols_start,
-        None => 0,
-    }
 }
 
 // The answer, and where in the file how many symbols of the last function start; 0 where there are none.
@@ -61,16 +43,19 @@ fn functions_placed(
     let answer = read_functions(
         bytes, cursor, header_rev, symbols, functions, strings, paths, families,
     );
-    let last = last_of(answer);
-    let count = last_symbol_count(last);
-    if count < 1 {
+    let Some(FunctionBlock { code, parsed }) = last_of(answer) else {
         return Located {
             answer,
             at: 0,
             count: 0,
         };
-    }
-    let at = last_symbols_start(last);
+    };
+    let count = parsed.debug_symbol_count;
+    let at = if count == 0 {
+        0
+    } else {
+        code + parsed.debug_symbols_start
+    };
     Located { answer, at, count }
 }
 

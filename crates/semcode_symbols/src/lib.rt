@@ -1,8 +1,8 @@
-// Debug symbols in a lent list of records. Four functions take the list: one stores a record, one fills the list, and the two tops decode
-// a block, or all functions of a file, and fill it.
+// Debug symbols in a lent list of records. Three functions take the list: one fills it, and the two tops decode a block, or all functions of a
+// file, and fill it.
 #![tactic(auto)]
 
-ghost use Rattle.std.specs.Prelude.{◌≡◌, map, ◌-◌, ◌*◌, ◌≤◌, ◌<◌, length, get_or, set};
+ghost use Rattle.std.specs.Prelude.{◌≡◌, map, ◌-◌, ◌*◌, ◌≤◌, length, get_or};
 ghost use Rattle.local_format.specs.Maps.{answer_out};
 ghost use Rattle.semcode_records.specs.Records.{records};
 ghost use Rattle.semcode_records.specs.Symbol.{symbol_at};
@@ -28,6 +28,7 @@ pub mod functions;
 // ---- What the core says of the symbols
 
 // The answer, and where how many symbols start; a refusal has none.
+// Kept (1d): the list is filled after a refusal too, with zeros: no symbols from place 0 on need no second branch, which an Option would.
 #[derive(Clone, Copy)]
 struct Located<T> {
     answer: Result<T, Refusal>,
@@ -35,6 +36,7 @@ struct Located<T> {
     count: usize,
 }
 
+// Kept (2d): `functions_placed` reads a file and places the symbols of its last block, moved to that block; what is alike is `Located`.
 fn parse_placed(
     base_offset: usize,
     code: &[u8],
@@ -65,6 +67,7 @@ fn parse_placed(
 }
 
 // Symbol `i` of so many from a place on; zeros past them. Its 10 bytes are there, so it is read without the tests of a reader.
+// Kept (2d, 4d, 6d): the bytes are known to be there and zeros stand past the count; `read_debug_symbol`, or a `TryFrom`, answers a refusal instead.
 fn symbol_at(code: &[u8], at: usize, count: usize, i: usize) -> DecodedDebugSymbol
     requires { 10 * count ≤ length code.now - at }
     ensures { symbol_is result ≡ get_or (symbols_in (records (symbol_at code.now) count at)) i no_symbol }
@@ -90,27 +93,20 @@ fn symbol_at(code: &[u8], at: usize, count: usize, i: usize) -> DecodedDebugSymb
 
 // ---- The list
 
-// It stands alone, so that one function changes the list.
-fn store_symbol(symbols: &mut [DecodedDebugSymbol], i: usize, pc: usize, line: u32, col: u16)
-    requires { i < length symbols.old }
-    ensures { symbols.new ≡ set symbols.old i (record { pc = pc; line = line; col = col }) }
-{
-    symbols[i] = DecodedDebugSymbol { pc, line, col };
-}
-
 // So many symbols from a place on, then zeros.
+// Kept (4d, 6a): C lends the list; `symbols.iter_mut().zip(code[at..].chunks_exact(10))` would be cut to the count, and zeros past it be a loop more.
 fn fill_symbols(symbols: &mut [DecodedDebugSymbol], code: &[u8], at: usize, count: usize)
     requires { (10 * count ≤ length code.now - at) × (count ≤ length symbols.old) }
     ensures { map symbol_is symbols.new ≡
         lent_symbols (length symbols.old) (symbols_in (records (symbol_at code.now) count at)) }
 {
     for i in 0..symbols.len() {
-        let v = symbol_at(code, at, count, i);
-        store_symbol(symbols, i, v.pc, v.line, v.col);
+        symbols[i] = symbol_at(code, at, count, i);
     }
 }
 
 // A block at a base: string starts and path starts go to two lent tables, the families to a table of bytes, the symbols to a lent list.
+// Kept (2a): two functions of C; each is a call that places the symbols and one that fills the list.
 pub fn parse_string_table_debug_and_ownership(
     base_offset: usize,
     code: &[u8],

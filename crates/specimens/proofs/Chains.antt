@@ -17,6 +17,7 @@ use Rattle.specimens.proofs.Shown.{Shown, shown, accepts, refuses}
 use Rattle.specimens.proofs.Each.{bytes, read_each, rest_each, four_each, tables_each, tables_read}
 
 -- the walk down a chain
+-- Kept (8d): an example of the definition, for readers.
 pub walk_255 : Walk (chain 255) 255 (down_to0 255) 0
 unfolding decoded chain ops_from up_from down_to0 reaches can_pick
 walk_255 = reached (chain 255) 255 (down_to0 255) 0 refl

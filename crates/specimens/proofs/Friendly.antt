@@ -29,10 +29,12 @@ unfolding decoded op_on_negative joined end_polarity gathered in_order mark_of m
 no_longer = ap (λ (s : derivation.Section). authorised s 0) negative_accepted.same ∙ refl
 
 -- nor is one whose OP proofs are on a join of both; an OP proof on a join of two positive proofs is enough, whatever stands beside it
+-- Kept (8d): an example of the definition, for readers.
 pub joins_not : authorised (section_of joins_accepted.decoded.tables) 0 ≡ false
 unfolding decoded joins joined end_polarity gathered in_order mark_of marks operates authorised
 joins_not = ap (λ (s : derivation.Section). authorised s 0) joins_accepted.same ∙ refl
 
+-- Kept (8d): an example of the definition, for readers.
 pub sides_authorised : authorised (section_of sides_accepted.decoded.tables) 0 ≡ true
 unfolding decoded sides joined end_polarity gathered in_order mark_of marks operates authorised
 sides_authorised = ap (λ (s : derivation.Section). authorised s 0) sides_accepted.same ∙ refl

@@ -11,3 +11,4 @@ pub mod Each
 pub mod Chains
 pub mod ByRounds
 pub mod Needed
+pub mod Limits

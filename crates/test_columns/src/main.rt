@@ -2,14 +2,14 @@
 // written, or the refusal, and the whole output. tools/columns/make.py writes the list, and what is to be printed by plain lines of its own.
 #![tactic(auto)]
 
+ghost use Rattle.std.specs.Prelude.{ℕ, Some, ◌≡◌, ◌<◌, length};
+
 use columns_take::take::take_columns;
 use columns_write::write::write_columns;
+use evr0_rules::settle::Rules;
 use local_format::field::LittleEndian;
-use local_format::refusal::{Refusal, diag_offset};
 
 const STDIN: i32 = 0;
-
-const STDOUT: i32 = 1;
 
 const LIST: usize = 65536;
 
@@ -22,87 +22,76 @@ const OLD: u64 = 11936128518282651045;
 
 const OLD_BYTE: u8 = 165;
 
-fn put(text: &[u8]) {
-    io::write_all(STDOUT, text);
+// An entry of the list, and what comes after it. Columns are taken back, a section is written as its columns.
+#[derive(Clone, Copy)]
+struct Entry<'a> {
+    is_columns: bool,
+    lent: usize,
+    bytes: &'a [u8],
+    rest: &'a [u8],
 }
 
-fn put_byte(byte: u8) {
-    put(b" ");
-    io::print_decimal(STDOUT, byte as u64);
+// The entry at the front of a list, if it is whole: whether it is columns (1 byte), how long the output is and how many bytes there are (2 each), and these.
+// Kept (2d): each program's list has entries of other fields: what is alike are the library's `first_chunk` and `get`.
+fn read_entry(list: &[u8]) -> Option<Entry>
+    ensures { (e : _) → result ≡ Some e → length e.rest.now < length list.now }
+{
+    let head = list.first_chunk::<5>()?;
+    let end = 5 + u16::le_at(head, 3) as usize;
+    Some(Entry {
+        is_columns: head[0] != 0,
+        lent: u16::le_at(head, 1) as usize,
+        bytes: list.get(5..end)?,
+        rest: list.get(end..)?,
+    })
 }
 
-fn put_output(output: &[u8]) {
-    for &byte in output {
-        put_byte(byte);
-    }
-}
-
-fn put_answer(answer: Result<usize, Refusal>) {
-    match answer {
-        Ok(length) => {
-            put(b"written ");
-            io::print_decimal(STDOUT, length as u64);
-        }
-        Err(refused) => {
-            put(b"refused ");
-            io::print_decimal(STDOUT, refused.number as u64);
-            put(b" ");
-            io::print_decimal(STDOUT, refused.offset as u64);
-        }
-    }
-    put(b":");
-}
-
-// Columns are taken back, a section is written as its columns.
-fn show(is_columns: bool, bytes: &[u8], output: &mut [u8]) {
+// No longer output is lent than there is.
+// Kept (7d): one `if` on `is_columns`; the two functions have other parameters, so a closure for each would be made by the same `if`.
+fn show(out: &impl Print, entry: Entry) -> std::io::Result<()> {
     let mut propositions = [OLD; ENTRIES];
     let mut proofs = [OLD; ENTRIES];
     let mut depths = [OLD; ENTRIES];
-    let answer = if is_columns {
-        take_columns(bytes, &mut propositions, &mut proofs, &mut depths, output)
+    let mut output = [OLD_BYTE; OUTPUT];
+    let lent = &mut output[..entry.lent.min(OUTPUT)];
+    let answer = if entry.is_columns {
+        take_columns(
+            Rules::Four,
+            entry.bytes,
+            &mut propositions,
+            &mut proofs,
+            &mut depths,
+            lent,
+        )
     } else {
         write_columns(
-            bytes,
+            Rules::Four,
+            entry.bytes,
             0,
             &mut propositions,
             &mut proofs,
             &mut depths,
-            output,
+            lent,
         )
     };
-    put_answer(answer);
-    put_output(output);
-    put(b"\n");
+    match answer {
+        Ok(length) => print!(out; "written {length}:")?,
+        Err(refused) => print!(out; "refused {} {}:", refused.number, refused.offset)?,
+    }
+    for byte in lent {
+        print!(out; " {byte}")?;
+    }
+    println!(out;)
 }
 
-// The entry at `at`: whether it is columns (1 byte), how long the output is and how many bytes there are (2 each), and these. The place after it.
-fn entry(list: &[u8], at: usize) -> usize {
-    let rest = local_format::part::tail(list, at);
-    if rest.len() < 5 {
-        return list.len();
-    }
-    let lent = u16::le_at(rest, 1) as usize;
-    let end = 5 + (u16::le_at(rest, 3) as usize);
-    if rest.len() < end {
-        return list.len();
-    }
-    if OUTPUT < lent {
-        return list.len();
-    }
-    let mut output = [OLD_BYTE; OUTPUT];
-    show(rest[0] != 0, &rest[5..end], &mut output[..lent]);
-    diag_offset(at, end)
-}
-
-// No list has more entries than bytes.
-fn main() {
+// Kept (2d): a list, its length and its entries are each program's own; a crate for the five lines of the loop would take all of them as parameters.
+fn main(rt: HostRuntime) -> std::io::Result<()> {
     let mut list = [0u8; LIST];
     let len = io::read_full(STDIN, &mut list);
-    let mut at: usize = 0;
-    for _turn in 0..len {
-        if len <= at {
-            return;
-        }
-        at = entry(&list[..len], at);
+    let mut rest = &list[..len];
+    while let Some(entry) = read_entry(rest) {
+        show(&rt, entry)?;
+        rest = entry.rest;
     }
+    Ok(())
 }

@@ -3,7 +3,7 @@
 // tools/sections/pairs.py writes the list, and what is to be printed by plain lines of its own.
 #![tactic(auto)]
 
-ghost use Rattle.std.specs.Prelude.{◌<◌, length};
+ghost use Rattle.std.specs.Prelude.{ℕ, Some, ◌≡◌, ◌<◌, length};
 
 use compare_sections::compare::{Fault, compare_sections};
 use evr0_rules::settle::Rules;
@@ -12,8 +12,6 @@ use local_format::refusal::Refusal;
 use section_pair::totals::Totals;
 
 const STDIN: i32 = 0;
-
-const STDOUT: i32 = 1;
 
 const LIST: usize = 131072;
 
@@ -26,132 +24,134 @@ const OLD: u64 = 11936128518282651045;
 
 const OLD_BYTE: u8 = 165;
 
-fn put(text: &[u8]) {
-    io::write_all(STDOUT, text);
-}
-
-fn put_number(number: usize) {
-    put(b" ");
-    io::print_decimal(STDOUT, number as u64);
-}
-
-fn put_byte(byte: u8) {
-    put(b" ");
-    io::print_decimal(STDOUT, byte as u64);
-}
-
-fn put_bytes(bytes: &[u8]) {
+// Kept (2d): three lines in three programs; one generic function for them would be a crate of its own, longer than the three.
+fn show_bytes(out: &impl Print, bytes: &[u8]) -> std::io::Result<()> {
     for byte in bytes {
-        put_byte(*byte);
+        print!(out; " {byte}")?;
     }
+    Ok(())
 }
 
-fn put_refusal(whose: &[u8], refused: Refusal) {
-    put(whose);
-    put(b" refused ");
-    io::print_decimal(STDOUT, refused.number as u64);
-    put_number(refused.offset);
+fn show_refusal(out: &impl Print, whose: &str, refused: Refusal) -> std::io::Result<()> {
+    print!(out; "{whose} refused {} {}", refused.number, refused.offset)
 }
 
-fn put_answer(answer: Result<Totals, Fault>) {
+fn show_answer(out: &impl Print, answer: Result<Totals, Fault>) -> std::io::Result<()> {
     match answer {
-        Ok(totals) => {
-            put(b"compared");
-            put_number(totals.agreed);
-            put_number(totals.contradicted);
-            put_number(totals.first_only);
-            put_number(totals.second_only);
+        Ok(totals) => print!(out;
+            "compared {} {} {} {}",
+            totals.agreed, totals.contradicted, totals.first_only, totals.second_only
+        ),
+        Err(Fault::Rules(refused)) => show_refusal(out, "rules", refused),
+        Err(Fault::First(refused)) => show_refusal(out, "first", refused),
+        Err(Fault::Second(refused)) => show_refusal(out, "second", refused),
+        Err(Fault::Pair(refused)) => show_refusal(out, "pair", refused),
+    }
+}
+
+// The lent tables of a section.
+#[derive(Clone, Copy)]
+struct Tables {
+    propositions: [u64; ENTRIES],
+    proofs: [u64; ENTRIES],
+    depths: [u64; ENTRIES],
+    marks: [u8; ENTRIES],
+    authorised: [u8; ENTRIES],
+}
+
+impl Tables {
+    fn old() -> Tables {
+        Tables {
+            propositions: [OLD; ENTRIES],
+            proofs: [OLD; ENTRIES],
+            depths: [OLD; ENTRIES],
+            marks: [OLD_BYTE; ENTRIES],
+            authorised: [OLD_BYTE; ENTRIES],
         }
-        Err(Fault::Rules(refused)) => put_refusal(b"rules", refused),
-        Err(Fault::First(refused)) => put_refusal(b"first", refused),
-        Err(Fault::Second(refused)) => put_refusal(b"second", refused),
-        Err(Fault::Pair(refused)) => put_refusal(b"pair", refused),
     }
 }
 
-fn rules_of(table: &[u8]) -> Rules<'_> {
-    if table.is_empty() {
-        return Rules::Four;
-    }
-    Rules::Table(table)
+// An entry of the list, and what comes after it.
+#[derive(Clone, Copy)]
+struct Entry<'a> {
+    lent: usize,
+    cursor: usize,
+    table: &'a [u8],
+    first: &'a [u8],
+    second: &'a [u8],
+    rest: &'a [u8],
 }
 
-fn show(table: &[u8], first: &[u8], second: &[u8], second_cursor: usize, verdicts: &mut [u8]) {
-    let mut first_propositions = [OLD; ENTRIES];
-    let mut first_proofs = [OLD; ENTRIES];
-    let mut first_depths = [OLD; ENTRIES];
-    let mut first_marks = [OLD_BYTE; ENTRIES];
-    let mut first_authorised = [OLD_BYTE; ENTRIES];
-    let mut second_propositions = [OLD; ENTRIES];
-    let mut second_proofs = [OLD; ENTRIES];
-    let mut second_depths = [OLD; ENTRIES];
-    let mut second_marks = [OLD_BYTE; ENTRIES];
-    let mut second_authorised = [OLD_BYTE; ENTRIES];
-    let answer = compare_sections(
-        rules_of(table),
-        first,
-        0,
-        &mut first_propositions,
-        &mut first_proofs,
-        &mut first_depths,
-        &mut first_marks,
-        &mut first_authorised,
-        second,
-        second_cursor,
-        &mut second_propositions,
-        &mut second_proofs,
-        &mut second_depths,
-        &mut second_marks,
-        &mut second_authorised,
-        verdicts,
-    );
-    put_answer(answer);
-    put(b":");
-    put_bytes(verdicts);
-    put(b";");
-    put_bytes(&first_marks);
-    put(b";");
-    put_bytes(&first_authorised);
-    put(b";");
-    put_bytes(&second_marks);
-    put(b";");
-    put_bytes(&second_authorised);
-    put(b"\n");
-}
-
-// The first entry of a list: how many verdicts are lent and the second section's cursor (1 byte each), how many bytes the table of rules and both sections
-// have (2 each; no table means the four), and these. What is left of the list after it: nothing where the entry is cut.
-fn entry(list: &[u8]) -> &[u8]
-    requires { 0 < length list.now }
-    ensures { length result.now < length list.now }
+// The entry at the front of a list, if it is whole: how many verdicts are lent and the second section's cursor (1 byte each), how many bytes the table of
+// rules and both sections have (2 each), and these.
+fn read_entry(list: &[u8]) -> Option<Entry>
+    ensures { (e : _) → result ≡ Some e → length e.rest.now < length list.now }
 {
-    if list.len() < 8 {
-        return &list[..0];
-    }
-    let lent = list[0] as usize;
-    let cursor = list[1] as usize;
-    let first = 8 + u16::le_at(list, 2) as usize;
-    let second = first + u16::le_at(list, 4) as usize;
-    let end = second + u16::le_at(list, 6) as usize;
-    if list.len() < end || VERDICTS < lent {
-        return &list[..0];
-    }
-    let mut verdicts = [OLD_BYTE; VERDICTS];
-    show(
-        &list[8..first],
-        &list[first..second],
-        &list[second..end],
-        cursor,
-        &mut verdicts[..lent],
-    );
-    &list[end..]
+    let head = list.first_chunk::<8>()?;
+    let first = 8 + u16::le_at(head, 2) as usize;
+    let second = first + u16::le_at(head, 4) as usize;
+    let end = second + u16::le_at(head, 6) as usize;
+    Some(Entry {
+        lent: head[0] as usize,
+        cursor: head[1] as usize,
+        table: list.get(8..first)?,
+        first: list.get(first..second)?,
+        second: list.get(second..end)?,
+        rest: list.get(end..)?,
+    })
 }
 
-fn main() {
+// No table means the four. No more verdicts are lent than there are.
+fn show(out: &impl Print, entry: Entry) -> std::io::Result<()> {
+    let rules = if entry.table.is_empty() {
+        Rules::Four
+    } else {
+        Rules::Table(entry.table)
+    };
+    let mut first = Tables::old();
+    let mut second = Tables::old();
+    let mut verdicts = [OLD_BYTE; VERDICTS];
+    let lent = &mut verdicts[..entry.lent.min(VERDICTS)];
+    let answer = compare_sections(
+        rules,
+        entry.first,
+        0,
+        &mut first.propositions,
+        &mut first.proofs,
+        &mut first.depths,
+        &mut first.marks,
+        &mut first.authorised,
+        entry.second,
+        entry.cursor,
+        &mut second.propositions,
+        &mut second.proofs,
+        &mut second.depths,
+        &mut second.marks,
+        &mut second.authorised,
+        lent,
+    );
+    show_answer(out, answer)?;
+    print!(out; ":")?;
+    show_bytes(out, lent)?;
+    for table in [
+        first.marks,
+        first.authorised,
+        second.marks,
+        second.authorised,
+    ] {
+        print!(out; ";")?;
+        show_bytes(out, &table)?;
+    }
+    println!(out;)
+}
+
+fn main(rt: HostRuntime) -> std::io::Result<()> {
     let mut list = [0u8; LIST];
     let len = io::read_full(STDIN, &mut list);
     let mut rest = &list[..len];
-    while !rest.is_empty() {
-        rest = entry(rest);
+    while let Some(entry) = read_entry(rest) {
+        show(&rt, entry)?;
+        rest = entry.rest;
     }
+    Ok(())
 }

@@ -3,6 +3,7 @@ use local_format::field::LittleEndian;
 
 // 0 is a section, whose tables are those of propositions, proofs and depths; 1 is a block, with strings, symbols, paths and families; 2 is a
 // file, with functions, strings, paths and families.
+// Kept (1d): the byte of the list, matched once, in list.rt; an enum would be made of it by a match of its own.
 #[derive(Clone, Copy)]
 pub struct Asked<'a> {
     pub decoder: u8,

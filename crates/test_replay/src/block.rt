@@ -98,6 +98,7 @@ fn symbols<'a>(list: &'a [u8], code: &[u8], start: usize, count: usize) -> Optio
 }
 
 // An entry that asks for longer tables than there are is not the same.
+// Kept (2d): three decoders with other tables, of which each is lent cut to an asked length.
 pub fn block(asked: Asked) -> Option<&[u8]> {
     let [a, b, c, d] = asked.lengths;
     if STRINGS < a || PATHS < c || FAMILIES < d {

@@ -15,6 +15,7 @@ fn number(list: &[u8], value: usize) -> Option<&[u8]> {
     }
 }
 
+// Kept (2d, 6d): the list is read from the front and answered as what is left of it: `?` after each field is the cursor.
 pub fn numbers<'a>(list: &'a [u8], values: &[usize]) -> Option<&'a [u8]> {
     let mut rest = list;
     for value in values {
@@ -29,6 +30,7 @@ pub fn bytes<'a>(list: &'a [u8], value: &[u8]) -> Option<&'a [u8]> {
 }
 
 // A lent table, whole: numbers of the list below the count, 0 from there on.
+// Kept (2d, 6d): a lent table has zeros past its count, which are compared too: a slice of the counted part would drop them.
 pub fn table<'a>(list: &'a [u8], table: &[u64], count: usize) -> Option<&'a [u8]> {
     let (front, past) = table.split_at(count.min(table.len()));
     let mut rest = list;
@@ -39,6 +41,7 @@ pub fn table<'a>(list: &'a [u8], table: &[u64], count: usize) -> Option<&'a [u8]
 }
 
 // A lent table of bytes, whole: bytes of the list below the count, 0 from there on.
+// Kept (2d, 6d): as table; its bytes stand in the list as they are, where numbers have four bytes each.
 pub fn byte_table<'a>(list: &'a [u8], table: &[u8], count: usize) -> Option<&'a [u8]> {
     let (front, past) = table.split_at(count.min(table.len()));
     let rest = bytes(list, front)?;

@@ -5,6 +5,7 @@ use crate::asked::read_asked;
 const END: u8 = 255;
 
 // What is left of the list after its first entry; none where the answer is not the same.
+// Kept (7d): a match over three decoders by the byte of the list.
 fn entry(list: &[u8]) -> Option<&[u8]> {
     let asked = read_asked(list)?;
     match asked.decoder {
@@ -15,6 +16,7 @@ fn entry(list: &[u8]) -> Option<&[u8]> {
 }
 
 // How many answers were the same, up to the first that is not: an error has its number. No list has more entries than bytes.
+// Kept (6d): the list is read from the front: what is left of it follows from each entry, so no iterator of slices has its entries.
 pub fn replay(list: &[u8]) -> Result<usize, usize> {
     let mut rest = list;
     for same in 0..list.len() {

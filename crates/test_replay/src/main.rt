@@ -11,8 +11,6 @@ mod section;
 
 const STDIN: i32 = 0;
 
-const STDOUT: i32 = 1;
-
 const PAGE: usize = 262144;
 
 // The next page of the list.
@@ -34,14 +32,9 @@ fn pages() -> Result<usize, usize> {
     Ok(same)
 }
 
-fn main() {
-    let replayed = pages();
-    let same = replayed.unwrap_or_else(|other| other) as u64;
-    io::print_decimal(STDOUT, same);
-    io::write_all(STDOUT, b" answers agree");
-    if replayed.is_err() {
-        io::write_all(STDOUT, b", not that of input ");
-        io::print_decimal(STDOUT, same);
+fn main(rt: HostRuntime) -> std::io::Result<()> {
+    match pages() {
+        Ok(same) => println!(rt; "{same} answers agree"),
+        Err(same) => println!(rt; "{same} answers agree, not that of input {same}"),
     }
-    io::write_all(STDOUT, b"\n");
 }

@@ -3,7 +3,7 @@
 // says, and its table of depths. tools/rounds/make.py writes the list, and what is to be printed by plain lines of its own.
 #![tactic(auto)]
 
-ghost use Rattle.std.specs.Prelude.{◌<◌, length};
+ghost use Rattle.std.specs.Prelude.{ℕ, Some, ◌≡◌, ◌<◌, length};
 
 use evr0::section::decode_evr0_by;
 use evr0_rounds::section::depth_by_rounds;
@@ -13,8 +13,6 @@ use local_format::refusal::Refusal;
 
 const STDIN: i32 = 0;
 
-const STDOUT: i32 = 1;
-
 const LIST: usize = 131072;
 
 const ENTRIES: usize = 300;
@@ -22,99 +20,102 @@ const ENTRIES: usize = 300;
 // What a lent table holds before the call.
 const OLD: u64 = 11936128518282651045;
 
-fn put(text: &[u8]) {
-    io::write_all(STDOUT, text);
-}
-
-fn put_number(number: u64) {
-    put(b" ");
-    io::print_decimal(STDOUT, number);
-}
-
-fn put_numbers(numbers: &[u64]) {
+fn show_numbers(out: &impl Print, numbers: &[u64]) -> std::io::Result<()> {
     for number in numbers {
-        put_number(*number);
+        print!(out; " {number}")?;
     }
+    Ok(())
 }
 
 // How many entries are no zero.
-fn filled(table: &[u64]) -> u64 {
-    table.iter().filter(|entry| **entry != 0).count() as u64
+fn filled(table: &[u64]) -> usize {
+    table.iter().filter(|entry| **entry != 0).count()
 }
 
-fn put_refusal(refused: Refusal) {
-    put(b"refused");
-    put_number(refused.number as u64);
-    put_number(refused.offset as u64);
-    put(b":");
+fn show_refusal(out: &impl Print, refused: Refusal) -> std::io::Result<()> {
+    print!(out; "refused {} {}:", refused.number, refused.offset)
 }
 
-fn by_rounds(rules: Rules, input: &[u8], rounds: &mut [u64]) {
+fn by_rounds(
+    out: &impl Print,
+    rules: Rules,
+    input: &[u8],
+    rounds: &mut [u64],
+) -> std::io::Result<()> {
     let mut propositions = [OLD; ENTRIES];
     let mut proofs = [OLD; ENTRIES];
     let found = depth_by_rounds(rules, input, 0, &mut propositions, &mut proofs, rounds);
     match found {
-        Ok(marked) => {
-            put(b"marked");
-            put_number(marked.proofs as u64);
-            put_number(marked.cursor as u64);
-            put(b":");
-        }
-        Err(refused) => put_refusal(refused),
+        Ok(marked) => print!(out; "marked {} {}:", marked.proofs, marked.cursor)?,
+        Err(refused) => show_refusal(out, refused)?,
     }
-    put_numbers(rounds);
-    put(b";");
-    put_number(filled(&propositions));
-    put_number(filled(&proofs));
-    put(b"\n");
+    show_numbers(out, rounds)?;
+    println!(out; "; {} {}", filled(&propositions), filled(&proofs))
 }
 
-fn by_decoder(rules: Rules, input: &[u8], depths: &mut [u64]) {
+fn by_decoder(
+    out: &impl Print,
+    rules: Rules,
+    input: &[u8],
+    depths: &mut [u64],
+) -> std::io::Result<()> {
     let mut propositions = [OLD; ENTRIES];
     let mut proofs = [OLD; ENTRIES];
     let decoded = decode_evr0_by(rules, input, 0, &mut propositions, &mut proofs, depths);
     match decoded.outcome {
-        Ok(_) => put(b"accepted:"),
-        Err(refused) => put_refusal(refused),
+        Ok(_) => print!(out; "accepted:")?,
+        Err(refused) => show_refusal(out, refused)?,
     }
-    put_numbers(depths);
-    put(b"\n");
+    show_numbers(out, depths)?;
+    println!(out;)
 }
 
-// The first entry of a list: how many rounds are lent, how many bytes the table and the section have (2 bytes each), the table, and the section. No
-// table means the four. What is left of the list after it: nothing where the entry is cut.
-fn entry(list: &[u8]) -> &[u8]
-    requires { 0 < length list.now }
-    ensures { length result.now < length list.now }
+// An entry of the list, and what comes after it.
+#[derive(Clone, Copy)]
+struct Entry<'a> {
+    lent: usize,
+    table: &'a [u8],
+    input: &'a [u8],
+    rest: &'a [u8],
+}
+
+// The entry at the front of a list, if it is whole: how many rounds are lent, how many bytes the table and the section have (2 bytes each), the table,
+// and the section.
+fn read_entry(list: &[u8]) -> Option<Entry>
+    ensures { (e : _) → result ≡ Some e → length e.rest.now < length list.now }
 {
-    if list.len() < 6 {
-        return &list[..0];
-    }
-    let lent = u16::le_at(list, 0) as usize;
-    let middle = 6 + u16::le_at(list, 2) as usize;
-    let end = middle + u16::le_at(list, 4) as usize;
-    if list.len() < end || ENTRIES < lent {
-        return &list[..0];
-    }
-    let table = &list[6..middle];
-    let rules = if table.is_empty() {
+    let sizes = list.first_chunk::<6>()?;
+    let middle = 6 + u16::le_at(sizes, 2) as usize;
+    let end = middle + u16::le_at(sizes, 4) as usize;
+    Some(Entry {
+        lent: u16::le_at(sizes, 0) as usize,
+        table: list.get(6..middle)?,
+        input: list.get(middle..end)?,
+        rest: list.get(end..)?,
+    })
+}
+
+// No table means the four. No more is lent than there is.
+fn show(out: &impl Print, entry: Entry) -> std::io::Result<()> {
+    let rules = if entry.table.is_empty() {
         Rules::Four
     } else {
-        Rules::Table(table)
+        Rules::Table(entry.table)
     };
-    let input = &list[middle..end];
+    let lent = entry.lent.min(ENTRIES);
     let mut rounds = [OLD; ENTRIES];
-    by_rounds(rules, input, &mut rounds[..lent]);
+    by_rounds(out, rules, entry.input, &mut rounds[..lent])?;
     let mut depths = [OLD; ENTRIES];
-    by_decoder(rules, input, &mut depths[..lent]);
-    &list[end..]
+    by_decoder(out, rules, entry.input, &mut depths[..lent])
 }
 
-fn main() {
+fn main(rt: HostRuntime) -> std::io::Result<()> {
     let mut list = [0u8; LIST];
     let len = io::read_full(STDIN, &mut list);
     let mut rest = &list[..len];
-    while !rest.is_empty() {
-        rest = entry(rest);
+    while let Some(entry) = read_entry(rest) {
+        show(&rt, entry)?;
+        rest = entry.rest;
     }
+    Ok(())
 }

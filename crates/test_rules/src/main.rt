@@ -11,8 +11,6 @@ use local_format::field::LittleEndian;
 
 const STDIN: i32 = 0;
 
-const STDOUT: i32 = 1;
-
 const LIST: usize = 65536;
 
 const ENTRIES: usize = 8;
@@ -20,67 +18,58 @@ const ENTRIES: usize = 8;
 // What a lent table holds before the call.
 const OLD: u64 = 11936128518282651045;
 
-fn put(text: &[u8]) {
-    io::write_all(STDOUT, text);
-}
-
-fn put_number(number: u64) {
-    io::print_decimal(STDOUT, number);
-}
-
-fn put_depths(depths: &[u64]) {
-    for depth in depths {
-        put(b" ");
-        put_number(*depth);
-    }
-}
-
-fn show(table: &[u8], input: &[u8]) {
+// Kept (2d): each program prints the answer of another function, with other fields and words.
+fn show(out: &impl Print, entry: Entry) -> std::io::Result<()> {
     let mut propositions = [OLD; ENTRIES];
     let mut proofs = [OLD; ENTRIES];
     let mut depths = [OLD; ENTRIES];
     let decoded = decode_evr0_by(
-        Rules::Table(table),
-        input,
+        Rules::Table(entry.table),
+        entry.input,
         0,
         &mut propositions,
         &mut proofs,
         &mut depths,
     );
     match decoded.outcome {
-        Ok(_) => put(b"accepted:"),
-        Err(refused) => {
-            put(b"refused ");
-            put_number(refused.number as u64);
-            put(b" ");
-            put_number(refused.offset as u64);
-            put(b":");
-        }
+        Ok(_) => print!(out; "accepted:")?,
+        Err(refused) => print!(out; "refused {} {}:", refused.number, refused.offset)?,
     }
-    put_depths(&depths);
-    put(b"\n");
+    for depth in depths {
+        print!(out; " {depth}")?;
+    }
+    println!(out;)
 }
 
-// The entry at the front of a list: how many bytes the table and the section have (2 bytes each), the table, and the section. What comes after it, where it
-// is whole.
-fn entry(list: &[u8]) -> Option<&[u8]>
-    ensures { (left : _) → result ≡ Some left → length left.now < length list.now }
+// An entry of the list, and what comes after it.
+#[derive(Clone, Copy)]
+struct Entry<'a> {
+    table: &'a [u8],
+    input: &'a [u8],
+    rest: &'a [u8],
+}
+
+// The entry at the front of a list, if it is whole: how many bytes the table and the section have (2 bytes each), the table, and the section.
+fn read_entry(list: &[u8]) -> Option<Entry>
+    ensures { (e : _) → result ≡ Some e → length e.rest.now < length list.now }
 {
     let sizes = list.first_chunk::<4>()?;
     let middle = 4 + u16::le_at(sizes, 0) as usize;
     let end = middle + u16::le_at(sizes, 2) as usize;
-    if list.len() < end {
-        return None;
-    }
-    show(&list[4..middle], &list[middle..end]);
-    Some(&list[end..])
+    Some(Entry {
+        table: list.get(4..middle)?,
+        input: list.get(middle..end)?,
+        rest: list.get(end..)?,
+    })
 }
 
-fn main() {
+fn main(rt: HostRuntime) -> std::io::Result<()> {
     let mut list = [0u8; LIST];
     let len = io::read_full(STDIN, &mut list);
     let mut rest = &list[..len];
-    while let Some(left) = entry(rest) {
-        rest = left;
+    while let Some(entry) = read_entry(rest) {
+        show(&rt, entry)?;
+        rest = entry.rest;
     }
+    Ok(())
 }

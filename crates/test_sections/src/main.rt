@@ -3,7 +3,7 @@
 // writes the list, and what is to be printed by plain lines of its own.
 #![tactic(auto)]
 
-ghost use Rattle.std.specs.Prelude.{◌<◌, length};
+ghost use Rattle.std.specs.Prelude.{ℕ, Some, ◌≡◌, ◌<◌, length};
 
 use evr0_authorised::authorised::authorised;
 use evr0_fields::number::PropositionIndex;
@@ -12,8 +12,6 @@ use evr0_rules::settle::Rules;
 use local_format::field::LittleEndian;
 
 const STDIN: i32 = 0;
-
-const STDOUT: i32 = 1;
 
 const LIST: usize = 65536;
 
@@ -24,36 +22,26 @@ const OLD: u64 = 11936128518282651045;
 
 const OLD_BYTE: u8 = 165;
 
-fn put(text: &[u8]) {
-    io::write_all(STDOUT, text);
-}
-
-fn put_marks(marks: &[u8]) {
+fn show_marks(out: &impl Print, marks: &[u8]) -> std::io::Result<()> {
     for mark in marks {
-        put(b" ");
-        io::print_decimal(STDOUT, *mark as u64);
+        print!(out; " {mark}")?;
     }
+    Ok(())
 }
 
-fn show(input: &[u8], marks: &mut [u8]) {
+fn show_decoded(out: &impl Print, input: &[u8], marks: &mut [u8]) -> std::io::Result<()> {
     let mut propositions = [OLD; ENTRIES];
     let mut proofs = [OLD; ENTRIES];
     let mut depths = [OLD; ENTRIES];
     let decoded = decode_evr0_section(input, 0, &mut propositions, &mut proofs, &mut depths, marks);
     match decoded.outcome {
-        Ok(_) => put(b"accepted:"),
-        Err(refused) => {
-            put(b"refused ");
-            io::print_decimal(STDOUT, refused.number as u64);
-            put(b" ");
-            io::print_decimal(STDOUT, refused.offset as u64);
-            put(b":");
-        }
+        Ok(_) => print!(out; "accepted:")?,
+        Err(refused) => print!(out; "refused {} {}:", refused.number, refused.offset)?,
     }
-    put_marks(marks);
+    show_marks(out, marks)
 }
 
-fn show_authorised(input: &[u8], marks: &mut [u8]) {
+fn show_authorised(out: &impl Print, input: &[u8], marks: &mut [u8]) -> std::io::Result<()> {
     let mut propositions = [OLD; ENTRIES];
     let mut proofs = [OLD; ENTRIES];
     let mut depths = [OLD; ENTRIES];
@@ -68,45 +56,51 @@ fn show_authorised(input: &[u8], marks: &mut [u8]) {
         marks,
     );
     match answer {
-        Ok(true) => put(b"; authorised:"),
-        Ok(false) => put(b"; not:"),
-        Err(refused) => {
-            put(b"; refused ");
-            io::print_decimal(STDOUT, refused.number as u64);
-            put(b":");
-        }
+        Ok(true) => print!(out; "; authorised:")?,
+        Ok(false) => print!(out; "; not:")?,
+        Err(refused) => print!(out; "; refused {}:", refused.number)?,
     }
-    put_marks(marks);
-    put(b"\n");
+    show_marks(out, marks)?;
+    println!(out;)
 }
 
-// The first entry of a list: how many marks are lent (1 byte), how many bytes the section has (2), and the section. What is left of the list
-// after it: nothing where the entry is cut.
-fn entry(list: &[u8]) -> &[u8]
-    requires { 0 < length list.now }
-    ensures { length result.now < length list.now }
+// An entry of the list, and what comes after it.
+#[derive(Clone, Copy)]
+struct Entry<'a> {
+    lent: usize,
+    section: &'a [u8],
+    rest: &'a [u8],
+}
+
+// The entry at the front of a list, if it is whole: how many marks are lent (1 byte), how many bytes the section has (2), and the section.
+fn read_entry(list: &[u8]) -> Option<Entry>
+    ensures { (e : _) → result ≡ Some e → length e.rest.now < length list.now }
 {
-    if list.len() < 3 {
-        return &list[..0];
-    }
-    let lent = list[0] as usize;
-    let end = 3 + u16::le_at(list, 1) as usize;
-    if list.len() < end || ENTRIES < lent {
-        return &list[..0];
-    }
-    let section = &list[3..end];
-    let mut marks = [OLD_BYTE; ENTRIES];
-    show(section, &mut marks[..lent]);
-    let mut again = [OLD_BYTE; ENTRIES];
-    show_authorised(section, &mut again[..lent]);
-    &list[end..]
+    let head = list.first_chunk::<3>()?;
+    let end = 3 + u16::le_at(head, 1) as usize;
+    Some(Entry {
+        lent: head[0] as usize,
+        section: list.get(3..end)?,
+        rest: list.get(end..)?,
+    })
 }
 
-fn main() {
+// No more marks are lent than there are.
+fn show(out: &impl Print, entry: Entry) -> std::io::Result<()> {
+    let lent = entry.lent.min(ENTRIES);
+    let mut marks = [OLD_BYTE; ENTRIES];
+    show_decoded(out, entry.section, &mut marks[..lent])?;
+    let mut again = [OLD_BYTE; ENTRIES];
+    show_authorised(out, entry.section, &mut again[..lent])
+}
+
+fn main(rt: HostRuntime) -> std::io::Result<()> {
     let mut list = [0u8; LIST];
     let len = io::read_full(STDIN, &mut list);
     let mut rest = &list[..len];
-    while !rest.is_empty() {
-        rest = entry(rest);
+    while let Some(entry) = read_entry(rest) {
+        show(&rt, entry)?;
+        rest = entry.rest;
     }
+    Ok(())
 }

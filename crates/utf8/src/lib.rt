@@ -111,11 +111,15 @@ fn scan_chars(bytes: &[u8]) -> Option<Scanned>
     let mut chars: usize = 0;
     let mut control = false;
     let mut i: usize = 0;
+    // Kept (3d): a character has one to four bytes and `char_at` says where the next starts; a `for` would go byte by byte.
     while i < bytes.len() {
         if is_printable(bytes[i]) {
             i += 1;
         } else {
-            let c = char_at(bytes, i)?;
+            // Kept (1b): by `?` each text takes three instructions more, in the rows of CJK texts of docs/PERFORMANCE.md; no row may take more.
+            let Some(c) = char_at(bytes, i) else {
+                return None;
+            };
             i = c.next;
             control |= c.control;
         }

@@ -8,15 +8,16 @@ pub loop-i-init : goal.loop-i-init
 loop-i-init c =
     put_first _ _ _ _ _
 
-pub returns-in_default : goal.returns-in_default
-returns-in_default c =
-    put_refused _ _ _ _ _ c.loop-i.i c.loop-i.cursor c.loop-i.words c.loop-i.invariant (omega arith)
-    (ap (λ (s : Step). s.whole) (sym c.in_default.ensures))
+pub returns-in_err-value : goal.returns-in_err-value
+returns-in_err-value c =
+    rw c.from_residual.ensures
+    (put_refused _ _ _ _ _ c.loop-i.i c.loop-i.cursor c.loop-i.words c.loop-i.invariant (omega arith)
+    (ap (λ (s : Step). s.whole) (sym c.in_err-value.ensures)))
 
 pub loop-i-preserved : goal.loop-i-preserved
 loop-i-preserved c =
     put_more _ _ _ _ _ c.loop-i.i c.loop-i.cursor c.loop-i.words c.loop-i.invariant (omega arith) (omega (arith, c.loop-i.invariant.size)) _ _
-    c.in-Some.ensures
+    c.in_ok-value.ensures
 
 pub returns : goal.returns
 returns c =

@@ -13,12 +13,13 @@ pub returns-then-words-to-clause-puts : goal.returns-then-words-to-clause-puts
 returns-then-words-to-clause-puts c =
     opening_short _ _ _ (opening_is (Some c.in_ok-opening.opening)) c.in_ok-opening.ensures _ _ (omega arith)
 
-pub returns-then-whole-clause-puts : goal.returns-then-whole-clause-puts
-returns-then-whole-clause-puts c =
-    opening_whole _ _ _ (opening_is (Some c.in_ok-opening.opening)) c.in_ok-opening.ensures _ _ refl c.put_four.ensures
-    c.put_components-whole.ensures c.if-whole.true (omega arith)
+pub returns-in_err-put_components-clause-puts : goal.returns-in_err-put_components-clause-puts
+returns-in_err-put_components-clause-puts c =
+    rw c.from_residual-in_err-put_components.ensures
+    (opening_cut _ _ _ (opening_is (Some c.in_ok-opening.opening)) c.in_ok-opening.ensures _ _ refl c.put_four.ensures
+    c.in_err-put_components.ensures refl (omega arith))
 
-pub returns-else-whole-clause-puts : goal.returns-else-whole-clause-puts
-returns-else-whole-clause-puts c =
-    opening_cut _ _ _ (opening_is (Some c.in_ok-opening.opening)) c.in_ok-opening.ensures _ _ refl c.put_four.ensures
-    c.put_components-whole.ensures c.if-whole.false (omega arith)
+pub returns-clause-puts : goal.returns-clause-puts
+returns-clause-puts c =
+    opening_whole _ _ _ (opening_is (Some c.in_ok-opening.opening)) c.in_ok-opening.ensures _ _ refl c.put_four.ensures
+    c.in_ok-put_components.ensures refl (omega arith)

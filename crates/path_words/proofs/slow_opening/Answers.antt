@@ -7,4 +7,4 @@ pub returns-in_default : goal.returns-in_default
 returns-in_default c = closed _ _ _ (sym c.in_default.ensures)
 
 pub returns : goal.returns
-returns c = opened _ _ _ (sym c.in-Ok.ensures) c.event_numbered-number.ensures c.event_kind.ensures
+returns c = opened _ _ _ (sym c.in-Ok.ensures) c.from-number.ensures c.event_kind.ensures

@@ -1,36 +1,15 @@
 -- Meets its contract: two fields of 8 bytes, or two of 4.
 use mathlib.Core.Path.{◌≡◌}
-use native.Mathlib.Omega.{arith}
 use Rattle.evr0_section.specs.Head.{span_width}
 use Rattle.evr0_section.proofs.Schemas.{wide, narrow}
 use Rattle.record_words.proofs.Laws.{span_puts, narrow_span}
 use Rattle.record_words.proofs.put_span.Goals as goal
-
-pub le_at-requires : goal.le_at-requires
-le_at-requires c =
-    let ends-8 : span_width c.args.schema ≡ 8 = wide c.if-schema-eq2.true in
-    omega (arith, ends-8)
-
-pub overflow_add-at : goal.overflow_add-at
-overflow_add-at c =
-    let ends-8 : span_width c.args.schema ≡ 8 = wide c.if-schema-eq2.true in
-    omega (arith, ends-8)
-
-pub le_at-requires-then-schema-eq2 : goal.le_at-requires-then-schema-eq2
-le_at-requires-then-schema-eq2 c =
-    let ends-8 : span_width c.args.schema ≡ 8 = wide c.if-schema-eq2.true in
-    omega (arith, ends-8)
 
 pub returns-then-schema-eq2 : goal.returns-then-schema-eq2
 returns-then-schema-eq2 c =
     let ends-8 : span_width c.args.schema ≡ 8 = wide c.if-schema-eq2.true in
     rw ends-8
     (span_puts 8 _ _ c.le_at.ensures c.le_at-then-schema-eq2.ensures c.put_word.ensures c.put_word-then-schema-eq2.ensures)
-
-pub put_fields-requires : goal.put_fields-requires
-put_fields-requires c =
-    let ends-4 : span_width c.args.schema ≡ 4 = narrow c.if-schema-eq2.false in
-    (omega (arith, ends-4), omega arith)
 
 pub returns : goal.returns
 returns c =

@@ -1,5 +1,6 @@
 -- A turn stores the record that is wanted at i; a list whose front is as wanted, as far as it reaches, is the wanted one.
-use Rattle.std.proofs.Common.{◌≡◌, ◌+◌, length, get_or, set, take, ap, ◌∙◌, arith}
+use Rattle.std.proofs.Common.{◌≡◌, ◌+◌, length, set, take, ap, ◌∙◌, arith}
+use lib.ListN.{length-set}
 use Rattle.semcode_records.specs.Records.{records}
 use Rattle.semcode_records.specs.Symbol.{symbol_at}
 use Rattle.semcode_symbols.specs.Symbols.{symbols_in}
@@ -17,10 +18,9 @@ loop-i-preserved c =
     let l = c.loop-i.symbols in
     let long : length l ≡ n = c.loop-i.invariant.long in
     let full : length (wanted n xs) ≡ n = wanted_long n xs (omega (arith, how_many a.code.now a.at a.count c.requires.0, c.requires.1)) in
-    let stored : c.store_symbol.new.symbols ≡ set l i (get_or (wanted n xs) i none) =
-    c.store_symbol.ensures ∙ ap (set l i) (is_wanted n xs i _ c.symbol_at-v.ensures) in
+    let stored = ap (set l i) (is_wanted n xs i _ c.symbol_at.ensures) in
     record {
-      long = c.store_symbol.auto.symbols ∙ long;
+      long = simp length-set long;
       front =
           ap (take (i + 1)) stored
           ∙ front_more (wanted n xs) none n full i l (omega arith) (omega arith) c.loop-i.invariant.front;

@@ -2,5 +2,5 @@
 use Rattle.std.proofs.Common.{length}
 use Rattle.test_compare.proofs.main.Given as goal
 
-abbrev pub decreases-loop-rest : goal.decreases-loop-rest
-decreases-loop-rest l = length l.rest
+abbrev pub decreases-loop-entry : goal.decreases-loop-entry
+decreases-loop-entry l = length l.rest

@@ -1,6 +1,6 @@
--- Ends: what is left of the list is shorter after each entry.
+-- Each entry is taken off the list.
 use Rattle.std.proofs.Common.{length}
 use Rattle.test_rules.proofs.main.Given as goal
 
-abbrev pub decreases-loop-left : goal.decreases-loop-left
-decreases-loop-left l = length l.rest
+abbrev pub decreases-loop-entry : goal.decreases-loop-entry
+decreases-loop-entry l = length l.rest

@@ -5,6 +5,7 @@ use Prim.Native.Nat.{ℕ}
 use native.Mathlib.Omega.{arith}
 use Rattle.columns_put.proofs.path.path_of.Goals as goal
 
+-- Kept (8d): a lemma for the three would take the equation of the arm and the clause of the call, and each answer names both all the same.
 pub proposition_path-requires : goal.proposition_path-requires
 proposition_path-requires c =
     (rw c.in-Propositions.is at c.requires).1
@@ -21,6 +22,7 @@ pub returns-in-Head : goal.returns-in-Head
 returns-in-Head c =
     absurd (rw c.in-Head.is at c.requires).0
 
+-- Kept (8d): each rewrites by its own arm's equation, which a lemma for the three would be given as well.
 pub returns-in-Propositions : goal.returns-in-Propositions
 returns-in-Propositions c =
     λ (b : List ℕ) (s : ℕ). (rw c.in-Propositions.is (c.proposition_path.ensures b s))

@@ -11,25 +11,25 @@ use Rattle.compare_sections.proofs.compare.compare.Goals as goal
 
 pub returns-in_err-map_err-clause-answers : goal.returns-in_err-map_err-clause-answers
 returns-in_err-map_err-clause-answers c =
-    let e : answer_out (λ n. n) c.load.result ≡ refused (refusal_in c.in_err-map_err.field-0.0) = search rules in
+    let e : answer_out (λ n. n) c.count.result ≡ refused (refusal_in c.in_err-map_err.field-0.0) = search rules in
     let whose : comparison_out c.from_residual.result ≡ rules_refused (refusal_in c.in_err-map_err.field-0.0) = search rules in
-    rw whose (by_rules _ _ _ _ _ _ _ c.load.ensures e)
+    rw whose (by_rules _ _ _ _ _ _ _ c.count.ensures e)
 
 pub returns-in_err-found-clause-answers : goal.returns-in_err-found-clause-answers
 returns-in_err-found-clause-answers c =
-    let loaded : answer_out (λ n. n) c.load.result ≡ ok c.in_ok-map_err.field-0 = search rules in
+    let loaded : answer_out (λ n. n) c.count.result ≡ ok c.in_ok-map_err.field-0 = search rules in
     let e : answer_out found_out c.decode.result ≡ refused (refusal_in c.in_err-found.field-0.0) = search rules in
     let whose : comparison_out c.from_residual-in_err-found.result ≡ first_refused (refusal_in c.in_err-found.field-0.0) = search rules in
-    rw whose (by_first _ _ _ _ _ _ c.load.ensures loaded c.decode.ensures.decodes _ e)
+    rw whose (by_first _ _ _ _ _ _ c.count.ensures loaded c.decode.ensures.decodes _ e)
 
 pub returns-in_err-other-clause-answers : goal.returns-in_err-other-clause-answers
 returns-in_err-other-clause-answers c =
-    let loaded : answer_out (λ n. n) c.load.result ≡ ok c.in_ok-map_err.field-0 = search rules in
+    let loaded : answer_out (λ n. n) c.count.result ≡ ok c.in_ok-map_err.field-0 = search rules in
     let found : answer_out found_out c.decode.result ≡ ok (found_out c.in_ok-found.found) = search rules in
     let e : answer_out found_out c.decode-2.result ≡ refused (refusal_in c.in_err-other.field-0.0) = search rules in
     let whose : comparison_out c.from_residual-in_err-other.result ≡ second_refused (refusal_in c.in_err-other.field-0.0) = search rules in
     rw whose
-    (by_second _ _ _ _ _ _ c.load.ensures loaded c.decode.ensures.decodes found
+    (by_second _ _ _ _ _ _ c.count.ensures loaded c.decode.ensures.decodes found
     (second_refused_lem c.decode-2.ensures.decodes (decoded c.decode.ensures.decodes found) _ _ e))
 
 pub section-one-requires : goal.section-one-requires
@@ -44,7 +44,7 @@ section-two-requires c =
 
 pub returns-clause-answers : goal.returns-clause-answers
 returns-clause-answers c =
-    let loaded : answer_out (λ n. n) c.load.result ≡ ok c.in_ok-map_err.field-0 = search rules in
+    let loaded : answer_out (λ n. n) c.count.result ≡ ok c.in_ok-map_err.field-0 = search rules in
     let found : answer_out found_out c.decode.result ≡ ok (found_out c.in_ok-found.found) = search rules in
     let other : answer_out found_out c.decode-2.result ≡ ok (found_out c.in_ok-other.other) = search rules in
     let whose : comparison_out c.map_err-4.result ≡ pair_told (answer_out totals_out c.hold.result) = search rules in
@@ -65,6 +65,6 @@ returns-clause-answers c =
       b.tables.1,
     ) at c.hold.ensures in
     rw whose
-    (by_second _ _ _ _ _ _ c.load.ensures loaded c.decode.ensures.decodes found
+    (by_second _ _ _ _ _ _ c.count.ensures loaded c.decode.ensures.decodes found
     (pair_goes_on c.decode-2.ensures.decodes (decoded c.decode.ensures.decodes found) _ _ other
     (holds (decoded c.decode.ensures.decodes found) (decoded c.decode-2.ensures.decodes other))))

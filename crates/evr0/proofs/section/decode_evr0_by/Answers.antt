@@ -5,4 +5,4 @@ use Rattle.evr0.proofs.section.decode_evr0_by.Goals as goal
 
 pub returns : goal.returns
 returns c =
-    leaves_by c.answer.ensures c.decode_given.ensures.ends (search rules) (search rules) (search rules)
+    leaves_by c.decode_given.ensures.ends (search rules) (search rules) (search rules)

@@ -1,5 +1,5 @@
 -- By the rules that were loaded, or none, where the table is refused: `DecodeLaws`.
-use mathlib.Core.Path.{refl, sym}
+use mathlib.Core.Path.{sym}
 use Rattle.evr0_rules.specs.Maps.{given_out}
 use Rattle.evr0.proofs.DecodeLaws.{ends_by, not_by}
 use Rattle.evr0.proofs.section.decode_loaded.Goals as goal
@@ -11,5 +11,5 @@ returns-in-Ok-clause-ends c =
 pub returns-in-Err-clause-ends : goal.returns-in-Err-clause-ends
 returns-in-Err-clause-ends c =
     let k = c.clear.ensures.cleared in
-    not_by (given_out c.args.rules) (sym c.in-Err.ensures) refl
+    not_by (given_out c.args.rules) (sym c.in-Err.ensures) c.refused_section.ensures
     (record { propositions = k.propositions; proofs = k.proofs; depths = k.depths })

@@ -12,7 +12,8 @@ use Rattle.derivation.specs.Rule.{Rule}
 use Rattle.evr0_section.specs.Head.{Room}
 use Rattle.evr0_head.specs.Maps.{head_out}
 use Rattle.evr0_rules.specs.Maps.{book_rules}
-use Rattle.evr0_tables.specs.LentTables.{Lent, tables_out}
+use Rattle.evr0_tables.specs.LentTables.{Lent}
+use Rattle.evr0_tables.specs.LentMaps.{tables_out}
 use Rattle.evr0.proofs.CheckLaws.{not_read, fits, may_derive, polarities, derived, not_derived}
 use Rattle.evr0.proofs.section.section_in.Goals as goal
 
@@ -23,7 +24,7 @@ returns-in_err-head-clause-passes c =
 
 pub derive_front-derived-requires : goal.derive_front-derived-requires
 derive_front-derived-requires c =
-    let among : List Rule = book_rules c.args.rules in
+    let among : List Rule = book_rules c.args.rules.now in
     let before : Lent = tables_out c.args.tables.now in
     let p : List ℕ = c.args.payload.now in
     let r = c.in_ok-head.ensures.reads in
@@ -37,7 +38,7 @@ derive_front-derived-requires c =
 
 pub returns-in-Ok-clause-passes : goal.returns-in-Ok-clause-passes
 returns-in-Ok-clause-passes c =
-    let among : List Rule = book_rules c.args.rules in
+    let among : List Rule = book_rules c.args.rules.now in
     let before : Lent = tables_out c.args.tables.now in
     let p : List ℕ = c.args.payload.now in
     let r = c.in_ok-head.ensures.reads in
@@ -47,7 +48,7 @@ returns-in-Ok-clause-passes c =
 
 pub returns-in-Err-clause-passes : goal.returns-in-Err-clause-passes
 returns-in-Err-clause-passes c =
-    let among : List Rule = book_rules c.args.rules in
+    let among : List Rule = book_rules c.args.rules.now in
     let before : Lent = tables_out c.args.tables.now in
     let p : List ℕ = c.args.payload.now in
     let r = c.in_ok-head.ensures.reads in

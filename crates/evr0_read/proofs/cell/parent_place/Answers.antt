@@ -8,4 +8,4 @@ returns-then-counts-i c =
 
 pub returns : goal.returns
 returns c =
-    parent_there _ _ _ c.if-counts-i.false c.before_parents.ensures
+    parent_there _ _ _ c.if-counts-i.false c.start_before.ensures

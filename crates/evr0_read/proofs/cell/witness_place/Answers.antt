@@ -12,4 +12,4 @@ pub returns : goal.returns
 returns c =
     let w = c.place-i.ensures in
     witness_there _ _ _ _ _ (omega (arith, c.if-counts-i.false, w))
-    (c.before_witnesses.ensures ∙ rw (c.before_parents.ensures, w) (steps_back _ _ _))
+    (c.start_before.ensures ∙ rw (c.start_before-parents_at.ensures, c.witness_size.ensures.0, w) (steps_back _ _ _))

@@ -12,17 +12,17 @@ use Rattle.evr0_records.proofs.proof.known_at.Goals as goal
 
 pub returns-in_err-value : goal.returns-in_err-value
 returns-in_err-value c =
-    rw c.from_residual.ensures (none_cut (book_rules c.args.rules) c.args.tail.now c.args.at c.in_err-value.ensures)
+    rw c.from_residual.ensures (none_cut (book_rules c.args.rules.now) c.args.tail.now c.args.at c.in_err-value.ensures)
 
 pub overflow_add-next : goal.overflow_add-next
 overflow_add-next c =
-    let p = placed (book_rules c.args.rules) c.args.tail.now c.args.at c.in_ok-value.ensures in
+    let p = placed (book_rules c.args.rules.now) c.args.tail.now c.args.at c.in_ok-value.ensures in
     omega (arith, p.1)
 
 pub returns-in_err-get : goal.returns-in_err-get
 returns-in_err-get c =
     rw c.from_residual-in_err-get.ensures
-    (none_past (book_rules c.args.rules) c.args.tail.now c.args.at c.in_ok-value.ensures
+    (none_past (book_rules c.args.rules.now) c.args.tail.now c.args.at c.in_ok-value.ensures
     (⊎_elim (λ h. absurd (omega arith)) (λ h. h) c.in_err-get.ensures.lookup.0))
 
 pub returns-in_err-rule : goal.returns-in_err-rule
@@ -32,7 +32,7 @@ returns-in_err-rule c =
     let name : c.in_ok-get.field-0.now ≡ bytes_at s v.next v.value =
     c.in_ok-get.ensures.lookup.0.2 ∙ ap (λ k. take k (drop v.next s)) (add-sub_cancel_left v.next v.value) in
     rw c.from_residual-in_err-rule.ensures
-    (none_known (book_rules c.args.rules) s c.args.at c.in_ok-value.ensures (rw name at (sym c.in_err-rule.ensures)))
+    (none_known (book_rules c.args.rules.now) s c.args.at c.in_ok-value.ensures (rw name at (sym c.in_err-rule.ensures)))
 
 pub returns : goal.returns
 returns c =
@@ -40,4 +40,4 @@ returns c =
     let v = c.in_ok-value.field-0 in
     let name : c.in_ok-get.field-0.now ≡ bytes_at s v.next v.value =
     c.in_ok-get.ensures.lookup.0.2 ∙ ap (λ k. take k (drop v.next s)) (add-sub_cancel_left v.next v.value) in
-    known_there c.args.rules s c.args.at c.in_ok-value.ensures _ c.in_ok-get.ensures.lookup.0.1 (rw name at c.in_ok-rule.ensures)
+    known_there c.args.rules.now s c.args.at c.in_ok-value.ensures _ c.in_ok-get.ensures.lookup.0.1 (rw name at c.in_ok-rule.ensures)

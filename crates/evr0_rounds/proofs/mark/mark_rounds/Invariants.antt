@@ -1,5 +1,4 @@
 -- The table is what is marked after the rounds done, and `first` is its first unmarked proof.
-use Prim.Native.Nat.{◌-◌}
 use mathlib.Core.Path.{◌≡◌}
 use mathlib.Core.List.{List}
 use lib.ListN.{length}
@@ -8,9 +7,6 @@ use Rattle.evr0_pass.specs.Tables.{tables_by}
 use Rattle.evr0_rounds.proofs.MarkLaws.{Standing}
 use Rattle.evr0_rounds.proofs.mark.mark_rounds.Given as goal
 
-abbrev pub invariant-loop-first : goal.invariant-loop-first
-invariant-loop-first l = (length l.rounds ≡ length l.tables.starts.now)
+abbrev pub invariant-loop-done : goal.invariant-loop-done
+invariant-loop-done l = (length l.rounds ≡ length l.tables.starts.now)
     × ((rules : List Rule) → Standing (tables_by rules l.tables) (length l.tables.starts.now) l.done l.first l.rounds)
-
-abbrev pub decreases-loop-first : goal.decreases-loop-first
-decreases-loop-first l = 256 - l.done

@@ -1,10 +1,10 @@
 -- Each turn is one step of the definition: what is answered from the cell reached on is the whole answer.
 use borrow.Author.Rules.{rules}
-use Prim.Native.Nat.{ℕ, ◌+◌, ◌-◌}
+use Prim.Native.Nat.{◌+◌, ◌-◌}
 use mathlib.Core.Path.{◌≡◌, sym, ap, ◌∙◌}
 use native.Mathlib.Omega.{arith}
 use Rattle.derivation.specs.Section.{proof_at}
-use Rattle.rounds.specs.InPlace.{was_marked, were_marked}
+use Rattle.rounds.specs.InPlace.{was_marked}
 use Rattle.rounds.proofs.Loops.{were_none, were_not, were_turn}
 use Rattle.evr0_pass.specs.Tables.{tables_by}
 use Rattle.evr0_rounds.proofs.mark.were_marked.Goals as goal

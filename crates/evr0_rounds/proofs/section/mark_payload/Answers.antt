@@ -1,5 +1,5 @@
 -- Meets its contract: the tables are read, and then the rounds are made, by `PayloadLaws`.
-use Prim.Native.Nat.{ℕ, ◌≤◌}
+use Prim.Native.Nat.{ℕ}
 use mathlib.Core.Path.{◌≡◌, refl, ap, ◌∙◌}
 use mathlib.Core.List.{List, []}
 use native.Mathlib.Omega.{arith}
@@ -11,7 +11,8 @@ use Rattle.lent_table.specs.Lent.{lent}
 use Rattle.derivation.specs.Rule.{Rule}
 use Rattle.evr0_section.specs.Head.{Room}
 use Rattle.evr0_rules.specs.Maps.{book_rules}
-use Rattle.evr0_tables.specs.LentTables.{Lent, tables_out}
+use Rattle.evr0_tables.specs.LentTables.{Lent}
+use Rattle.evr0_tables.specs.LentMaps.{tables_out}
 use Rattle.evr0.proofs.CheckLaws.{fits, may_derive}
 use Rattle.evr0_rounds.proofs.PayloadLaws.{not_read, not_made, rounds_made}
 use Rattle.evr0_rounds.proofs.section.mark_payload.Goals as goal
@@ -23,7 +24,7 @@ returns-in_err-head-clause-passes c =
 
 pub fill_front-filled-requires : goal.fill_front-filled-requires
 fill_front-filled-requires c =
-    let among : List Rule = book_rules c.args.rules in
+    let among : List Rule = book_rules c.args.rules.now in
     let before : Lent = tables_out c.args.tables.now in
     let p : List ℕ = c.args.payload.now in
     let r = c.in_ok-head.ensures.reads in
@@ -36,7 +37,7 @@ fill_front-filled-requires c =
 
 pub returns-in-Ok-clause-passes : goal.returns-in-Ok-clause-passes
 returns-in-Ok-clause-passes c =
-    let among : List Rule = book_rules c.args.rules in
+    let among : List Rule = book_rules c.args.rules.now in
     let before : Lent = tables_out c.args.tables.now in
     let p : List ℕ = c.args.payload.now in
     let r = c.in_ok-head.ensures.reads in
@@ -45,7 +46,7 @@ returns-in-Ok-clause-passes c =
 
 pub returns-in-Err-clause-passes : goal.returns-in-Err-clause-passes
 returns-in-Err-clause-passes c =
-    let among : List Rule = book_rules c.args.rules in
+    let among : List Rule = book_rules c.args.rules.now in
     let before : Lent = tables_out c.args.tables.now in
     let p : List ℕ = c.args.payload.now in
     let r = c.in_ok-head.ensures.reads in

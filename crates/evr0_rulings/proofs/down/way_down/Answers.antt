@@ -20,5 +20,5 @@ returns c =
     let is = ap (answer_out found_out) c.in_ok-end.was in
     let h = held _ _ _ _ _ finding is c.payload_of-payload.ensures c.front.ensures in
     told_of _ _ _ _ _ finding is _ (λ r. r)
-    (ap ok (c.down_from.ensures _ h (cells_at _ _ _ _ _ finding is c.payload_of-payload.ensures c.before_parents-cells.ensures)
+    (ap ok (c.down_from.ensures _ h (cells_at _ _ _ _ _ finding is c.payload_of-payload.ensures c.start_before-cells.ensures)
     (starts_above _ _ _ h _ (there _ _ _ _ _ finding is).at)))

@@ -12,14 +12,15 @@ use Rattle.evr0_section.specs.Section.{Tables, tables_of}
 use Rattle.evr0_section.proofs.Inside.{proposition_row_in, proof_row_in}
 use Rattle.evr0_head.specs.Maps.{counts_out, head_out}
 use Rattle.evr0_rules.specs.Maps.{book_rules}
-use Rattle.evr0_tables.specs.LentTables.{tables_out, room_of}
+use Rattle.evr0_tables.specs.LentTables.{room_of}
+use Rattle.evr0_tables.specs.LentMaps.{tables_out}
 use Rattle.evr0_tables.specs.PayloadMaps.{payload_in}
 use Rattle.evr0_tables.proofs.PayloadLaws.{next_within, owned_next, ready, no_head, payload_kept, unread, all_begun}
 use Rattle.evr0_tables.proofs.payload.begin.Goals as goal
 
 pub returns-in_err-head-clause-begins : goal.returns-in_err-head-clause-begins
 returns-in_err-head-clause-begins c =
-    unread (no_head (book_rules c.args.rules) _ _ c.in_err-head.ensures) (search rules) _ _
+    unread (no_head (book_rules c.args.rules.now) _ _ c.in_err-head.ensures) (search rules) _ _
 
 pub read_propositions-requires : goal.read_propositions-requires
 read_propositions-requires c =
@@ -27,7 +28,7 @@ read_propositions-requires c =
 
 pub returns-in_err-proofs_at-clause-begins : goal.returns-in_err-proofs_at-clause-begins
 returns-in_err-proofs_at-clause-begins c =
-    let among : List Rule = book_rules c.args.rules in
+    let among : List Rule = book_rules c.args.rules.now in
     let room : Room = room_of (tables_out c.args.tables.now) in
     let whole : Out Tables = tables_of among room c.args.payload.now in
     let e : payload_in whole ≡ refused (refusal_out c.in_err-proofs_at.field-0.0) =
@@ -44,7 +45,7 @@ read_proofs-requires c =
 
 pub returns-in_err-unowned-clause-begins : goal.returns-in_err-unowned-clause-begins
 returns-in_err-unowned-clause-begins c =
-    let among : List Rule = book_rules c.args.rules in
+    let among : List Rule = book_rules c.args.rules.now in
     let room : Room = room_of (tables_out c.args.tables.now) in
     let whole : Out Tables = tables_of among room c.args.payload.now in
     let e : payload_in whole ≡ refused (refusal_out c.in_err-unowned.field-0.0) =
@@ -57,7 +58,7 @@ returns-in_err-unowned-clause-begins c =
 
 pub returns-in_err-check-clause-begins : goal.returns-in_err-check-clause-begins
 returns-in_err-check-clause-begins c =
-    let among : List Rule = book_rules c.args.rules in
+    let among : List Rule = book_rules c.args.rules.now in
     let room : Room = room_of (tables_out c.args.tables.now) in
     let whole : Out Tables = tables_of among room c.args.payload.now in
     let e : payload_in whole ≡ refused (refusal_out c.in_err-check.field-0.0) =
@@ -71,7 +72,7 @@ returns-in_err-check-clause-begins c =
 
 pub read_rest-requires : goal.read_rest-requires
 read_rest-requires c =
-    let among : List Rule = book_rules c.args.rules in
+    let among : List Rule = book_rules c.args.rules.now in
     let counts = counts_out c.in_ok-head.head.counts in
     let r = ready _ _ c.in_ok-head.ensures in
     let within = next_within proposition_row proposition_row_in _ _ first _ r.within (sym c.in_ok-proofs_at.ensures.result_value) in
@@ -80,7 +81,7 @@ read_rest-requires c =
 
 pub returns-in_err-parents_at-clause-begins : goal.returns-in_err-parents_at-clause-begins
 returns-in_err-parents_at-clause-begins c =
-    let among : List Rule = book_rules c.args.rules in
+    let among : List Rule = book_rules c.args.rules.now in
     let room : Room = room_of (tables_out c.args.tables.now) in
     let whole : Out Tables = tables_of among room c.args.payload.now in
     let e : payload_in whole ≡ refused (refusal_out c.in_err-parents_at.field-0.0) =
@@ -95,7 +96,7 @@ returns-in_err-parents_at-clause-begins c =
 
 pub returns-clause-begins : goal.returns-clause-begins
 returns-clause-begins c =
-    let among : List Rule = book_rules c.args.rules in
+    let among : List Rule = book_rules c.args.rules.now in
     let room : Room = room_of (tables_out c.args.tables.now) in
     let whole : Out Tables = tables_of among room c.args.payload.now in
     let e : payload_in whole ≡ ok (record {

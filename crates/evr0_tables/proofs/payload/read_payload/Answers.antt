@@ -6,7 +6,7 @@ use Rattle.evr0_tables.proofs.payload.read_payload.Goals as goal
 pub returns-in-Ok-clause-reads : goal.returns-in-Ok-clause-reads
 returns-in-Ok-clause-reads c =
     let b = c.in-Ok.ensures in
-    cleared_past _ _ _ b.begins b.same.room c.clear_from.ensures c.clear_from-in-Ok.ensures refl
+    rw c.in-Ok.is (cleared_past _ _ _ b.begins b.same.room c.clear_from.ensures c.clear_from-in-Ok.ensures refl)
 
 pub returns-in-Err-clause-reads : goal.returns-in-Err-clause-reads
 returns-in-Err-clause-reads c =

@@ -18,33 +18,33 @@ use Rattle.evr0_tables.proofs.rows.next_proof.Goals as goal
 pub returns-in_err-proof : goal.returns-in_err-proof
 returns-in_err-proof c =
     let a = c.args in
-    let among : List Rule = book_rules a.rules in
+    let among : List Rule = book_rules a.rules.now in
     let part : List ℕ = c.tail.result.now in
     let e : refused (refusal_out c.in_err-proof.field-0.0) ≡ noted_in (proof_row among (counts_out a.counts) (unowned_out a.unowned) part) =
-    row_refused (chars_by a.rules) among part _ _ c.in_err-proof.ensures in
+    row_refused (chars_by a.rules.now) among part _ _ c.in_err-proof.ensures in
     rw (← c.tail.ensures, ← e) (search rules)
 
 pub returns-in_err-rule : goal.returns-in_err-rule
 returns-in_err-rule c =
     let a = c.args in
-    let among : List Rule = book_rules a.rules in
+    let among : List Rule = book_rules a.rules.now in
     let part : List ℕ = c.tail.result.now in
     let proof = c.in_ok-proof.field-0.proof in
     let name : List ℕ = bytes_at part proof.rule_id.start proof.rule_id.len in
-    let told = name_told (chars_by a.rules) among part (proof_record proof) _ _ c.in_ok-proof.ensures in
+    let told = name_told (chars_by a.rules.now) among part (proof_record proof) _ _ c.in_ok-proof.ensures in
     let e : refused (refusal_out c.in_err-rule.field-0.0) ≡ noted_in (proof_row among (counts_out a.counts) (unowned_out a.unowned) part) =
-    row_unsettled (chars_by a.rules) among part _ _ _ c.in_ok-proof.ensures _ _ (c.in_err-rule.ensures among name told) in
+    row_unsettled (chars_by a.rules.now) among part _ _ _ c.in_ok-proof.ensures _ _ (c.in_err-rule.ensures among name told) in
     rw (← c.tail.ensures, ← e) (search rules)
 
 pub returns : goal.returns
 returns c =
     let a = c.args in
-    let among : List Rule = book_rules a.rules in
+    let among : List Rule = book_rules a.rules.now in
     let part : List ℕ = c.tail.result.now in
     let proof = c.in_ok-proof.field-0.proof in
     let name : List ℕ = bytes_at part proof.rule_id.start proof.rule_id.len in
-    let told = name_told (chars_by a.rules) among part (proof_record proof) _ _ c.in_ok-proof.ensures in
-    let settled = row_settled (chars_by a.rules) among part (proof_record proof) _ _ c.in_ok-proof.ensures
+    let told = name_told (chars_by a.rules.now) among part (proof_record proof) _ _ c.in_ok-proof.ensures in
+    let settled = row_settled (chars_by a.rules.now) among part (proof_record proof) _ _ c.in_ok-proof.ensures
     (counts_out a.counts) (unowned_out a.unowned) (c.in_ok-rule.ensures among name told) in
     rw (← c.tail.ensures)
     (ap (λ (u : Unowned). ok (record { polarity = c.in_ok-rule.rule.polarity; kept = record { size = c.in_ok-proof.field-0.size; state = u } }))

@@ -20,7 +20,7 @@ use Rattle.evr0_tables.proofs.tables.read_proofs.Goals as goal
 
 pub returns-in_err-noted : goal.returns-in_err-noted
 returns-in_err-noted c =
-    let among : List Rule = book_rules c.args.rules in
+    let among : List Rule = book_rules c.args.rules.now in
     let row = proof_row among (counts_out c.args.counts) in
     let q = refused_there noted_out _ _ c.next_proof.ensures c.in_err-noted.ensures in
     let e = stop c.loop-i.invariant.0 (proof_row_in _ _ _ _) (omega arith) (noted_refused (row _ _) q.1) (omega arith) in
@@ -32,7 +32,7 @@ returns-in_err-noted c =
 
 pub overflow_add-place : goal.overflow_add-place
 overflow_add-place c =
-    let among : List Rule = book_rules c.args.rules in
+    let among : List Rule = book_rules c.args.rules.now in
     let row = proof_row among (counts_out c.args.counts) in
     let k = read_there noted_out _ _ c.next_proof.ensures c.in_ok-noted.ensures in
     let on = advance c.loop-i.invariant.0 (proof_row_in _ _ _ _) (omega arith) (noted_kept (row _ _) k) in
@@ -40,7 +40,7 @@ overflow_add-place c =
 
 pub loop-i-preserved : goal.loop-i-preserved
 loop-i-preserved c =
-    let among : List Rule = book_rules c.args.rules in
+    let among : List Rule = book_rules c.args.rules.now in
     let row = proof_row among (counts_out c.args.counts) in
     let i = c.loop-i.invariant in
     let k = read_there noted_out _ _ c.next_proof.ensures c.in_ok-noted.ensures in

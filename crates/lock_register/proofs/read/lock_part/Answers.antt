@@ -17,4 +17,4 @@ returns-then-parts-part c =
 pub returns : goal.returns
 returns c =
     let l = c.in-Some.ensures.lookup in
-    part_told c.args.register.now _ _ c.held_locks.ensures l.3.0 _ (l.3.1 []) (search rules) _ c.parts.ensures (omega arith) c.part_in.ensures
+    part_told c.args.register.now _ _ c.held_locks.ensures l.3.0 _ (l.3.1 []) (search rules) _ c.parts.ensures (omega arith) c.from.ensures

@@ -1,7 +1,7 @@
 -- Meets its contract, a turn at a time.
 use mathlib.Core.Path.{refl}
 use native.Mathlib.Omega.{arith}
-use Rattle.evr0_compare.proofs.Merge.{begins, ends}
+use Rattle.evr0_compare.proofs.Merge.{ends}
 use Rattle.section_pair.proofs.ListLaws.{turn}
 use Rattle.section_pair.proofs.list.list.Goals as goal
 

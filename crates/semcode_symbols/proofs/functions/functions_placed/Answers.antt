@@ -14,28 +14,34 @@ told : (bytes functions strings paths families : List ℕ) (cursor revision symb
 told bytes functions strings paths families cursor revision symbols is answered =
     file_lies revision (rooms_of (tables strings paths families) symbols) bytes cursor 1024 (length functions) (is ∙ ap last_in answered)
 
-pub returns-then-count-lt1 : goal.returns-then-count-lt1
-returns-then-count-lt1 c =
+pub returns-in_default : goal.returns-in_default
+returns-in_default c =
     let a = c.args in
     let read = c.read_functions-answer.ensures in
     let lie =
-    told a.bytes.now a.functions.now a.strings.now a.paths.now a.families.now a.cursor a.header_rev a.symbols c.last_of-last.ensures read.answer in
-    let none = rw c.last_symbol_count-count.ensures at c.if-count-lt1.true in
-    record { decoded = read; lies = lie_anywhere lie none }
+    told a.bytes.now a.functions.now a.strings.now a.paths.now a.families.now a.cursor a.header_rev a.symbols c.in_default.ensures read.answer in
+    record { decoded = read; lies = lie }
 
-pub last_symbols_start-at-requires : goal.last_symbols_start-at-requires
-last_symbols_start-at-requires c =
+pub overflow_add-at : goal.overflow_add-at
+overflow_add-at c =
     let a = c.args in
     let lie =
     told a.bytes.now a.functions.now a.strings.now a.paths.now a.families.now a.cursor a.header_rev a.symbols
-    c.last_of-last.ensures c.read_functions-answer.ensures.answer in
-    let some = rw c.last_symbol_count-count.ensures at c.if-count-lt1.false in
-    omega (arith, some, lie.inside)
+    c.in-Some.ensures c.read_functions-answer.ensures.answer in
+    record { fits = omega (arith, lie.inside) }
 
-pub returns : goal.returns
-returns c =
+pub returns-then-count-eq0 : goal.returns-then-count-eq0
+returns-then-count-eq0 c =
     let a = c.args in
     let read = c.read_functions-answer.ensures in
     let lie =
-    told a.bytes.now a.functions.now a.strings.now a.paths.now a.families.now a.cursor a.header_rev a.symbols c.last_of-last.ensures read.answer in
-    rw (c.last_symbols_start-at.ensures, c.last_symbol_count-count.ensures) (record { decoded = read; lies = lie })
+    told a.bytes.now a.functions.now a.strings.now a.paths.now a.families.now a.cursor a.header_rev a.symbols c.in-Some.ensures read.answer in
+    rw c.if-count-eq0.true (record { decoded = read; lies = lie_anywhere lie (omega arith) })
+
+pub returns-else-count-eq0 : goal.returns-else-count-eq0
+returns-else-count-eq0 c =
+    let a = c.args in
+    let read = c.read_functions-answer.ensures in
+    let lie =
+    told a.bytes.now a.functions.now a.strings.now a.paths.now a.families.now a.cursor a.header_rev a.symbols c.in-Some.ensures read.answer in
+    record { decoded = read; lies = lie }

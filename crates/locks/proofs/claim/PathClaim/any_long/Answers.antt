@@ -1,9 +1,8 @@
 -- Meets its contract. The invariant: no path before the start is long.
 use native.Mathlib.Omega.{arith}
-use Rattle.locks.specs.Maps.{front_is}
-use Rattle.locks.proofs.KeyLaws.{found, not_found}
+use Rattle.locks.proofs.KeyLaws.{front_in, found, not_found}
 use Rattle.locks.proofs.ClaimLaws.{short_none, long_found, short_more, short_past, short_all}
-use Rattle.locks.proofs.claim.PathClaim.any_long.Goals.{in-Some+else-path-gt16, in_default}
+use Rattle.locks.proofs.claim.PathClaim.any_long.Goals.{in-Ok+else-path-gt16, in_default}
 use Rattle.locks.proofs.claim.PathClaim.any_long.Goals as goal
 
 pub loop-start-init : goal.loop-start-init
@@ -12,15 +11,15 @@ loop-start-init c =
 
 pub returns-then-path-gt16 : goal.returns-then-path-gt16
 returns-then-path-gt16 c =
-    long_found _ _ _ _ _ c.loop-start-test.true (front_is c.in-Some.path) (found _ _ c.in-Some.ensures) c.if-path-gt16.true
+    long_found _ _ _ _ _ c.loop-start-test.true (front_in c.in-Ok.path) (found _ _ _ _ c.in-Ok.ensures) c.if-path-gt16.true
 
 pub loop-start-preserved : goal.loop-start-preserved
 loop-start-preserved c =
     let next = c.loop-start-test.true in
     elim c.match-read_front.branch [
-      | in-Some+else-path-gt16 w ↦
-          short_more _ _ _ _ _ next (front_is w.in-Some.path) (found _ _ w.in-Some.ensures) w.if-path-gt16.false c.loop-start.invariant
-      | in_default w ↦ short_past _ _ _ _ _ next (not_found w.in_default.ensures)
+      | in-Ok+else-path-gt16 w ↦
+          short_more _ _ _ _ _ next (front_in w.in-Ok.path) (found _ _ _ _ w.in-Ok.ensures) w.if-path-gt16.false c.loop-start.invariant
+      | in_default w ↦ short_past _ _ _ _ _ next (not_found _ _ _ w.in_default.ensures)
     ]
 
 pub returns : goal.returns

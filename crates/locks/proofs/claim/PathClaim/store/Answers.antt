@@ -7,20 +7,24 @@ use Rattle.lock_words.proofs.WordLaws.{locks_length}
 use Rattle.locks.proofs.ClaimLaws.{storing, stores, stored}
 use Rattle.locks.proofs.claim.PathClaim.store.Goals as goal
 
-pub loop-start-init : goal.loop-start-init
-loop-start-init c =
-    let words = c.args.register.now in
-    let e : c.held-to.result ≡ held_in words = c.held-to.ensures.all ∙ locks_length (held_in words) words in
-    (omega arith, storing _ _ _ _ _ _ _)
+pub loop-i-init : goal.loop-i-init
+loop-i-init c =
+    storing _ _ _ _ _ _ _
 
-pub loop-start-preserved : goal.loop-start-preserved
-loop-start-preserved c =
-    let l = c.loop-start in (
-      omega (arith, l.invariant.0),
-      stores _ _ _ _ _ _ _ _ c.loop-start-test.true _ c.path_key-key.ensures _ l.invariant.1 _ _ l.invariant.0 c.put_lock.ensures,
-    )
+pub put_lock-requires : goal.put_lock-requires
+put_lock-requires c =
+    let words = c.args.register.now in
+    let e : c.held-before.result ≡ held_in words = c.held-before.ensures.all ∙ locks_length (held_in words) words in
+    omega arith
+
+pub loop-i-preserved : goal.loop-i-preserved
+loop-i-preserved c =
+    let words = c.args.register.now in
+    let e : c.held-before.result ≡ held_in words = c.held-before.ensures.all ∙ locks_length (held_in words) words in
+    stores _ _ _ _ _ _ _ _ c.loop-i-test.true _ c.path_key-key.ensures _ c.loop-i.invariant _ _ (omega arith) c.put_lock.ensures
 
 pub returns : goal.returns
 returns c =
-    let l = c.loop-start in
-    stored _ _ _ _ _ _ _ _ _ _ l.invariant.1 (omega arith) l.invariant.0 (omega (arith, l.invariant.0)) (search rules)
+    let words = c.args.register.now in
+    let e : c.held-before.result ≡ held_in words = c.held-before.ensures.all ∙ locks_length (held_in words) words in
+    stored _ _ _ _ _ _ _ _ _ _ c.loop-i.invariant (omega arith) (omega arith) (omega arith) (search rules)

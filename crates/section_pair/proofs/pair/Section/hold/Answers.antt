@@ -1,18 +1,14 @@
 -- Meets its contract: 74, the list, 61, by `PairLaws`.
 use borrow.Author.Rules.{rules}
 use mathlib.Core.Path.{◌≡◌, ap₂, ◌∙◌}
-use native.Mathlib.Omega.{arith}
 use Rattle.std.proofs.Math.Logic.{∥∥₁_elim}
 use Rattle.std.proofs.Props.{props}
 use Rattle.local_format.specs.Out.{refused}
 use Rattle.local_format.specs.Maps.{answer_out, refusal_out}
 use Rattle.local_format.specs.Tag.{equal}
 use Rattle.section_pair.specs.Maps.{totals_out}
-use Rattle.section_pair.proofs.PairLaws.{inside_told, seen, differ, short, counts_add, fits}
+use Rattle.section_pair.proofs.PairLaws.{seen, differ, short, counts_add, fits}
 use Rattle.section_pair.proofs.pair.Section.hold.Goals as goal
-
-pub overflow_add-second : goal.overflow_add-second
-overflow_add-second c = omega (arith, inside_told c.args.second.told)
 
 pub returns-in_err-check : goal.returns-in_err-check
 returns-in_err-check c a b =
