@@ -11,14 +11,14 @@ use lib.Dec.{eqb}
 use lib.ListN.{length, get_or, drop, set, length-map, length-set, length-append, length-replicate, get_or-replicate, drop_of_length-le}
 use lib.ListN.{get_or-append, replicate}
 use lib.Seq.{drop-cons, get_or-append-add, get_or-set_same, get_or-set_other, ext_get_or}
-use borrow.Author.Tests.{eq-eqb, ne_eqb, eqb-true, eqb-false}
+use borrow.Author.Tests.{eqb-true, eqb-false}
 use Rattle.lent_table.specs.Lent.{lent}
 use Rattle.derivation.specs.Section as derivation
 use Rattle.derivation.specs.Section.{Proof, no_proof}
 use Rattle.derivation.specs.Friendly.{operates, authorised}
 use Rattle.derivation.proofs.Tests.{order}
 use Rattle.evr0_pass.proofs.ViewLaws.{get_or_map_in}
-use Rattle.evr0_authorised.specs.Maps.{own}
+use Rattle.evr0_authorised.specs.Maps.{operating, own}
 use Rattle.evr0_section.specs.Section.{Section, section_of}
 use Rattle.authorised_table.specs.Answer.{flags_from, flags_of, FlagsStated}
 use Rattle.authorised_table.specs.Steps.{flagged, flagged_by}
@@ -51,23 +51,15 @@ set_outside (x ∷ xs) (suc i) n h = ap (λ (l : List ℕ). x ∷ l) (set_outsid
 
 -- by the tests of the code
 module _ (p : Proof) (m : ℕ) (flags : List ℕ) where
-  pub not_marked : (m ≡ 1 → ⊥) → flags ≡ flagged p m flags
-  not_marked h = go (eqb p.operation 1)
-    where
-      go : (b : Bool) → flags ≡ cond (b && eqb m 1) (set flags p.proposition 1) flags
-      go true = rw (ne_eqb m 1 h)
-      go false = refl
+  pub no_operation : operating p m ≡ false → flags ≡ flagged p m flags
+  no_operation e = rw e
 
-  module _ (op : ℕ) (is : op ≡ p.operation) where
-    pub no_operation : (op ≡ 1 → ⊥) → flags ≡ flagged p m flags
-    no_operation h = rw (← is, ne_eqb op 1 h)
+  module _ (e : operating p m ≡ true) (n : ℕ) (of : n ≡ p.proposition) where
+    pub set_here : set flags n 1 ≡ flagged p m flags
+    set_here = rw (e, ← of)
 
-    module _ (one : op ≡ 1) (marked : m ≡ 1) (n : ℕ) (of : n ≡ p.proposition) where
-      pub set_here : set flags n 1 ≡ flagged p m flags
-      set_here = rw (← is, eq-eqb op 1 one, eq-eqb m 1 marked, ← of)
-
-      pub none_there : length flags ≤ n → flags ≡ flagged p m flags
-      none_there h = sym (set_outside flags n 1 h) ∙ set_here
+    pub none_there : length flags ≤ n → flags ≡ flagged p m flags
+    none_there h = sym (set_outside flags n 1 h) ∙ set_here
 
 -- ---- All proofs
 flags_length : (ps : List Proof) (ms flags : List ℕ) → length (flagged_by ps ms flags) ≡ length flags

@@ -10,8 +10,9 @@ ghost use Rattle.authorised_table.specs.Answer.{with_authorised, TellsBy};
 ghost use Rattle.authorised_table.specs.Steps.{flagged, flagged_by};
 
 use evr0::section::DecodedEvr0;
+use evr0_authorised::authorised::operates;
 use evr0_marks::section::{decode_evr0_section_by, tables_of};
-use evr0_pass::pass::{Tables, after_name};
+use evr0_pass::pass::Tables;
 use evr0_rules::settle::Rules;
 use lent_table::{clear, clear_from};
 use local_format::field::LittleEndian;
@@ -23,8 +24,7 @@ fn flag(payload: &[u8], start: usize, mark: u8, authorised: &mut [u8])
     ensures { (rules : List Rule)
         → authorised.new ≡ flagged (proof_view rules payload.now start) mark authorised.old }
 {
-    let positive = mark == 1;
-    if positive && payload[after_name(payload, start) + 20] == 1 {
+    if operates(payload, start, mark) {
         let proposition = u32::le_at(payload, start + 4) as usize;
         if proposition < authorised.len() {
             authorised[proposition] = 1;

@@ -1,11 +1,11 @@
 -- Bytes written after other bytes are the bytes of both written at once, wherever the list ends.
-use Prim.Native.Nat.{ℕ, suc, ◌+◌, ◌-◌, ◌≤◌, ◌<◌, min}
+use Prim.Native.Nat.{ℕ, zero, suc, ◌+◌, ◌-◌, ◌≤◌, ◌<◌, min}
 use mathlib.Core.Path.{◌≡◌, refl, sym, ap, ◌∙◌}
 use mathlib.Core.List.{List, [], ◌∷◌, ◌++◌, append_assoc, append-nil}
 use native.Mathlib.Omega.{arith}
 use native.Mathlib.Nat.{add-zero, add-suc, suc-add, lt_of_not-le}
 use native.Mathlib.Decide.{dec_le}
-use lib.ListN.{length, take, drop, length-append, length-drop, drop_of_length-le}
+use lib.ListN.{length, set, take, drop, length-set, length-append, length-drop, drop_of_length-le}
 use lib.Seq.{sets, length-sets, sets-eq, set_out, take_all, drop-drop, take-append_seam}
 use borrow.Rule.Slice.PartMut.{put_mid}
 use Rattle.local_format.specs.Out.{held}
@@ -35,6 +35,21 @@ sets_part s at xs h e =
 sets_past : (s : List ℕ) (at : ℕ) (ys : List ℕ) → length s ≤ at → sets s at ys ≡ s
 sets_past s at [] h = refl
 sets_past s at (y ∷ ys) h = rw (set_out s at y h) (sets_past s (suc at) ys (omega arith))
+
+-- what fits is all that is written
+sets_cut : (s : List ℕ) (at k : ℕ) (xs : List ℕ) → k ≡ min (length xs) (length s - at) → sets s at (take k xs) ≡ sets s at xs
+sets_cut s at zero [] e = refl
+sets_cut s at (suc k) [] e = refl
+sets_cut s at zero (x ∷ xs) e = sym (sets_past s at (x ∷ xs) (omega arith))
+sets_cut s at (suc k) (x ∷ xs) e = sets_cut (set s at x) (suc at) k xs (omega (arith, length-set s at x))
+
+pub sets_fit : (s : List ℕ) (at start fit : ℕ) (xs : List ℕ) → start ≡ min at (length s) → fit ≡ min (length xs) (length s - start)
+    → sets s start (take fit xs) ≡ sets s at xs
+sets_fit s at start fit xs e f =
+    elim (dec_le at (length s)) [
+      | yes h ↦ (let a : start ≡ at = omega arith in rw a (sets_cut s at fit xs (omega arith)))
+      | no h ↦ (let z : fit ≡ 0 = omega (arith, lt_of_not-le h) in rw z (sym (sets_past s at xs (omega (arith, lt_of_not-le h)))))
+    ]
 
 pub written_none : (s : List ℕ) (at : ℕ) → length s ≤ 18446744073709551615 → at ≤ 18446744073709551615 → Written s at [] s at
 unfolding held
@@ -74,17 +89,16 @@ module _ {s t : List ℕ} {n : ℕ} {xs : List ℕ} (w : Written s 0 xs t n) whe
 
 -- ---- The same of an output
 pub same_none : (o : Output) → Same o o
-same_none o = record { name = refl; long = refl; stands = λ h. h }
+same_none o = record { name = refl; long = refl }
 
 pub same_more : {a b c : Output} → Same a b → Same b c → Same a c
-same_more s t = record { name = t.name ∙ s.name; long = t.long ∙ s.long; stands = λ h. t.stands (s.stands h) }
+same_more s t = record { name = t.name ∙ s.name; long = t.long ∙ s.long }
 
 pub writes_now : {a b : Output} {xs : List ℕ} → b.bytes.ghost_name ≡ a.bytes.ghost_name → Written a.bytes.now a.next xs b.bytes.now b.next → Writes a xs b
-unfolding held
-writes_now e w = record { same = record { name = e; long = written_length w; stands = λ h. omega (arith, w.place) }; written = λ h. w }
+writes_now e w = record { same = record { name = e; long = written_length w }; written = w }
 
-pub writes_none : (o : Output) → length o.bytes.now ≤ 18446744073709551615 → Writes o [] o
-writes_none o h = record { same = same_none o; written = λ k. written_none o.bytes.now o.next h k }
+pub writes_none : (o : Output) → length o.bytes.now ≤ 18446744073709551615 → o.next ≤ 18446744073709551615 → Writes o [] o
+writes_none o h k = record { same = same_none o; written = written_none o.bytes.now o.next h k }
 
 pub writes_append : {a b c : Output} {xs ys : List ℕ} → Writes a xs b → Writes b ys c → Writes a (xs ++ ys) c
-writes_append v w = record { same = same_more v.same w.same; written = λ h. written_append (v.written h) (w.written (v.same.stands h)) }
+writes_append v w = record { same = same_more v.same w.same; written = written_append v.written w.written }

@@ -2,17 +2,20 @@
 // number, is the length that all of them take, so it is above the buffer's length exactly where some were dropped.
 #![tactic(auto)]
 
-ghost use Rattle.std.specs.Prelude.{◌≡◌, [], ◌∷◌};
-ghost use Rattle.byte_output.specs.Maps.{Writes};
+ghost use Rattle.std.specs.Prelude.{◌≤◌};
 
 // A lent buffer, and the place of the next byte.
 #[derive(Drop)]
 pub struct Output<'a> {
     pub bytes: &'a mut [u8],
     pub next: usize,
+    pub ghost stands: { next ≤ 18446744073709551615 },
 }
 
 impl<'a> Output<'a> {
+    ghost use Rattle.std.specs.Prelude.{[], ◌∷◌};
+    ghost use Rattle.byte_output.specs.Maps.{Writes};
+
     // Kept (2d, 6a): no heap, so the buffer is lent and no Vec; what does not fit is counted, where section_pair's list of verdicts drops it.
     pub fn put(&mut self, byte: u8)
         ensures { Writes self.old (byte ∷ []) self.new }
@@ -25,20 +28,12 @@ impl<'a> Output<'a> {
         }
     }
 
-    // Kept (6a): the same; bytes past the end are counted one by one.
     pub fn put_bytes(&mut self, bytes: &[u8])
         ensures { Writes self.old bytes.now self.new }
     {
-        if self.next < self.bytes.len() {
-            if bytes.len() <= self.bytes.len() - self.next {
-                let end = self.next + bytes.len();
-                self.bytes[self.next..end].copy_from_slice(bytes);
-                self.next = end;
-                return;
-            }
-        }
-        for &byte in bytes {
-            self.put(byte);
-        }
+        let start = self.next.min(self.bytes.len());
+        let fit = bytes.len().min(self.bytes.len() - start);
+        self.bytes[start..start + fit].copy_from_slice(&bytes[..fit]);
+        self.next = local_format::refusal::diag_offset(self.next, bytes.len());
     }
 }

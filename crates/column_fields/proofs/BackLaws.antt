@@ -15,10 +15,11 @@ pub record PuttingPlain (size n : ℕ) (before after : Output) (left i : ℕ) : 
   pub written : Writes before done after
   pub same : number size n ≡ done ++ number (size - i) left
 
-pub plainly_first : (size n : ℕ) (o : Output) → length o.bytes.now ≤ 18446744073709551615 → PuttingPlain size n o o n 0
-plainly_first size n o h =
+pub plainly_first : (size n : ℕ) (o : Output) → length o.bytes.now ≤ 18446744073709551615
+    → o.next ≤ 18446744073709551615 → PuttingPlain size n o o n 0
+plainly_first size n o h k =
     let e : size ≡ size - 0 = omega arith in
-    record { done = []; written = writes_none o h; same = ap (λ (w : ℕ). number w n) e }
+    record { done = []; written = writes_none o h k; same = ap (λ (w : ℕ). number w n) e }
 
 module _ {size n : ℕ} {before after : Output} {left i : ℕ} (p : PuttingPlain size n before after left i) where
   pub plainly_more : {t : Output} → i < size → Writes after ((left % 256) ∷ []) t → PuttingPlain size n before t (left / 256) (i + 1)

@@ -20,7 +20,7 @@ fn raw_at(bytes: &[u8], at: usize, size: usize) -> Result<usize, Refusal>
 }
 
 // The place after the field at `at`.
-// Kept (2d, 7d): an Item is an enum with data, matched once; columns_put's after_field steps over bytes that are known to be there, and refuses none.
+// Kept (2d, 7d): an Item is an enum with data, matched once here, and once by `move_field`, which writes what it reads and refuses nothing.
 pub fn field_at(bytes: &[u8], at: usize, item: Item) -> Result<usize, Refusal>
     ensures { place_in bytes.now result ≡ field_past (item_of item) bytes.now at }
 {

@@ -57,9 +57,11 @@ fn move_text<A: NumberForm, B: NumberForm>(bytes: &[u8], at: usize, out: &mut Ou
     size.next + len
 }
 
-// The field at `at`, read in the form `A` and written in the form `B`, and the place after it: nothing, and no step, where it is refused.
-// Kept (1d): put_head and put_column drop the place, and take_row's cursor stays where it is on a refusal: an Option would be unwrapped to `at` each time.
+// The field at `at`, read in the form `A` and written in the form `B`, and the place after it: nothing, and no step, where it is refused. It is
+// compiled into its callers, so that a loop over a column looks once at what its field is.
+// Kept (1d): two of the three callers, put_head and take_row, go on from `at` where the field is refused.
 // Kept (7d): an Item is an enum with data, matched once.
+#[inline(always)]
 pub fn move_field<A: NumberForm, B: NumberForm>(
     bytes: &[u8],
     at: usize,

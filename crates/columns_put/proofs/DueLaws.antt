@@ -171,7 +171,7 @@ module _ {section propositions proofs : List ℕ} {witnesses parents width : ℕ
     pub all_put : {s t u v : Output} → s.next ≡ 0 → Writes s (fields_moved head_items section 0) t → Writes t (listed_moved p propositions proofs) u
         → Writes u (last_moved span p witnesses parents) v → Puts section s.bytes.now v.bytes.now v.next
     all_put {s} {v = v} z h l e =
-        let w = (writes_append (writes_append h l) e).written (omega (arith, z)) in
+        let w = (writes_append (writes_append h l) e).written in
         record { columns = _; are = k.columns; put = rw (← append_assoc, ← part, ← same) (rw z at w) }
 
 pub put_as : {section before after columns : List ℕ} {next : ℕ} → Puts section before after next → columns_of section ≡ ok columns

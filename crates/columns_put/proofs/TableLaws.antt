@@ -43,8 +43,9 @@ pub record Putting (items : List Item) (c starts : List ℕ) (before after : Out
   pub written : Writes before done after
   pub same : table_moved items c starts ≡ done ++ others_moved (take j items) (drop j items) c starts
 
-pub putting_first : (items : List Item) (c starts : List ℕ) (o : Output) → length o.bytes.now ≤ 18446744073709551615 → Putting items c starts o o 0
-putting_first items c starts o h = record { done = []; written = writes_none o h; same = refl }
+pub putting_first : (items : List Item) (c starts : List ℕ) (o : Output) → length o.bytes.now ≤ 18446744073709551615
+    → o.next ≤ 18446744073709551615 → Putting items c starts o o 0
+putting_first items c starts o h k = record { done = []; written = writes_none o h k; same = refl }
 
 module _ {items : List Item} {c starts : List ℕ} {before after : Output} {j : ℕ} (p : Putting items c starts before after j) where
   pub putting_more : (path : Path) {item : Item} {t : Output} → j < length items → item ≡ get_or items j (raw 0)

@@ -60,7 +60,7 @@ fn put_even(payload: &[u8], span: Width, witnesses: usize, parents: usize, out: 
 
 // The columns of a section whose tables were read, with the starts of its propositions and proofs in the payload: how long they are. Bytes past
 // the output's end are dropped and counted.
-// Kept (1a): span_of takes each number of 16 bits for a schema, as the sections of the Rust may have any.
+// Kept (1a): the schema is the number that the decoder's public answer holds (`Accepted`), which C reads too.
 // Kept (6a): the two tables are lent, already cut to their counts; no heap, so no Vec.
 pub fn put_section(
     section: &[u8],

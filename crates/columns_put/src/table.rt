@@ -24,7 +24,7 @@ fn put_column(bytes: &[u8], records: Records, path: Path, item: Item, out: &mut 
 }
 
 // Column by column; not of the head, which has two texts.
-// Kept (2d): three walks over the columns of a table with a step each: this one puts a column, table_at passes one, take_row takes a field of each.
+// Kept (2d): put_table, table_at and take_row walk the columns with a step each: over a closure each call states what its step does, for one `for` line.
 pub fn put_table(bytes: &[u8], table: Table, records: Records, out: &mut Output)
     requires { OneText table × Fits records × Inside bytes.now (items_of table) (starts_in records) }
     ensures { Writes out.old (table_moved (items_of table) bytes.now (starts_in records.entry)) out.new }

@@ -17,7 +17,7 @@ use Rattle.evr0_section.specs.Head.{span_width}
 use Rattle.evr0_columns.specs.Form.{each, get_many}
 use Rattle.evr0_columns.specs.Layout.{Item, raw, whole, text, Of, Record, copied, in_bytes, in_groups, field, fields, by_row, by_column}
 use Rattle.evr0_columns.specs.Columns.{head_items, Head, schema_of}
-use Rattle.columns_rebuild.specs.Stand.{part, Column, Stand}
+use Rattle.columns_rebuild.specs.Stand.{part, Stand}
 use Rattle.columns_rebuild.specs.Took.{Took, Stopped}
 use Rattle.columns_rebuild.specs.Maps.{Announces, HeadTook}
 use Rattle.columns_rebuild.specs.declared.head.Announced.{Announced}
@@ -111,19 +111,17 @@ copied_there n end s g e = go (leb n (length s)) refl e
     go false h f = absurd (never f)
 
 module _ {c : List ℕ} {h : Head} {starts : List ℕ} (s : Stand c head_items (h ∷ []) starts) where
-  head_column : {at : ℕ} (k : ℕ) → k < 13 → at ≡ get_or starts k 0 → Column c head_items k (h ∷ []) at
-  head_column k l e = rw e (s.column k l)
-
-  pub head_count : {at r : ℕ} (k : ℕ) → k < 13 → get_or head_items k (raw 0) ≡ whole 4 → at ≡ get_or starts k 0 → Counts c at r
+  pub head_count : {r : ℕ} (k : ℕ) → k < 13 → get_or head_items k (raw 0) ≡ whole 4 → Counts c (get_or starts k 0) r
       → r ≡ value_of (get_or head_items k (raw 0)) (part head_items k h)
-  head_count {at} {r} k l i e n =
-      let (g, f, v, more) = column_field (head_column k l e) in
-      count_is c at r (get_or head_items k (raw 0)) g i f n ∙ ap (value_of (get_or head_items k (raw 0))) v
+  head_count {r} k l i n =
+      let (g, f, v, more) = column_field (s.column k l) in
+      count_is c (get_or starts k 0) r (get_or head_items k (raw 0)) g i f n ∙ ap (value_of (get_or head_items k (raw 0))) v
 
-  pub head_span : {at width : ℕ} → at ≡ get_or starts 2 0 → (at + 2 ≤ length c → width ≡ span_width (le 2 c at)) → width ≡ span_width (schema_of h)
+  pub head_span : {width : ℕ} → (get_or starts 2 0 + 2 ≤ length c → width ≡ span_width (le 2 c (get_or starts 2 0))) → width ≡ span_width (schema_of h)
   unfolding field
-  head_span {at} e w =
-      let (g, f, v, more) = column_field (head_column 2 (omega arith) e) in
+  head_span w =
+      let at = get_or starts 2 0 in
+      let (g, f, v, more) = column_field (s.column 2 (omega arith)) in
       let (enough, is) = copied_there 2 (length c) (drop at c) g f in
       let k : at + 0 ≡ at = omega arith in
       let same : le 2 h.1.1.0 0 ≡ le 2 c at =

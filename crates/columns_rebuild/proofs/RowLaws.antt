@@ -11,7 +11,7 @@ use lib.Seq.{get_or-set_same, get_or-set_other}
 use Rattle.local_format.specs.Out.{ok}
 use Rattle.local_format.proofs.OutLaws.{ok_same, bind_ok}
 use Rattle.byte_output.specs.Written.{Written}
-use Rattle.byte_output.specs.Maps.{Stands, Writes}
+use Rattle.byte_output.specs.Maps.{Writes}
 use Rattle.byte_output.specs.declared.Output.{Output}
 use Rattle.byte_output.proofs.WrittenLaws.{written_none, written_append, writes_none, writes_append}
 use Rattle.derivation.proofs.Tests.{order}
@@ -94,12 +94,13 @@ pub record Rowing (c : List ℕ) (items : List Item) (row : Record items) (rows 
   pub here : (k : ℕ) → k < length items → j ≤ k → Column c items k (row ∷ rows) (get_or cursors k 0)
 
 pub rowing_first : {c : List ℕ} {items : List Item} {row : Record items} {rows : List (Record items)} {cursors : List ℕ} (before : Output)
-    → length before.bytes.now ≤ 18446744073709551615 → Stand c items (row ∷ rows) cursors → Rowing c items row rows before 0 cursors before
-rowing_first before h s =
+    → length before.bytes.now ≤ 18446744073709551615 → before.next ≤ 18446744073709551615 → Stand c items (row ∷ rows) cursors
+    → Rowing c items row rows before 0 cursors before
+rowing_first before h k s =
     record {
       bytes = [];
       whole = refl;
-      puts = writes_none before h;
+      puts = writes_none before h k;
       reach = s.reach;
       passed = λ k l m. absurd (omega arith);
       here = λ k l m. s.column k l;
@@ -128,17 +129,15 @@ module _ {c : List ℕ} {items : List Item} {row : Record items} {rows : List (R
       moved k l m (inr n) = rw (get_or-set_other cursors j k next 0 (λ e. omega arith)) (w.passed k l n)
 
   -- as a turn of the loop has it
-  pub rowing_turn : {item : Item} {from next : ℕ} {cursors' : List ℕ} {put : Output} → j < length items → item ≡ get_or items j (raw 0)
-      → from ≡ get_or cursors j 0 → FieldTook item c from after put next → cursors' ≡ set cursors j next
-      → Rowing c items row rows before (j + 1) cursors' put
-  rowing_turn {item} {next = next} {put = put} h e f took g =
-      let there = subst (λ (n : ℕ). FieldTook item c n after put next) f took in
-      rw g (rowing_more h (subst (λ (i : Item). FieldTook i c (get_or cursors j 0) after put next) e there))
+  pub rowing_turn : {item : Item} {next : ℕ} {put : Output} → j < length items → item ≡ get_or items j (raw 0)
+      → FieldTook item c (get_or cursors j 0) after put next → Rowing c items row rows before (j + 1) (set cursors j next) put
+  rowing_turn {item} {next = next} {put = put} h e took =
+      rowing_more h (subst (λ (i : Item). FieldTook i c (get_or cursors j 0) after put next) e took)
 
-  pub rowing_all : length items ≤ j → Stands before → RowTook c items row rows cursors before.bytes.now before.next after.bytes.now after.next
-  rowing_all h k =
+  pub rowing_all : length items ≤ j → RowTook c items row rows cursors before.bytes.now before.next after.bytes.now after.next
+  rowing_all h =
       let e : (fields in_bytes items).put row ≡ w.bytes = w.whole ∙ ap (λ (s : List ℕ). w.bytes ++ s) (put_none items j row h) ∙ append-nil w.bytes in
-      record { puts = rw e (w.puts.written k); stand = record { reach = w.reach; column = λ k l. w.passed k l (omega arith) } }
+      record { puts = rw e w.puts.written; stand = record { reach = w.reach; column = λ k l. w.passed k l (omega arith) } }
 
 -- ---- The first i rows of a table
 pub record Taking (c : List ℕ) (items : List Item) (rows : List (Record items)) (before : Output) (i : ℕ) (cursors : List ℕ) (after : Output)
@@ -151,7 +150,8 @@ pub record Taking (c : List ℕ) (items : List Item) (rows : List (Record items)
   pub stand : Stand c items left cursors
 
 pub taking_first : {c : List ℕ} {items : List Item} {rows : List (Record items)} {cursors : List ℕ} (before : Output)
-    → length before.bytes.now ≤ 18446744073709551615 → Stands before → Stand c items rows cursors → Taking c items rows before 0 cursors before
+    → length before.bytes.now ≤ 18446744073709551615 → before.next ≤ 18446744073709551615 → Stand c items rows cursors
+    → Taking c items rows before 0 cursors before
 taking_first {rows = rows} before h k s =
     record { left = rows; few = omega arith; bytes = []; whole = refl; puts = written_none before.bytes.now before.next h k; stand = s }
 

@@ -11,7 +11,7 @@ ghost use Rattle.columns_rebuild.specs.Stand.{Stand};
 ghost use Rattle.columns_rebuild.specs.Maps.{Announces, HeadTakes};
 
 use crate::first::table_at;
-use crate::row::{cursor_of, take_rows};
+use crate::row::take_rows;
 use byte_output::Output;
 use column_fields::table::{Table, span_of};
 use groups::read::{Width, number_at};
@@ -36,7 +36,7 @@ pub struct TakenHead {
 }
 
 // The width of a span under the schema at a place.
-// Kept (1c, 4c): `span_of(field_at::<u16>(bytes, at).map_or(0, |s| s.value))` was not proved: map_or promises by cases, field_at by one equation.
+// Kept (1c, 4c): by `map_or(Width::Four, |schema| span_of(schema.value))` no proof was found: map_or promises by cases, field_at by one equation.
 fn span_at(bytes: &[u8], at: usize) -> Width
     ensures { at + 2 ≤ length bytes.now → width_of result ≡ span_width (le 2 bytes.now at) }
 {
@@ -55,20 +55,18 @@ fn count_at(bytes: &[u8], at: usize) -> usize
 }
 
 // What the head announces whose fields start at these places: the third is the schema, the last four are the counts.
-// Kept (6a): no heap, so where the columns start is an array with an entry for each.
-fn read_announced(bytes: &[u8], starts: &[usize]) -> Announced
+fn read_announced(bytes: &[u8], starts: &[usize; 13]) -> Announced
     ensures { (h : Head) → Stand bytes.now head_items (h ∷ []) starts.now → Announces h result }
 {
     Announced {
-        propositions: count_at(bytes, cursor_of(starts, 9)),
-        proofs: count_at(bytes, cursor_of(starts, 10)),
-        witnesses: count_at(bytes, cursor_of(starts, 11)),
-        parents: count_at(bytes, cursor_of(starts, 12)),
-        span: span_at(bytes, cursor_of(starts, 2)),
+        propositions: count_at(bytes, starts[9]),
+        proofs: count_at(bytes, starts[10]),
+        witnesses: count_at(bytes, starts[11]),
+        parents: count_at(bytes, starts[12]),
+        span: span_at(bytes, starts[2]),
     }
 }
 
-// Kept (6a): no heap: an array as long as the head has columns, and no Vec.
 pub fn take_head(bytes: &[u8], out: &mut Output) -> Result<TakenHead, Refusal>
     requires { out.old.next ≡ 0 }
     ensures same { Same out.old out.new }

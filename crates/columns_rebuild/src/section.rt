@@ -1,6 +1,6 @@
 // The section of a column file, rebuilt: the head, then table by table.
 ghost use Rattle.std.specs.Prelude.{◌≡◌};
-ghost use Rattle.byte_output.specs.Maps.{Stands, Same};
+ghost use Rattle.byte_output.specs.Maps.{Same};
 ghost use Rattle.evr0_columns.specs.Layout.{in_bytes, in_groups, by_row, by_column, tables};
 ghost use Rattle.columns_rebuild.specs.Maps.{TakesAs, announced_tables, Builds, Rebuilds};
 
@@ -19,7 +19,6 @@ fn take_tables(
     announced: Announced,
     out: &mut Output,
 ) -> Result<usize, Refusal>
-    requires { Stands out.old }
     ensures same { Same out.old out.new }
     ensures takes { TakesAs (tables (by_column in_groups) (announced_tables announced)) (tables (by_row in_bytes) (announced_tables announced))
         bytes.now at out.old out.new result }
@@ -61,7 +60,7 @@ pub fn rebuild(columns: &[u8], out: &mut [u8]) -> Result<usize, Refusal>
     match build(columns, &mut output) {
         Ok(()) => Ok(output.next),
         Err(refusal) => {
-            clear(output.bytes);
+            clear(out);
             Err(refusal)
         }
     }

@@ -1,5 +1,5 @@
 // A table taken back: its columns first, which are refused as they are met, then its rows.
-ghost use Rattle.byte_output.specs.Maps.{Stands, Same};
+ghost use Rattle.byte_output.specs.Maps.{Same};
 ghost use Rattle.evr0_columns.specs.Layout.{in_bytes, in_groups, by_row, by_column};
 ghost use Rattle.column_fields.specs.Maps.{items_of};
 ghost use Rattle.columns_rebuild.specs.Maps.{TakesAs};
@@ -11,7 +11,6 @@ use column_fields::table::Table;
 use local_format::refusal::Refusal;
 
 // The place after its columns; or 75 or 76.
-// Kept (6a): no heap: an array as long as the widest table has columns, and no Vec.
 pub fn take_table(
     bytes: &[u8],
     at: usize,
@@ -19,7 +18,6 @@ pub fn take_table(
     count: usize,
     out: &mut Output,
 ) -> Result<usize, Refusal>
-    requires { Stands out.old }
     ensures same { Same out.old out.new }
     ensures takes { TakesAs (by_column in_groups count (items_of table)) (by_row in_bytes count (items_of table))
         bytes.now at out.old out.new result }

@@ -7,7 +7,7 @@ ghost use Rattle.compare_sections.specs.Answer.{tables_of, lent_to, Compares};
 ghost use Rattle.compare_sections.specs.Parts.{Answers};
 ghost use Rattle.compare_sections.specs.Maps.{comparison_out, lent_out, SameTables};
 
-use crate::tables::Tables;
+use crate::tables::{Place, Tables};
 use evr0_rules::settle::Rules;
 use lent_table::clear;
 use local_format::refusal::Refusal;
@@ -23,62 +23,44 @@ pub enum Fault {
 }
 
 // Both sections. After a refusal the tables may hold anything.
-// Kept (5d): with bytes and cursor in `Tables`, which goes by `&mut`, `SameTables` and so each contract must say that both stay as they were.
 fn compare(
     rules: Rules,
-    first: &[u8],
-    first_cursor: usize,
+    first: Place,
     first_tables: &mut Tables,
-    second: &[u8],
-    second_cursor: usize,
+    second: Place,
     second_tables: &mut Tables,
     verdicts: &mut [u8],
 ) -> Result<Totals, Fault>
     ensures first { SameTables first_tables.old first_tables.new }
     ensures second { SameTables second_tables.old second_tables.new }
-    ensures answers { Answers (given_out rules.entry) first.now first_cursor second.now second_cursor
+    ensures answers { Answers (given_out rules.entry) first.entry.bytes.now first.entry.cursor second.entry.bytes.now second.entry.cursor
         (lent_to (lent_out first_tables.old) (lent_out second_tables.old) verdicts.old)
         (lent_to (lent_out first_tables.new) (lent_out second_tables.new) verdicts.new) (comparison_out result) }
 {
     rules.count().map_err(Fault::Rules)?;
-    let found = first_tables
-        .decode(rules, first, first_cursor)
-        .map_err(Fault::First)?;
-    let other = second_tables
-        .decode(rules, second, second_cursor)
-        .map_err(Fault::Second)?;
-    let one = first_tables.section(first, first_cursor, found);
-    let two = second_tables.section(second, second_cursor, other);
+    let found = first_tables.decode(rules, first).map_err(Fault::First)?;
+    let other = second_tables.decode(rules, second).map_err(Fault::Second)?;
+    let one = first_tables.section(first, found);
+    let two = second_tables.section(second, other);
     one.hold(two, verdicts).map_err(Fault::Pair)
 }
 
 // The same, with zeros in all eleven tables after a refusal.
 fn compare_or_clear(
     rules: Rules,
-    first: &[u8],
-    first_cursor: usize,
+    first: Place,
     first_tables: &mut Tables,
-    second: &[u8],
-    second_cursor: usize,
+    second: Place,
     second_tables: &mut Tables,
     verdicts: &mut [u8],
 ) -> Result<Totals, Fault>
     ensures first { SameTables first_tables.old first_tables.new }
     ensures second { SameTables second_tables.old second_tables.new }
-    ensures compares { Compares told (given_out rules.entry) first.now first_cursor second.now second_cursor
+    ensures compares { Compares told (given_out rules.entry) first.entry.bytes.now first.entry.cursor second.entry.bytes.now second.entry.cursor
         (lent_to (lent_out first_tables.old) (lent_out second_tables.old) verdicts.old)
         (lent_to (lent_out first_tables.new) (lent_out second_tables.new) verdicts.new) (comparison_out result) }
 {
-    let answer = compare(
-        rules,
-        first,
-        first_cursor,
-        first_tables,
-        second,
-        second_cursor,
-        second_tables,
-        verdicts,
-    );
+    let answer = compare(rules, first, first_tables, second, second_tables, verdicts);
     if answer.is_err() {
         first_tables.clear();
         second_tables.clear();
@@ -135,11 +117,15 @@ pub fn compare_sections(
     };
     compare_or_clear(
         rules,
-        first,
-        first_cursor,
+        Place {
+            bytes: first,
+            cursor: first_cursor,
+        },
         &mut first_tables,
-        second,
-        second_cursor,
+        Place {
+            bytes: second,
+            cursor: second_cursor,
+        },
         &mut second_tables,
         verdicts,
     )

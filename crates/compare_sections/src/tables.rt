@@ -1,9 +1,17 @@
 // The lent tables of one section.
 use authorised_table::table::authorised_table;
+use evr0_read::table::front;
 use evr0_rules::settle::Rules;
 use lent_table::clear;
 use local_format::refusal::Refusal;
 use section_pair::pair::Section;
+
+// Bytes, and where a section starts in them.
+#[derive(Clone, Copy)]
+pub struct Place<'a> {
+    pub bytes: &'a [u8],
+    pub cursor: usize,
+}
 
 // Where a section that was decoded ends, and how many propositions it has.
 #[derive(Clone, Copy, Debug, PartialEq, Eq)]
@@ -23,7 +31,7 @@ pub struct Tables<'a> {
 }
 
 impl<'a> Tables<'a> {
-    ghost use Rattle.std.specs.Prelude.{◌≡◌};
+    ghost use Rattle.std.specs.Prelude.{◌≡◌, take, length};
     ghost use Rattle.local_format.specs.Refusal as of;
     ghost use Rattle.local_format.specs.Out.{refused};
     ghost use Rattle.local_format.specs.Maps.{answer_out};
@@ -45,16 +53,16 @@ impl<'a> Tables<'a> {
         clear(self.authorised);
     }
 
-    // The section at a cursor.
-    pub fn decode(&mut self, rules: Rules, bytes: &[u8], cursor: usize) -> Result<Found, Refusal>
+    // The section at a place.
+    pub fn decode(&mut self, rules: Rules, at: Place) -> Result<Found, Refusal>
         ensures same { SameTables self.old self.new }
-        ensures decodes { Decodes (given_out rules.entry) bytes.now cursor (lent_out self.old) (lent_out self.new)
+        ensures decodes { Decodes (given_out rules.entry) at.entry.bytes.now at.entry.cursor (lent_out self.old) (lent_out self.new)
             (answer_out found_out result) }
     {
         let decoded = authorised_table(
             rules,
-            bytes,
-            cursor,
+            at.bytes,
+            at.cursor,
             self.propositions,
             self.proofs,
             self.depths,
@@ -69,18 +77,17 @@ impl<'a> Tables<'a> {
     }
 
     // The same section, for a comparison.
-    pub fn section<'b>(&'b self, bytes: &'b [u8], cursor: usize, found: Found) -> Section<'b>
-        requires { ∥ Told bytes.now cursor found.end found.count self.now.propositions.now self.now.authorised.now ∥₁ }
-        ensures bytes { result.bytes.now ≡ bytes.now }
-        ensures numbers { (result.cursor ≡ cursor) × (result.end ≡ found.end) × (result.count ≡ found.count) }
-        ensures tables { (result.starts.now ≡ self.now.propositions.now) × (result.flags.now ≡ self.now.authorised.now) }
+    pub fn section<'b>(&'b self, at: Place<'b>, found: Found) -> Section<'b>
+        requires { ∥ Told at.bytes.now at.cursor found.end (length (take found.count self.now.propositions.now))
+            (take found.count self.now.propositions.now) self.now.authorised.now ∥₁ }
+        ensures place { (result.bytes.now ≡ at.entry.bytes.now) × (result.cursor ≡ at.entry.cursor) × (result.end ≡ found.end) }
+        ensures tables { (result.starts.now ≡ take found.count self.now.propositions.now) × (result.flags.now ≡ self.now.authorised.now) }
     {
         Section {
-            bytes,
-            cursor,
+            bytes: at.bytes,
+            cursor: at.cursor,
             end: found.end,
-            count: found.count,
-            starts: self.propositions,
+            starts: front(self.propositions, found.count),
             flags: self.authorised,
         }
     }

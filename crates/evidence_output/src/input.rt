@@ -5,6 +5,7 @@ use std::io;
 use std::io::Read;
 
 // Reads until the buffer is full, the input ends or a read fails.
+// Kept (6a): no heap, so the buffer is lent, and how much of it was read is answered, as by `Read::read`.
 pub fn read_full<R: Read>(from: &mut R, buf: &mut [u8]) -> io::Result<usize>
     ensures { ReadsAtMost result buf.new }
 {

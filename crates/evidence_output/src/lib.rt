@@ -15,8 +15,7 @@ ghost use Rattle.evidence_output.specs.Written.{Written};
 use byte_output::Output;
 use evr0_head::counts::Counts;
 
-// The lines of an accepted section that ends at `end`, from the front of its lent tables.
-// Kept (6a, 6d): no heap, so the tables are as long as any input needs; the caller would cut them by the same count, and show there that it may.
+// The lines of an accepted section that ends at `end`, with the starts and the depths of its proofs.
 fn put_accepted(
     out: &mut Output,
     input: &[u8],
@@ -25,17 +24,15 @@ fn put_accepted(
     proofs: &[u64],
     depths: &[u64],
 )
-    requires le_end { (8 ≤ end) × (end ≤ length input.now) }
-    requires proofs_in_bounds { (counts.proofs ≤ length proofs.now) × (counts.proofs ≤ length depths.now) }
+    requires { (8 ≤ end) × (end ≤ length input.now) }
     ensures { Writes out.old
-        (head_line (counts_out counts) end ++ lines_at (take (end - 8) (drop 8 input.now)) (take counts.proofs proofs.now)
-        (take counts.proofs depths.now)) out.new }
+        (head_line (counts_out counts) end ++ lines_at (take (end - 8) (drop 8 input.now)) proofs.now depths.now) out.new }
 {
-    let count = counts.proofs;
     crate::line::put_head(out, counts, end);
-    crate::listed::put_proofs(out, &input[8..end], &proofs[..count], &depths[..count]);
+    crate::listed::put_proofs(out, &input[8..end], proofs, depths);
 }
 
+// Kept (6a): no heap, so the tables are as long as any input needs.
 fn put_evidence(out: &mut Output, input: &[u8])
     ensures { Writes out.old (output_of input.now) out.new }
 {
@@ -59,7 +56,14 @@ fn put_evidence(out: &mut Output, input: &[u8])
         }
         Ok(accepted) => {
             let counts = accepted.counts;
-            put_accepted(out, input, counts, decoded.cursor, &proofs, &depths);
+            put_accepted(
+                out,
+                input,
+                counts,
+                decoded.cursor,
+                &proofs[..counts.proofs],
+                &depths[..counts.proofs],
+            );
         }
     }
 }

@@ -17,7 +17,7 @@ use Rattle.evr0_section.proofs.Demand.{demand_3}
 use Rattle.rule_table.specs.ByTable.{Given, four, rules_given}
 use Rattle.rule_table.proofs.ByTable.{table_refused, decodes_by, holds_by}
 use Rattle.evr0_tables.proofs.TableLaws.{held_sum}
-use Rattle.evr0.specs.Answer.{Lent, lent_of, room_of, Answer, answer_of, Filled, Leaves, decode_given, LeavesBy}
+use Rattle.evr0.specs.Answer.{Lent, lent_of, room_of, Answer, answer_of, Filled, Leaves, LeavesBy}
 use Rattle.evr0.specs.Steps.{payload_in, section_by, head_in, Passes, Ends, EndsBy, answer_with}
 use Rattle.evr0.proofs.AnswerLaws.{refusal_ends}
 use Rattle.evr0.proofs.SectionLaws.{cursor_after}

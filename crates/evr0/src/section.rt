@@ -9,6 +9,7 @@ ghost use Rattle.evr0_head.specs.Maps.{head_out};
 ghost use Rattle.evr0_tables.specs.LentMaps.{SameTables, tables_out};
 ghost use Rattle.evr0_pass.specs.View.{TablesThere, PolaritiesThere};
 ghost use Rattle.evr0_pass.specs.Maps.{layout_out, tables_in, Derives};
+ghost use Rattle.evr0_section.specs.Head.{span_width, witness_size};
 ghost use Rattle.evr0_section.specs.Section.{frame_at};
 ghost use Rattle.evr0.specs.Answer.{lent_of, answer_of, Leaves, LeavesBy};
 ghost use Rattle.evr0.specs.AnswerMaps.{accepted_out, head_outcome};
@@ -88,8 +89,26 @@ fn refused_section(refusal: Refusal, cursor: usize) -> DecodedEvr0
     }
 }
 
+// Where the tables of a payload that was read lie, and how many entries each has.
+pub fn layout_of(read: &Payload) -> Layout
+    ensures { result
+        ≡ record {
+          counts = read.now.head.counts;
+          witness_size = witness_size (span_width read.now.head.schema);
+          witnesses_at = read.now.witnesses_at;
+          parents_at = read.now.parents_at;
+        } }
+{
+    Layout {
+        counts: read.head.counts,
+        witness_size: witness_size(read.head.schema),
+        witnesses_at: read.witnesses_at,
+        parents_at: read.parents_at,
+    }
+}
+
 // The last pass over the proofs that start at the front of a table, which stays as it is.
-// Kept (2d): `fill_front` of evr0_rounds calls another pass; each is one call, and its clauses, which speak of that pass, are all the rest.
+// Kept (2d): `fill_front` of evr0_rounds cuts its starts so too, but for another pass; what is left of either is its clauses, which speak of that pass.
 fn derive_front(
     payload: &[u8],
     layout: Layout,
@@ -118,20 +137,11 @@ fn section_in<'p>(
     ensures passes { (end : ℕ) → Passes (payload_in (book_rules rules.now) (tables_out tables.old) payload.now end)
         (tables_out tables.old) (tables_out tables.new) (answer_out head_out result) }
 {
-    let Payload {
-        head,
-        witnesses_at,
-        parents_at,
-    } = read_payload(rules, payload, tables)?;
-    let layout = Layout {
-        counts: head.counts,
-        witness_size: witness_size(head.schema),
-        witnesses_at,
-        parents_at,
-    };
+    let read = read_payload(rules, payload, tables)?;
+    let layout = layout_of(&read);
     let derived = derive_front(payload, layout, tables.proofs, tables.depths);
     match derived {
-        Ok(()) => Ok(head),
+        Ok(()) => Ok(read.head),
         Err(refusal) => {
             clear(tables.propositions);
             clear(tables.proofs); // of a refused derivation
@@ -233,7 +243,7 @@ pub fn decode_evr0_by(
 }
 
 // The same by the four.
-// Kept (2a): the Rust's decoder takes no rules; by `decode_evr0_by(Rules::Four, ..)` a refused opening would be answered two calls deeper.
+// Kept (2a): the decoder of the Rust, which has no rules and no marks; by `decode_evr0_by(Rules::Four, ..)` there would be the calls that D124 rules out.
 pub fn decode_evr0_unmarked(
     bytes: &[u8],
     cursor: usize,

@@ -4,6 +4,8 @@ use mathlib.Core.Path.{◌≡◌, refl, sym, ◌∙◌}
 use mathlib.Core.Bool.{Bool, true, false, ◌&&◌, ◌||◌}
 use mathlib.Core.List.{List, [], ◌∷◌, map}
 use native.Mathlib.Omega.{arith}
+use borrow.Author.Tests.{eq-eqb}
+use lib.Dec.{eqb}
 use native.Mathlib.Numerals.{add-one}
 use lib.ListN.{length, get_or, take, drop, length-map, drop_of_length-le}
 use lib.Seq.{drop-cons}
@@ -23,16 +25,10 @@ operates_front n (p ∷ ps) (m ∷ ms) (t ∷ table) h f =
     let rest : take (length ms) table ≡ ms = cc in
     rw (same, operates_front n ps ms table (omega arith) rest)
 
--- the two tests of a record, and that of its mark
-pub marked_too : (a b c : Bool) {x : Bool} → (a && b) ≡ x → c ≡ true → (a && (b && c)) ≡ x
-marked_too true true c e f = f ∙ e
-marked_too true false c e f = e
-marked_too false b c e f = e
-
-pub not_marked : (a b c : Bool) → c ≡ false → (a && (b && c)) ≡ false
-not_marked true true c f = f
-not_marked true false c f = refl
-not_marked false b c f = refl
+-- a test of a record, and that of a mark which is 1
+pub marked_too : (b : Bool) {m : ℕ} → m ≡ 1 → b ≡ (b && eqb m 1)
+marked_too true {m} e = rw (eq-eqb m 1 e)
+marked_too false e = refl
 
 module _ (f : ℕ → Proof) (starts marks : List ℕ) (n : ℕ) where
   -- the proofs before the i-th have nothing to say

@@ -8,7 +8,7 @@ ghost use Rattle.local_format.specs.Maps.{answer_out};
 ghost use Rattle.evr0_rules.specs.Maps.{given_out};
 ghost use Rattle.evr0_marks.specs.Answer.{with_marks};
 ghost use Rattle.evr0_authorised.specs.Authorised.{authorised_told, AuthorisesBy};
-ghost use Rattle.evr0_authorised.specs.Maps.{own};
+ghost use Rattle.evr0_authorised.specs.Maps.{operating, own};
 
 use evr0_fields::number::PropositionIndex;
 use evr0_marks::section::{decode_evr0_section_by, tables_of};
@@ -18,18 +18,24 @@ use lent_table::clear;
 use local_format::field::LittleEndian;
 use local_format::refusal::{Refusal, refuse};
 
-// Whether the proof at `start` with a mark is one of the proposition, with operation 1 and mark 1.
-// Kept (1a, 2d): a mark is a lent byte; by an `operates(payload, start, mark)` for `flag` too, each positive proof's operation is read before its proposition.
-fn operates(payload: &[u8], start: usize, mark: u8, proposition: u32) -> bool
+// Whether the proof at `start` with a mark has operation 1 and mark 1.
+// Kept (5d): of a struct of the payload and a start, with this fact, the two functions that hand both on would take the start out again.
+// Kept (1a): a mark is a byte of a table that C lends; an enum would be made of it here and held against one variant.
+pub fn operates(payload: &[u8], start: usize, mark: u8) -> bool
+    requires { after_name payload.now start + 24 ≤ length payload.now }
+    ensures { (rules : List Rule) → result ≡ operating (proof_view rules payload.now start) mark }
+{
+    let positive = mark == 1;
+    positive && payload[after_name(payload, start) + 20] == 1
+}
+
+// The same of a proof of the proposition.
+// Kept (1a): a mark is a byte of a table that C lends; an enum would be made of it here and held against one variant.
+fn authorises(payload: &[u8], start: usize, mark: u8, proposition: u32) -> bool
     requires { after_name payload.now start + 24 ≤ length payload.now }
     ensures { (rules : List Rule) → result ≡ own (proof_view rules payload.now start) mark proposition }
 {
-    let positive = mark == 1;
-    if positive && u32::le_at(payload, start + 4) == proposition {
-        payload[after_name(payload, start) + 20] == 1
-    } else {
-        false
-    }
+    u32::le_at(payload, start + 4) == proposition && operates(payload, start, mark)
 }
 
 // Of the proofs of these tables, whose marks the table begins with.
@@ -40,7 +46,7 @@ fn authorised_by(tables: Tables, marks: &[u8], proposition: u32) -> bool
         ≡ of.operates (map (proof_view rules tables.entry.payload.now) tables.entry.starts.now) marks.now proposition }
 {
     for (start, mark) in tables.starts.iter().zip(marks) {
-        if operates(tables.payload, *start as usize, *mark, proposition) {
+        if authorises(tables.payload, *start as usize, *mark, proposition) {
             return true;
         }
     }

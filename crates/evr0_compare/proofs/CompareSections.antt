@@ -17,7 +17,7 @@ use Rattle.local_format.specs.Tag.{tag_at, evr0}
 use Rattle.local_format.specs.Text.{bytes_at, section_field, text_at}
 use Rattle.local_format.proofs.OutLaws.{bind_ok, checked_ok, ok_same}
 use Rattle.local_format.proofs.FieldLaws.{field_ok}
-use Rattle.local_format.proofs.TagLaws.{equal_is}
+use Rattle.local_format.proofs.TagLaws.{equal_is, equal_self, differ}
 use Rattle.derivation.specs.Rule.{Rule}
 use Rattle.derivation.specs.Section as derivation
 use Rattle.evr0_section.specs.Rows.{Entry}
@@ -33,7 +33,7 @@ use Rattle.evr0_section.proofs.RowsLaws.{trace, trace_length}
 use Rattle.evr0_section.proofs.CheckedTables.{steps}
 use Rattle.evr0_section.proofs.SectionSteps.{tables_of_lem, section_parts}
 use Rattle.rule_table.specs.ByTable.{Given, rules_given, decode_by}
-use Rattle.rule_table.proofs.Load.{equal_self, differ, step}
+use Rattle.rule_table.proofs.Load.{step}
 use Rattle.evr0_compare.proofs.Compare.{listed_all, totals, same_same, swapped}
 use Rattle.evr0_compare.proofs.CompareOnly.{only_list}
 use Rattle.evr0_compare.proofs.KeysRise.{keys_rise}

@@ -1,11 +1,11 @@
 -- What is left of a list from a place on says whether a field is there: reserved bytes and digests.
 use Prim.Native.Nat.{ℕ, zero, suc, ◌+◌, ◌*◌, ◌-◌, ◌≤◌, ◌<◌}
 use mathlib.Core.Path.{◌≡◌, refl}
-use mathlib.Core.Bool.{◌&&◌}
-use mathlib.Core.List.{List}
+use mathlib.Core.List.{List, [], ◌∷◌}
 use native.Mathlib.Omega.{arith}
 use native.Mathlib.Nat.{add-zero}
-use lib.ListN.{length, get_or, drop, length-drop}
+use lib.ListN.{length, drop, length-drop, length-take}
+use lib.Pointwise.{pointwise}
 use borrow.Author.Tests.{ne_eqb}
 use lib.Dec.{eqb}
 use Rattle.std.specs.Array.{IsFirstChunk}
@@ -18,15 +18,19 @@ use Rattle.evr0_section.specs.Head.{Digest, digest_at}
 use Rattle.evr0_section.specs.Proof.{zeros_at}
 
 -- three bytes are zeros where their number is
-three_zeros : (r : List ℕ) → eqb (le 3 r 0) 0 ≡ (eqb (get_or r 0 0) 0 && eqb (get_or r 1 0) 0 && eqb (get_or r 2 0) 0)
+three_zeros : (r : List ℕ) → length r ≡ 3 → eqb (le 3 r 0) 0 ≡ pointwise eqb r (0 ∷ 0 ∷ 0 ∷ [])
 unfolding le
-three_zeros r = go (get_or r 0 0) (get_or r 1 0) (get_or r 2 0)
+three_zeros (a ∷ b ∷ c ∷ []) h = go a b c
   where
-    go : (a b c : ℕ) → eqb (a + 256 * (b + 256 * (c + 256 * 0))) 0 ≡ (eqb a 0 && eqb b 0 && eqb c 0)
+    go : (a b c : ℕ) → eqb (a + 256 * (b + 256 * (c + 256 * 0))) 0 ≡ pointwise eqb (a ∷ b ∷ c ∷ []) (0 ∷ 0 ∷ 0 ∷ [])
     go zero zero zero = refl
     go zero zero (suc c) = rw (ne_eqb (0 + 256 * (0 + 256 * (suc c + 256 * 0))) 0 (omega arith), ne_eqb (suc c) 0 (omega arith))
     go zero (suc b) c = rw (ne_eqb (0 + 256 * (suc b + 256 * (c + 256 * 0))) 0 (omega arith), ne_eqb (suc b) 0 (omega arith))
     go (suc a) b c = rw (ne_eqb (suc a + 256 * (b + 256 * (c + 256 * 0))) 0 (omega arith), ne_eqb (suc a) 0 (omega arith))
+three_zeros [] h = absurd (omega arith)
+three_zeros (a ∷ []) h = absurd (omega arith)
+three_zeros (a ∷ b ∷ []) h = absurd (omega arith)
+three_zeros (a ∷ b ∷ c ∷ d ∷ r) h = absurd (omega arith)
 
 module _ (s : List ℕ) {rest : List ℕ} (at : ℕ) (e : rest ≡ drop at s) where
   left : length rest ≡ length s - at
@@ -44,12 +48,13 @@ module _ (s : List ℕ) {rest : List ℕ} (at : ℕ) (e : rest ≡ drop at s) wh
   zeros_cut h = rw (← cut_at 3 h)
 
   pub zeros_there : {three : List ℕ} → IsFirstChunk rest three 3
-      → (check (eqb (get_or three 0 0) 0 && eqb (get_or three 1 0) 0 && eqb (get_or three 2 0) 0) 9 (at + 3) >> ok (at + 3)) ≡ zeros_at s at
+      → (check (pointwise eqb three (0 ∷ 0 ∷ 0 ∷ [])) 9 (at + 3) >> ok (at + 3)) ≡ zeros_at s at
   unfolding zeros_at
   zeros_there {three} h =
       let value : le 3 three 0 ≡ le 3 s at =
       rw (h.same, le_take 3 rest 3 0 (omega arith), e, le_drop 3 s at 0, add-zero) in
-      rw (← there 3 h.enough (omega arith), ← value, three_zeros three)
+      let size : length three ≡ 3 = rw (h.same, length-take) (omega (arith, h.enough)) in
+      rw (← there 3 h.enough (omega arith), ← value, three_zeros three size)
 
   pub digest_cut : length rest < 32 → refuse 5 at ≡ digest_at s at
   unfolding digest_at

@@ -16,7 +16,7 @@ pub fn zeros_at(bytes: &[u8], at: usize) -> Result<usize, Refusal>
         return Err(refuse(5, at));
     };
     let next = at + 3;
-    check((zeros[0] == 0) & (zeros[1] == 0) & (zeros[2] == 0), 9, next)?;
+    check(*zeros == [0; 3], 9, next)?;
     Ok(next)
 }
 

@@ -10,12 +10,12 @@ use lib.Seq.{take-suc-set, length-take-le}
 use Rattle.local_format.specs.Field.{le}
 use Rattle.local_format.proofs.FieldLaws.{le_1}
 use Rattle.derivation.specs.Rule.{Rule}
-use Rattle.derivation.specs.Section.{Proof, Section, Witness, no_witness, proof_at, witness_at}
+use Rattle.derivation.specs.Section.{Proof, Section, Witness, no_witness, proof_at, witness_at, parent_at}
 use Rattle.derivation.specs.InOrder.{in_order, gathered}
 use Rattle.derivation.specs.Mark.{end_polarity, end_mark, joined, mark_of, marks}
 use Rattle.derivation.proofs.Laws.{in_order_none, in_order_turn, gathered_turn, mark_end, mark_inner}
 use Rattle.evr0_pass.specs.View.{Layout, after_name, places, proof_view, width_in, witness_view, view}
-use Rattle.evr0_pass.proofs.ViewLaws.{length_places, proof_total_lem, proof_at_lem, witness_at_lem, parent_at_lem}
+use Rattle.evr0_pass.proofs.ViewLaws.{length_places, proof_total_lem, proof_at_lem, witness_at_lem}
 
 module _ (rules : List Rule) (p starts : List ℕ) (l : Layout) where
   abbrev s : Section
@@ -36,36 +36,30 @@ module _ (rules : List Rule) (p starts : List ℕ) (l : Layout) where
 
   -- ---- The parents
   -- one of them, whose number is `parent`, with the marks before it
-  pub parent_turn : (known : List ℕ) (end c m parent : ℕ) {mark whole : ℕ} → c < end → c < l.counts.parents → parent ≡ le 4 p (l.parents_at + 4 * c)
+  pub parent_turn : (known : List ℕ) (end c m parent : ℕ) {mark whole : ℕ} → c < end → parent ≡ parent_at s c
       → mark ≡ joined m (get_or known parent 0) → gathered joined s known (end - c) c m ≡ whole
       → gathered joined s known (end - (c + 1)) (c + 1) mark ≡ whole
-  parent_turn known end c m parent h t is e inv =
+  parent_turn known end c m parent h is e inv =
       let n : end - c - 1 ≡ end - (c + 1) = omega arith in
-      rw (e, is, ← parent_at_lem rules p starts l c t, ← n) (sym (gathered_turn joined s known (end - c) c m (omega arith)) ∙ inv)
+      rw (e, is, ← n) (sym (gathered_turn joined s known (end - c) c m (omega arith)) ∙ inv)
 
-  -- ---- A proof, of whose record these numbers were read
-  module _ (known : List ℕ) {i rest parents : ℕ} (there : i < length starts) (named : rest ≡ after_name p (get_or starts i 0))
-      (counted : parents ≡ le 4 p (rest + 16)) where
+  -- ---- A proof, of whose parents these are the cells
+  module _ (known : List ℕ) {i first end : ℕ} (there : i < length starts)
+      (cells : (first ≡ (proof_at s i).first_parent) × (end ≡ first + (proof_at s i).parent_count)) where
     is : proof_at s i ≡ proof_view rules p (get_or starts i 0)
     is = proof_at_lem rules p starts l i there
 
-    count : (proof_at s i).parent_count ≡ parents
-    unfolding proof_view
-    count = ap (λ (q : Proof). q.parent_count) is ∙ ap (λ (n : ℕ). le 4 p (n + 16)) (sym named) ∙ sym counted
-
-    pub marked_end : {witness polarity mark : ℕ} → parents ≡ 0 → witness ≡ le 4 p (rest + 4) → polarity ≡ (witness_at s witness).polarity
-        → mark ≡ end_mark polarity → mark ≡ mark_of s i known
+    pub marked_end : {rest witness polarity mark : ℕ} → first ≡ end → rest ≡ after_name p (get_or starts i 0) → witness ≡ le 4 p (rest + 4)
+        → polarity ≡ (witness_at s witness).polarity → mark ≡ end_mark polarity → mark ≡ mark_of s i known
     unfolding proof_view end_polarity
-    marked_end {witness} z w q m =
+    marked_end {witness = witness} z named w q m =
         let first : witness ≡ (proof_at s i).first_witness = w ∙ ap (λ (n : ℕ). le 4 p (n + 4)) named ∙ sym (ap (λ (q : Proof). q.first_witness) is) in
-        m ∙ ap end_mark (q ∙ ap (λ (n : ℕ). (witness_at s n).polarity) first) ∙ sym (mark_end s i known (count ∙ z))
+        m ∙ ap end_mark (q ∙ ap (λ (n : ℕ). (witness_at s n).polarity) first) ∙ sym (mark_end s i known (omega (arith, z, cells.1)))
 
-    pub marked_inner : {first mark : ℕ} → (parents ≡ 0 → ⊥) → first ≡ le 4 p (rest + 12) → mark ≡ gathered joined s known parents first 0
-        → mark ≡ mark_of s i known
-    unfolding proof_view
-    marked_inner {first} z f m =
-        let cell : first ≡ (proof_at s i).first_parent = f ∙ ap (λ (n : ℕ). le 4 p (n + 12)) named ∙ sym (ap (λ (q : Proof). q.first_parent) is) in
-        m ∙ ap₂ (λ (k c : ℕ). gathered joined s known k c 0) (sym count) cell ∙ sym (mark_inner s i known (λ e. z (sym count ∙ e)))
+    pub marked_inner : {mark : ℕ} → (first ≡ end → ⊥) → mark ≡ gathered joined s known (end - first) first 0 → mark ≡ mark_of s i known
+    marked_inner z m =
+        let count : end - first ≡ (proof_at s i).parent_count = omega (arith, cells.1) in
+        m ∙ ap₂ (λ (k c : ℕ). gathered joined s known k c 0) count cells.0 ∙ sym (mark_inner s i known (λ e. z (omega (arith, cells.1, e))))
 
 -- ---- All proofs, one after the other
 module _ (rules : List Rule) (p starts : List ℕ) (l : Layout) where

@@ -1,6 +1,6 @@
 // The marks of the proofs of a payload whose tables have been read: one pass over their starts, each mark made from those of the parents,
 // which stand before it.
-ghost use Rattle.std.specs.Prelude.{◌≡◌, List, ◌+◌, ◌≤◌, ◌<◌, length};
+ghost use Rattle.std.specs.Prelude.{◌≡◌, List, ◌-◌, ◌≤◌, ◌<◌, length};
 ghost use Rattle.lent_table.specs.Lent.{lent};
 ghost use Rattle.derivation.specs.Rule.{Rule};
 ghost use Rattle.derivation.specs.Section.{witness_at};
@@ -48,16 +48,16 @@ fn polarity(tables: Tables, witness: usize) -> u8
     }
 }
 
-// The marks of the `count` parents from the cell `first` on, together; `known` are those of the proofs before.
-// Kept (1a, 2d): marks are lent bytes; this joins all parents' marks, where `were_marked` of evr0_rounds ends at the first that is not marked.
-fn by_parents(tables: Tables, known: &[u8], first: usize, count: usize) -> u8
-    requires { first + count ≤ tables.layout.counts.parents }
-    ensures { (rules : List Rule) → result ≡ gathered of.joined (tables_by rules tables.entry) known.now count first 0 }
+// The marks of the parents from the cell `first` to before the cell `end`, together; `known` are those of the proofs before.
+// Kept (1a, 2d): marks are lent bytes; this joins all parents' marks, where `were_marked` of evr0_rounds ends at the first that is not marked; the cells
+// and the number in each are `Tables`' own.
+fn by_parents(tables: Tables, known: &[u8], first: usize, end: usize) -> u8
+    requires { (first ≤ end) × (end ≤ tables.layout.counts.parents) }
+    ensures { (rules : List Rule) → result ≡ gathered of.joined (tables_by rules tables.entry) known.now (end - first) first 0 }
 {
     let mut mark = 0;
-    for cell in first..first + count {
-        let parent = u32::le_at(tables.payload, tables.layout.parents_at + 4 * cell) as usize;
-        mark = joined(mark, entry_or(known, parent, 0));
+    for cell in first..end {
+        mark = joined(mark, entry_or(known, tables.parent(cell), 0));
     }
     mark
 }
@@ -68,14 +68,13 @@ fn mark_after(tables: Tables, known: &[u8]) -> u8
     requires { length known.now < length tables.starts.now }
     ensures { (rules : List Rule) → result ≡ of.mark_of (tables_by rules tables.entry) (length known.now) known.now }
 {
-    let rest = after_name(tables.payload, tables.starts[known.len()] as usize);
-    let parents = u32::le_at(tables.payload, rest + 16) as usize;
-    if parents == 0 {
+    let (first, end) = tables.cells(known.len());
+    if first == end {
+        let rest = after_name(tables.payload, tables.starts[known.len()] as usize);
         let witness = u32::le_at(tables.payload, rest + 4) as usize;
         return end_mark(polarity(tables, witness));
     }
-    let first = u32::le_at(tables.payload, rest + 12) as usize;
-    by_parents(tables, known, first, parents)
+    by_parents(tables, known, first, end)
 }
 
 // The mark of each proof at the front of the lent table, and zeros past them.

@@ -10,12 +10,13 @@ use lib.Dec.{eqb, ltb, leb}
 use lib.ListN.{get_or}
 use borrow.Author.Tests.{ltb-true}
 use Rattle.local_format.specs.Refusal.{Refusal}
-use Rattle.local_format.specs.Out.{ok, refused, check, ◌>>◌}
+use Rattle.local_format.specs.Out.{Out, ok, refused, check, ◌>>◌}
 use Rattle.local_format.proofs.OutLaws.{check_ok}
 use Rattle.derivation.specs.Rule.{polarity_fits}
 use Rattle.derivation.specs.Section.{Proof, Section, witness_at, parent_at}
 use Rattle.derivation.specs.Pass.{agrees, parents_from, witnesses_from}
 use Rattle.derivation.proofs.Tests.{both}
+use Rattle.evr0_pass.specs.Maps.{suited}
 
 -- a parent that rises is below its proof
 pub rises_below : (parent number least at : ℕ) {u : Unit {0}} → ok u ≡ check (ltb parent number && leb least parent) 25 at → parent < number
@@ -46,20 +47,23 @@ module _ (cells_at : ℕ) (s : Section) (p : Proof) where
       parents_on f = let d = rw n at e in sym (parents_step ds k c least m parent h is ∙ rw (← d, a, ← f) refl)
 
   -- ---- A witness
-  witnesses_step : (k w proposition : ℕ) → 0 < k → (witness_at s w).proposition ≡ proposition → witnesses_from cells_at s p k w
-      ≡ (check (eqb proposition p.proposition) 28 0
-      >> (check (polarity_fits p.rule (witness_at s w).polarity) 29 0 >> witnesses_from cells_at s p (k - 1) (w + 1)))
+  joined : (x y z : Out (Unit {0})) → (x >> (y >> z)) ≡ ((x >> y) >> z)
+  joined (ok u) y z = refl
+  joined (refused q) y z = refl
+
+  witnesses_step : (k w : ℕ) → 0 < k → witnesses_from cells_at s p k w
+      ≡ (suited p.rule p.proposition (witness_at s w).proposition (witness_at s w).polarity >> witnesses_from cells_at s p (k - 1) (w + 1))
   unfolding witnesses_from
-  witnesses_step zero w proposition h is = absurd (omega arith)
-  witnesses_step (suc k) w proposition h is = simp (is, sub-one, add-one)
+  witnesses_step zero w h = absurd (omega arith)
+  witnesses_step (suc k) w h =
+      simp (sub-one, add-one)
+      (joined (check (eqb (witness_at s w).proposition p.proposition) 28 0) (check (polarity_fits p.rule (witness_at s w).polarity) 29 0)
+      (witnesses_from cells_at s p k (suc w)))
 
-  module _ (k w proposition : ℕ) (h : 0 < k) (is : (witness_at s w).proposition ≡ proposition) where
-    pub witnesses_28 : {q : Refusal} → refused q ≡ check (eqb proposition p.proposition) 28 0 → refused q ≡ witnesses_from cells_at s p k w
-    witnesses_28 e = sym (witnesses_step k w proposition h is ∙ rw (← e) refl)
+  module _ (k w proposition polarity : ℕ) (h : 0 < k) (is : (witness_at s w).proposition ≡ proposition) (has : (witness_at s w).polarity ≡ polarity) where
+    pub witnesses_refused : {q : Refusal} → refused q ≡ suited p.rule p.proposition proposition polarity → refused q ≡ witnesses_from cells_at s p k w
+    witnesses_refused e = sym (witnesses_step k w h ∙ rw (is, has, ← e) refl)
 
-    module _ {u : Unit {0}} (e : ok u ≡ check (eqb proposition p.proposition) 28 0) (b : Bool) (f : polarity_fits p.rule (witness_at s w).polarity ≡ b) where
-      pub witnesses_29 : {q : Refusal} → refused q ≡ check b 29 0 → refused q ≡ witnesses_from cells_at s p k w
-      witnesses_29 g = sym (witnesses_step k w proposition h is ∙ rw (← e, f, ← g) refl)
-
-      pub witnesses_on : {v : Unit {0}} → ok v ≡ check b 29 0 → witnesses_from cells_at s p (k - 1) (w + 1) ≡ witnesses_from cells_at s p k w
-      witnesses_on g = sym (witnesses_step k w proposition h is ∙ rw (← e, f, ← g) refl)
+    pub witnesses_on : {u : Unit {0}} → ok u ≡ suited p.rule p.proposition proposition polarity
+        → witnesses_from cells_at s p (k - 1) (w + 1) ≡ witnesses_from cells_at s p k w
+    witnesses_on e = sym (witnesses_step k w h ∙ rw (is, has, ← e) refl)

@@ -76,3 +76,10 @@ module _ (rules : List Rule) (p starts : List ℕ) (l : Layout) where
   unfolding witness_view
   witness_reads w at h e =
       let is = witness_at_lem w h in (rw (is, e) refl, rw (is, e, le_1 p (l.witnesses_at + l.witness_size * w + 8)) refl)
+
+  -- the cells of a proof's parents, by what was read of its record
+  pub parent_numbers : (i : ℕ) → i < length starts → {rest first count : ℕ} → rest ≡ after_name p (get_or starts i 0)
+      → first ≡ le 4 p (rest + 12) → count ≡ le 4 p (rest + 16)
+      → (first ≡ (proof_at (view rules p starts l) i).first_parent) × (first + count ≡ first + (proof_at (view rules p starts l) i).parent_count)
+  unfolding proof_view
+  parent_numbers i h n f k = let q = proof_at_lem i h in (rw (f, n, q), rw (k, n, q))

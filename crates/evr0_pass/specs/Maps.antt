@@ -1,10 +1,10 @@
 -- From the structs and enums of the last pass to the definitions' types.
-use Rattle.std.specs.Prelude.{ℕ, ◌≡◌, List, [], length, Result, Ok, Err}
-use Rattle.local_format.specs.Out.{Out, ok, refused, ◌>>=◌}
+use Rattle.std.specs.Prelude.{ℕ, ◌≡◌, List, [], length, Result, Ok, Err, eqb}
+use Rattle.local_format.specs.Out.{Out, ok, refused, check, ◌>>=◌, ◌>>◌}
 use Rattle.local_format.specs.Maps.{refusal_out}
 use Rattle.local_format.specs.declared.refusal.Refusal.{Refusal}
 use Rattle.lent_table.specs.Lent.{lent}
-use Rattle.derivation.specs.Rule.{Rule}
+use Rattle.derivation.specs.Rule.{Rule, polarity_fits}
 use Rattle.derivation.specs.Section as section
 use Rattle.evr0_head.specs.Maps.{counts_out}
 use Rattle.evr0_rules.specs.Maps.{asking}
@@ -54,3 +54,7 @@ depths_in (refused r) = []
 pub record Derives (x : Out (List ℕ)) (before after : List ℕ) (given : Out (Unit {0})) : Type 0 where
   pub answer : given ≡ done_in x
   pub depths : after ≡ lent (length before) (depths_in x)
+
+-- what a witness of this proposition and polarity is answered, under a rule and for a proof's own proposition
+abbrev pub suited : Rule → ℕ → ℕ → ℕ → Out (Unit {0})
+suited rule own found polarity = check (eqb found own) 28 0 >> check (polarity_fits rule polarity) 29 0

@@ -3,10 +3,11 @@ ghost use Rattle.std.specs.Prelude.{◌≡◌, ◌&&◌, ℕ, ◌+◌, ◌*◌, 
 ghost use Rattle.local_format.specs.Field.{le};
 ghost use Rattle.local_format.specs.Maps.{answer_out};
 ghost use Rattle.derivation.specs.Rule as derivation;
+ghost use Rattle.derivation.specs.Section.{proof_at, parent_at};
 ghost use Rattle.derivation.specs.Pass as of;
 ghost use Rattle.evr0_rules.specs.Maps.{asking};
 ghost use Rattle.evr0_pass.specs.View.{nameless, proof_by, after_name, WitnessesThere, TablesThere, PolaritiesThere};
-ghost use Rattle.evr0_pass.specs.Maps.{layout_out, tables_in, proof_out, filled, Derives};
+ghost use Rattle.evr0_pass.specs.Maps.{layout_out, tables_in, proof_out, suited, filled, Derives};
 
 use evr0_fields::number::{ProofNumber, PropositionIndex, WitnessNumber};
 use evr0_head::counts::Counts;
@@ -56,6 +57,20 @@ pub fn after_name(payload: &[u8], start: usize) -> usize
     start + 10 + (u16::le_at(payload, start + 8) as usize)
 }
 
+// One witness of a proof: its proposition is the proof's, else 28; its polarity is the one that the proof's rule asks, else 29.
+// Kept (1a): the word that waits in the lent table of depths, and the witness's byte in the payload.
+fn suits(
+    asked: u64,
+    own: PropositionIndex,
+    found: PropositionIndex,
+    polarity: u8,
+) -> Result<(), Refusal>
+    ensures { (rule : derivation.Rule) → answer_out (λ done. done) result ≡ suited (asking asked rule) own.0 found.0 polarity }
+{
+    check(found.0 == own.0, 28, 0)?;
+    check(polarity_fits(asked, polarity), 29, 0)
+}
+
 // Where a witness starts in a payload of this length.
 pub fn witness_start(len: usize, tables: Layout, witness: usize) -> usize
     requires { WitnessesThere len (layout_out tables) × (witness < tables.counts.witnesses) }
@@ -68,6 +83,7 @@ impl<'a> Tables<'a> {
     ghost use Rattle.evr0_pass.specs.Tables.{tables_by, ProofOf};
 
     // The proof with this place, whose rule asks this polarity.
+    // Kept (5d): three methods, and three functions of evr0_rounds, ask for an index below the number of proofs; a struct of it would be made for each parent.
     // Kept (1a): the word that waits in the lent table of depths until the proof's depth takes its place.
     fn proof_at(&self, i: usize, polarity: u64) -> SettledProof
         requires { i < length self.now.starts.now }
@@ -90,18 +106,37 @@ impl<'a> Tables<'a> {
         }
     }
 
-    // Whether the proof with this place has the proposition and the authority of `proof`.
-    // Kept (2d): `agree` of evr0_rounds reads both proofs; here the proof is read once and held against each of its parents.
-    fn agrees(&self, i: usize, proof: SettledProof) -> bool
+    // The cells of the parents of the proof with this place: the first, and the one after the last.
+    pub fn cells(&self, i: usize) -> (usize, usize)
         requires { i < length self.now.starts.now }
-        ensures { let start = get_or self.now.starts.now i 0 in result ≡ (eqb (le 4 self.now.payload.now (start + 4)) proof.proposition_index.0 && eqb
-            (le 4 self.now.payload.now (after_name self.now.payload.now start)) proof.authority_context) }
+        ensures there { result.1 ≤ self.now.layout.counts.parents }
+        ensures numbers { (rules : List derivation.Rule) → (result.0 ≡ (proof_at (tables_by rules self.now) i).first_parent)
+            × (result.1 ≡ result.0 + (proof_at (tables_by rules self.now) i).parent_count) }
+    {
+        let rest = after_name(self.payload, self.starts[i] as usize);
+        let first = u32::le_at(self.payload, rest + 12) as usize;
+        (first, first + u32::le_at(self.payload, rest + 16) as usize)
+    }
+
+    // The parent in a cell.
+    pub fn parent(&self, cell: usize) -> usize
+        requires { cell < self.now.layout.counts.parents }
+        ensures { (rules : List derivation.Rule) → result ≡ parent_at (tables_by rules self.now) cell }
+    {
+        u32::le_at(self.payload, self.layout.parents_at + 4 * cell) as usize
+    }
+
+    // Whether the proof with this place has this proposition and this authority.
+    pub fn agrees(&self, i: usize, proposition: u32, authority: u32) -> bool
+        requires { i < length self.now.starts.now }
+        ensures { let start = get_or self.now.starts.now i 0 in result ≡ (eqb (le 4 self.now.payload.now (start + 4)) proposition && eqb
+            (le 4 self.now.payload.now (after_name self.now.payload.now start)) authority) }
     {
         let payload = self.payload;
         let start = self.starts[i] as usize;
-        let proposition = u32::le_at(payload, start + 4);
-        let authority = u32::le_at(payload, after_name(payload, start));
-        (proposition == proof.proposition_index.0) & (authority == proof.authority_context)
+        let found = u32::le_at(payload, start + 4);
+        let granted = u32::le_at(payload, after_name(payload, start));
+        (found == proposition) & (granted == authority)
     }
 
     // The parents of `proof`: the greatest of their depths, 0 without parents.
@@ -120,9 +155,10 @@ impl<'a> Tables<'a> {
         let mut deepest: u64 = 0;
         for cell in first..end {
             let at = self.layout.parents_at + 4 * cell;
-            let parent = ProofNumber(u32::le_at(self.payload, at)).place();
+            let parent = self.parent(cell);
             check((parent < number) & (least <= parent), 25, at)?;
-            check(self.agrees(parent, proof), 26, at)?;
+            let agree = self.agrees(parent, proof.proposition_index.0, proof.authority_context);
+            check(agree, 26, at)?;
             deepest = deepest.max(depths[parent]);
             least = parent + 1;
         }
@@ -141,9 +177,13 @@ impl<'a> Tables<'a> {
         let end = first + proof.witness_count as usize;
         for witness in first..end {
             let at = witness_start(payload.len(), self.layout, witness);
-            let proposition = u32::le_at(payload, at + 4);
-            check(proposition == proof.proposition_index.0, 28, 0)?;
-            check(polarity_fits(proof.polarity, payload[at + 8]), 29, 0)?;
+            let found = PropositionIndex(u32::le_at(payload, at + 4));
+            suits(
+                proof.polarity,
+                proof.proposition_index,
+                found,
+                payload[at + 8],
+            )?;
         }
         Ok(())
     }

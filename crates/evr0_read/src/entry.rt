@@ -32,7 +32,7 @@ fn placed(span: Span, start: usize) -> Span
 }
 
 // The proposition that starts at a place.
-// Kept (2d): each reads another record and places its own text; with two closures as parameters each call would be as long as this body.
+// Kept (2d): each reads another record, and two of the four place a text as well; over two closures each call would be as long as this body.
 #[tactic(auto, unfolding(crate::specs::Entry::record_at))]
 pub fn proposition_at(payload: &[u8], at: usize) -> Result<Entry<Proposition>, Refusal>
     ensures { answer_out (entry_out proposition_record) result ≡ record_at proposition_of placed_proposition payload.now at }

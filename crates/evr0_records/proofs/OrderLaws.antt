@@ -10,7 +10,7 @@ use Rattle.std.specs.Cmp.Lexicographic.{slice_cmp}
 use Rattle.std.specs.Ordering.{nat_cmp, ordering_then, is_lt}
 use Rattle.std.specs.declared.cmp.Ordering.{Ordering}
 use Rattle.std.specs.declared.cmp.Ordering.TheVariants.{Less, Equal, Greater}
-use Rattle.evr0_section.specs.Proposition.{Order, less, equal, greater, and_then, compare, compare_bytes, is_less, Key, compare_keys}
+use Rattle.evr0_section.specs.Proposition.{less, equal, greater, and_then, compare, compare_bytes, is_less, Key, compare_keys}
 use Rattle.evr0_records.specs.Maps.{order_out}
 
 pub number_order : (a b : ℕ) → order_out (nat_cmp a b) ≡ compare a b
@@ -40,37 +40,20 @@ less_order Less = refl
 less_order Equal = refl
 less_order Greater = refl
 
-then_assoc : (x y z : Order) → and_then (and_then x y) z ≡ and_then x (and_then y z)
-then_assoc less y z = refl
-then_assoc equal y z = refl
-then_assoc greater y z = refl
-
 -- propositions by kind's bytes, then owner, scope, type
-module _ (a b : Key) where
-  abbrev by_kind : Ordering
-  by_kind = slice_cmp nat_cmp a.kind b.kind
-
-  abbrev by_owner : Ordering
-  by_owner = ordering_then by_kind (nat_cmp a.owner b.owner)
-
-  abbrev by_scope : Ordering
-  by_scope = ordering_then by_owner (nat_cmp a.scope b.scope)
-
-  abbrev by_type : Ordering
-  by_type = ordering_then by_scope (nat_cmp a.type b.type)
-
-  pub keys_order : is_lt by_type ≡ is_less (compare_keys a b)
-  unfolding compare_keys
-  keys_order =
-      rw (
-        less_order by_type,
-        then_order by_scope (nat_cmp a.type b.type),
-        then_order by_owner (nat_cmp a.scope b.scope),
-        then_order by_kind (nat_cmp a.owner b.owner),
-        bytes_order a.kind b.kind,
-        number_order a.owner b.owner,
-        number_order a.scope b.scope,
-        number_order a.type b.type,
-        then_assoc (and_then (compare_bytes a.kind b.kind) (compare a.owner b.owner)) (compare a.scope b.scope) (compare a.type b.type),
-        then_assoc (compare_bytes a.kind b.kind) (compare a.owner b.owner),
-      )
+pub keys_order : (a b : Key)
+    → order_out (ordering_then (slice_cmp nat_cmp a.kind b.kind)
+    (ordering_then (nat_cmp a.owner b.owner) (ordering_then (nat_cmp a.scope b.scope) (nat_cmp a.type b.type))))
+    ≡ compare_keys a b
+unfolding compare_keys
+keys_order a b =
+    rw (
+      then_order (slice_cmp nat_cmp a.kind b.kind)
+          (ordering_then (nat_cmp a.owner b.owner) (ordering_then (nat_cmp a.scope b.scope) (nat_cmp a.type b.type))),
+      then_order (nat_cmp a.owner b.owner) (ordering_then (nat_cmp a.scope b.scope) (nat_cmp a.type b.type)),
+      then_order (nat_cmp a.scope b.scope) (nat_cmp a.type b.type),
+      bytes_order a.kind b.kind,
+      number_order a.owner b.owner,
+      number_order a.scope b.scope,
+      number_order a.type b.type,
+    )

@@ -1,7 +1,6 @@
--- The tests of a proof, each by itself, and byte strings that are the same up to a place.
-use Rattle.std.specs.Prelude.{ℕ, ◌+◌, ◌≤◌, ◌≡◌, List, Bool, ◌&&◌, ltb, leb, eqb, length, drop}
+-- The tests of a proof, each by itself.
+use Rattle.std.specs.Prelude.{◌+◌, Bool, ◌&&◌, ltb, leb, eqb}
 use Rattle.evr0_section.specs.Head.{Counts}
-use Rattle.evr0_section.specs.Proposition.{compare_bytes}
 use Rattle.evr0_section.specs.Proof.{ProofRecord, Unowned}
 
 -- 17
@@ -16,9 +15,3 @@ is_contiguous u r = eqb r.first_witness u.witness && eqb r.first_parent u.parent
 abbrev pub ends_within : Counts → ProofRecord → Bool
 ends_within counts r =
     leb (r.first_witness + r.witness_count) counts.witnesses && leb (r.first_parent + r.parent_count) counts.parents
-
--- the order of two byte strings is that of what follows a place
-pub record SameUpTo (a b : List ℕ) (i : ℕ) : Type 0 where
-  pub in_first : i ≤ length a
-  pub in_second : i ≤ length b
-  pub order : compare_bytes a b ≡ compare_bytes (drop i a) (drop i b)

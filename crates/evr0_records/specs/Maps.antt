@@ -21,6 +21,7 @@ use Rattle.evr0_rules.specs.declared.settle.Rulebook.{Rulebook}
 use Rattle.evr0_rules.specs.declared.settle.Rulebook.TheVariants as book
 use Rattle.local_format.specs.Text.{bytes_at}
 use Rattle.evr0_records.specs.declared.proposition.Proposition.{Proposition}
+use Rattle.evr0_records.specs.declared.proposition.Key.{Key}
 use Rattle.evr0_records.specs.declared.witness.Witness.{Witness}
 
 -- what was read off the front of a part, its record by a map
@@ -37,6 +38,9 @@ order_out Greater = props.greater
 abbrev pub proposition_record : Proposition → props.Proposition
 proposition_record p =
     record { kind = span_out p.kind; owner = p.ast_owner_id; scope = p.semantic_scope_id; type = p.type_obligation_id }
+
+abbrev pub key_out : Key → props.Key
+key_out k = record { kind = k.kind.now; owner = k.owner; scope = k.scope; type = k.type_obligation }
 
 -- ---- Proofs
 

@@ -2,7 +2,7 @@
 ghost use Rattle.std.specs.Prelude.{◌≡◌};
 ghost use Rattle.local_format.specs.Maps.{answer_out};
 ghost use Rattle.evr0_section.specs.Proposition.{proposition_of, compare_keys, is_less, key_of};
-ghost use Rattle.evr0_records.specs.Maps.{sized_out, proposition_record};
+ghost use Rattle.evr0_records.specs.Maps.{sized_out, proposition_record, key_out};
 
 use crate::sized::Sized;
 use evr0_fields::span::bytes_of;
@@ -16,6 +16,29 @@ pub struct Proposition {
     pub ast_owner_id: u32,
     pub semantic_scope_id: u32,
     pub type_obligation_id: u32,
+}
+
+// What orders propositions: kind's bytes, then owner, scope, type.
+#[derive(Clone, Copy, PartialEq, Eq, PartialOrd, Ord)]
+pub struct Key<'a> {
+    pub kind: &'a [u8],
+    pub owner: u32,
+    pub scope: u32,
+    pub type_obligation: u32,
+}
+
+impl Proposition {
+    // What orders it, where it was read at the front of `part`.
+    pub fn key(self, part: &[u8]) -> Key<'_>
+        ensures { key_out result ≡ key_of part.now (proposition_record self) }
+    {
+        Key {
+            kind: bytes_of(part, self.kind),
+            owner: self.ast_owner_id,
+            scope: self.semantic_scope_id,
+            type_obligation: self.type_obligation_id,
+        }
+    }
 }
 
 // The proposition at the front of `tail`.
@@ -63,16 +86,9 @@ pub fn read_proposition(tail: &[u8]) -> Result<Sized<Proposition>, Refusal>
     })
 }
 
-// Whether the proposition `a` at the front of `part` comes before the proposition `b` at the front of `tail`: by kind's bytes, then owner,
-// scope, type.
-// Kept (4d): section_pair derives this order for its `Key`; with a `Key` here, `key(part, a) < key(tail, b)` needs a type and a function more.
+// Whether the proposition `a` at the front of `part` comes before the proposition `b` at the front of `tail`.
 pub fn precedes(part: &[u8], a: Proposition, tail: &[u8], b: Proposition) -> bool
     ensures { result ≡ is_less (compare_keys (key_of part.now (proposition_record a)) (key_of tail.now (proposition_record b))) }
 {
-    bytes_of(part, a.kind)
-        .cmp(&bytes_of(tail, b.kind))
-        .then(a.ast_owner_id.cmp(&b.ast_owner_id))
-        .then(a.semantic_scope_id.cmp(&b.semantic_scope_id))
-        .then(a.type_obligation_id.cmp(&b.type_obligation_id))
-        .is_lt()
+    a.key(part).cmp(&b.key(tail)).is_lt()
 }

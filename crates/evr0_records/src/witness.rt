@@ -27,7 +27,7 @@ pub struct Witness {
 }
 
 // The start or the end of a span.
-// Kept (1a): a witness is read under any schema, which C brings as a number.
+// Kept (1a, 7d): a witness is read under any schema, which C brings as a number; a closure for the width would be chosen by the same `if`.
 #[tactic(auto, unfolding(evr0_section::specs::Head::span_width))]
 fn span_field_at(tail: &[u8], at: usize, schema: u16) -> Option<Field<u64>>
     ensures { field_out (λ number. number) result ≡ field_at (span_width schema) tail.now at }

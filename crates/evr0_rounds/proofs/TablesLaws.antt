@@ -1,7 +1,7 @@
 -- A proof's numbers and its parents, as the payload's bytes hold them.
 use Prim.Native.Nat.{ℕ, ◌+◌, ◌<◌}
 use mathlib.Core.Path.{◌≡◌}
-use mathlib.Core.Bool.{◌&&◌}
+use mathlib.Core.Bool.{Bool, ◌&&◌}
 use mathlib.Core.List.{List}
 use lib.Dec.{eqb}
 use lib.ListN.{length, get_or}
@@ -19,20 +19,16 @@ module _ (rules : List Rule) (p starts : List ℕ) (l : Layout) (i : ℕ) (h : i
   abbrev s : Section
   s = view rules p starts l
 
-  pub parent_numbers : {rest first count : ℕ} → rest ≡ after_name p (get_or starts i 0) → first ≡ le 4 p (rest + 12) → count ≡ le 4 p (rest + 16)
-      → (first ≡ (proof_at s i).first_parent) × (first + count ≡ first + (proof_at s i).parent_count)
-  unfolding proof_view
-  parent_numbers n f k = let q = proof_at_lem rules p starts l i h in (rw (f, n, q), rw (k, n, q))
-
   pub number_is : ProofThere p l (get_or starts i 0) i → (proof_at s i).number ≡ i
   unfolding proof_view
   number_is there = let q = proof_at_lem rules p starts l i h in rw q there.number
 
-  pub agree_is : (j : ℕ) → j < length starts → {own authority rest last u v : ℕ} → own ≡ le 4 p (get_or starts i 0 + 4)
-      → rest ≡ after_name p (get_or starts i 0) → authority ≡ le 4 p rest → u ≡ le 4 p (get_or starts j 0 + 4)
-      → last ≡ after_name p (get_or starts j 0) → v ≡ le 4 p last → (eqb u own && eqb v authority) ≡ agrees s (proof_at s i) j
+  pub agree_is : (j : ℕ) → j < length starts → {own authority rest : ℕ} {agree : Bool} → own ≡ le 4 p (get_or starts i 0 + 4)
+      → rest ≡ after_name p (get_or starts i 0) → authority ≡ le 4 p rest
+      → agree ≡ (eqb (le 4 p (get_or starts j 0 + 4)) own && eqb (le 4 p (after_name p (get_or starts j 0))) authority)
+      → agree ≡ agrees s (proof_at s i) j
   unfolding proof_view
-  agree_is j k o r a e n f = let q = proof_at_lem rules p starts l i h in rw (agrees_at rules p starts l (proof_at s i) j k, q, e, f, n, o, a, r)
+  agree_is j k o r a e = let q = proof_at_lem rules p starts l i h in rw (agrees_at rules p starts l (proof_at s i) j k, q, e, o, a, r)
 
 pub total_is : (t : Tables) (rules : List Rule) → proof_total (tables_by rules t) ≡ length t.starts.now
 total_is t rules = proof_total_lem rules t.payload.now t.starts.now (layout_out t.layout)

@@ -3,5 +3,4 @@
 
 mod kin;
 mod mark;
-mod parents;
 pub mod section;

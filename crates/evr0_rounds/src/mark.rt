@@ -1,5 +1,5 @@
 // The rounds over the proofs of a payload whose tables have been read, made in place.
-ghost use Rattle.std.specs.Prelude.{◌≡◌, List, ◌≤◌, ◌<◌, length, take};
+ghost use Rattle.std.specs.Prelude.{◌≡◌, ℕ, List, Some, unwrap_or, ◌≤◌, ◌<◌, length, take};
 ghost use Rattle.local_format.specs.Maps.{answer_out};
 ghost use Rattle.derivation.specs.Rule.{Rule};
 ghost use Rattle.derivation.specs.Section.{proof_at};
@@ -11,7 +11,6 @@ ghost use Rattle.evr0_rounds.specs.Steps.{FirstUnmarked, RoundDue, Done, Fills};
 ghost use Rattle.evr0_pass.specs.Tables.{tables_by};
 
 use crate::kin::check_kin;
-use crate::parents::{cells, parent};
 use evr0_pass::pass::{Layout, Tables};
 use lent_table::{clear, clear_from};
 use local_format::refusal::{Refusal, check};
@@ -26,14 +25,15 @@ fn was_marked(rounds: &[u64], round: u64, j: usize) -> bool
 }
 
 // Whether the parents of the proof i all were.
+// Kept (5d): `mark_round` writes the rounds that this and `turn_of` read, so a struct would have `tables` and `round` alone, one parameter fewer of four.
 fn were_marked(tables: Tables, rounds: &[u64], round: u64, i: usize) -> bool
     requires { i < length tables.starts.now }
     ensures { (rules : List Rule) → result ≡ were_marked (tables_by rules tables.entry) round rounds.now
         (proof_at (tables_by rules tables.entry) i).parent_count (proof_at (tables_by rules tables.entry) i).first_parent }
 {
-    let (first, end) = cells(tables, i);
+    let (first, end) = tables.cells(i);
     for cell in first..end {
-        if !was_marked(rounds, round, parent(tables, cell)) {
+        if !was_marked(rounds, round, tables.parent(cell)) {
             return false;
         }
     }
@@ -70,18 +70,19 @@ fn mark_round(tables: Tables, round: u64, first: usize, rounds: &mut [u64])
     }
 }
 
-// The first unmarked proof from `from` on; the table's length where there is none.
-// Kept (1d, 6c): where none is left the next round starts at the length; by `position` the proof that no entry passed is 0 did not close.
-fn first_unmarked(rounds: &[u64], from: usize) -> usize
+// The first unmarked proof from `from` on.
+// Kept (6c): by `position` the proof that no entry passed is 0 did not close.
+fn first_unmarked(rounds: &[u64], from: usize) -> Option<usize>
     requires { from ≤ length rounds.now }
-    ensures { FirstUnmarked rounds.now from result }
+    ensures first { FirstUnmarked rounds.now from (unwrap_or result (length rounds.now)) }
+    ensures there { (i : ℕ) → result ≡ Some i → i < length rounds.now }
 {
     for i in from..rounds.len() {
         if rounds[i] == 0 {
-            return i;
+            return Some(i);
         }
     }
-    rounds.len()
+    None
 }
 
 // The rounds, until no proof is left; 27 where one is after 256.
@@ -93,13 +94,13 @@ fn mark_rounds(tables: Tables, rounds: &mut [u64]) -> Result<(), Refusal>
     clear(rounds);
     let mut first = 0;
     for done in 0..256 {
-        if tables.starts.len() <= first {
+        let Some(next) = first_unmarked(rounds, first) else {
             return Ok(());
-        }
+        };
+        first = next;
         mark_round(tables, done + 1, first, rounds);
-        first = first_unmarked(rounds, first);
     }
-    check(tables.starts.len() <= first, 27, 0)
+    check(first_unmarked(rounds, first).is_none(), 27, 0)
 }
 
 // 25 and 26 of each proof, then its round, with zeros past the rounds; 27 where a proof is unmarked after 256 rounds.

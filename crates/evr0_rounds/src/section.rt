@@ -11,12 +11,11 @@ ghost use Rattle.evr0_rounds.specs.Steps.{Passes, Ends, answer_with};
 
 use crate::mark::fill_front;
 use evr0::frame::{Frame, read_frame};
-use evr0_fields::schema::witness_size;
-use evr0_pass::pass::Layout;
+use evr0::section::layout_of;
 use evr0_rules::settle::{RuleRoom, Rulebook, Rules};
 use evr0_tables::lent::Tables;
 use evr0_tables::part::moved;
-use evr0_tables::payload::{Payload, read_payload};
+use evr0_tables::payload::read_payload;
 use local_format::refusal::Refusal;
 
 // How many proofs there are, each of them marked, and the cursor after the section.
@@ -32,20 +31,10 @@ fn mark_payload(rules: &Rulebook, payload: &[u8], tables: &mut Tables) -> Result
     ensures passes { (end : ℕ) → Passes (rounds_in (book_rules rules.now) (room_of (tables_out tables.old)) payload.now end)
         (tables_out tables.old) (tables_out tables.new) (answer_out (λ n. n) result) }
 {
-    let Payload {
-        head,
-        witnesses_at,
-        parents_at,
-    } = read_payload(rules, payload, tables)?;
-    let layout = Layout {
-        counts: head.counts,
-        witness_size: witness_size(head.schema),
-        witnesses_at,
-        parents_at,
-    };
-    let filled = fill_front(payload, layout, tables.proofs, tables.depths);
+    let read = read_payload(rules, payload, tables)?;
+    let filled = fill_front(payload, layout_of(&read), tables.proofs, tables.depths);
     match filled {
-        Ok(()) => Ok(head.counts.proofs),
+        Ok(()) => Ok(read.head.counts.proofs),
         Err(refusal) => {
             tables.clear(); // of refused rounds
             Err(refusal)

@@ -20,7 +20,7 @@ use Rattle.derivation.specs.Rule.{Rule, rule_named}
 use Rattle.derivation.proofs.Tests.{order}
 use Rattle.rule_table.specs.Load.{outside_bounds, given_twice, rule_in, Loaded, rule_at, outside, named_in, rules_from, rules_of, Distinct, none}
 use Rattle.rule_table.proofs.Load.{outside_ok, loaded}
-use Rattle.evr0_rules.specs.There.{StartsThere, RulesThere, LoadsAt}
+use Rattle.evr0_rules.specs.There.{StartsThere, RulesThere}
 use Rattle.evr0_rules.specs.Maps.{named_out, new_rule_at}
 use Rattle.evr0_rules.specs.declared.rule.Rule as code
 use Rattle.evr0_rules.proofs.NameLaws.{new_test, given_last, distinct_last}
@@ -201,5 +201,5 @@ module _ (t : List ℕ) where
   all_loads {count} {i} starts s h e = let c : count ≡ i = omega (arith, s.upto) in rw c (sym (all_read s h e))
 
 -- ---- A loaded table
-pub rules_there : {t starts : List ℕ} → LoadsAt t starts → StartsThere t starts → RulesThere t starts
+pub rules_there : {t starts : List ℕ} → rules_of t ≡ ok (map (rule_in t) starts) → StartsThere t starts → RulesThere t starts
 rules_there {t} e h = let l = loaded t _ e in record { starts = h; distinct = l.distinct; allowed = l.allowed }

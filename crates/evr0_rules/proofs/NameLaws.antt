@@ -11,10 +11,9 @@ use native.Mathlib.Numerals.{add-one}
 use lib.ListN.{length, get_or, drop, drop_of_length-le}
 use lib.Seq.{drop-cons}
 use Rattle.local_format.specs.Tag.{equal}
-use Rattle.local_format.proofs.TagLaws.{equal_is}
+use Rattle.local_format.proofs.TagLaws.{equal_is, equal_self}
 use Rattle.derivation.specs.Rule.{Rule, known, unknown, rule_named}
 use Rattle.rule_table.specs.Load.{rule_in, named_in, Distinct, none, also}
-use Rattle.rule_table.proofs.Load.{equal_self}
 use Rattle.rule_table.proofs.Names.{loaded_named}
 use Rattle.evr0_rules.specs.declared.rule.Rule as code
 use Rattle.evr0_rules.specs.Maps.{rule_out, named_out}

@@ -4,7 +4,7 @@
 mod four;
 mod grow;
 pub mod load;
-mod placed;
+pub mod placed;
 pub mod rule;
 pub mod settle;
 mod tree;

@@ -1,5 +1,5 @@
 // Loading a table of rules.
-ghost use Rattle.std.specs.Prelude.{◌≡◌, ◌≤◌, length};
+ghost use Rattle.std.specs.Prelude.{◌≡◌};
 ghost use Rattle.std.specs.Result.{IfOk};
 ghost use Rattle.rule_table.specs.Load.{rule_at, outside, rules_of};
 ghost use Rattle.local_format.specs.Maps.{answer_out};
@@ -53,7 +53,6 @@ pub(crate) fn rules_at<'a>(
 ) -> Result<RulesAt<'a>, Refusal>
     ensures rules { answer_out rules_out result ≡ rules_of table.now }
     ensures table { IfOk result (λ rules. rules.table.now ≡ table.now) }
-    ensures few { IfOk result (λ rules. length rules.starts.now ≤ 32) }
 {
     let Some(Field { value, .. }) = field_at::<u8>(table, 0) else {
         return Err(refuse(69, 0));

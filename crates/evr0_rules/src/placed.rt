@@ -73,7 +73,7 @@ impl<'a> RulesAt<'a> {
     }
 
     // The rule with this name.
-    // Kept (6d): by `find` the closure would make a `RuleAt` of each place, with its proof, and a `map` after it the same once more for the numbers.
+    // Kept (6d): in a closure over the starts nothing says that a place is one of them, which `RuleAt`'s ghost field asks; it would state it as a clause.
     pub fn rule_named(self, name: &[u8]) -> Option<Rule>
         ensures { named_out name.now result ≡ rule_named (rules_out self.entry) name.now }
     {

@@ -1,5 +1,5 @@
 // The rules of a call: the four, or those of a table that comes as bytes.
-ghost use Rattle.evr0_rules.specs.There.{LoadsAt, loads_prop};
+ghost use Rattle.evr0_rules.specs.There.{RulesThere};
 
 use crate::load::{load_rules, rules_at};
 use crate::placed::RulesAt;
@@ -46,18 +46,28 @@ impl RuleRoom {
     };
 }
 
-// A table that loaded: its rules, and a search tree over their names.
+// Rules that a table holds, and a search tree over their names.
 #[derive(Clone, Copy)]
 pub struct LoadedTable<'a> {
-    rules: RulesAt<'a>,
+    pub rules: RulesAt<'a>,
     tree: &'a Tree,
-    pub ghost loads: { LoadsAt rules.table.now rules.starts.now } by { loads_prop rules.table.now rules.starts.now },
+    pub ghost told: { ∥ RulesThere rules.table.now rules.starts.now ∥₁ },
 }
 
 impl<'a> LoadedTable<'a> {
     ghost use Rattle.std.specs.Prelude.{◌≡◌};
     ghost use Rattle.derivation.specs.Rule.{rule_named};
     ghost use Rattle.evr0_rules.specs.Maps.{named_out, rules_out};
+
+    // These rules, with the tree that is made of their names in the room.
+    pub fn new(rules: RulesAt<'a>, room: &'a mut RuleRoom) -> LoadedTable<'a>
+        requires { ∥ RulesThere rules.table.now rules.starts.now ∥₁ }
+        ensures { result.rules ≡ rules.entry }
+    {
+        room.tree.fill(rules);
+        let tree = &room.tree;
+        LoadedTable { rules, tree }
+    }
 
     // The rule with this name: the one at which it ends in the tree, where that has the name, else by all.
     fn rule_named(self, name: &[u8]) -> Option<Rule>

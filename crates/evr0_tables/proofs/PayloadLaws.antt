@@ -2,11 +2,13 @@
 use Prim.Native.Nat.{ℕ, ◌+◌, ◌-◌, ◌≤◌}
 use mathlib.Core.Path.{◌≡◌, refl, sym, ap, ◌∙◌, subst}
 use mathlib.Core.Bool.{Bool, true, false, ◌&&◌}
-use mathlib.Core.List.{List, map}
+use mathlib.Core.List.{List, map, ◌++◌}
 use native.Mathlib.Omega.{arith}
 use borrow.Author.Tests.{leb-true}
 use lib.Dec.{eqb, leb}
-use lib.ListN.{length, take, length-map}
+use lib.ListN.{length, take, length-map, length-take}
+use lib.Seq.{length-take-le}
+use Rattle.std.proofs.lemmas.List.{take-append-le}
 use Rattle.local_format.specs.Refusal.{Refusal}
 use Rattle.local_format.specs.Out.{Out, ok, refused, check, ◌>>=◌, ◌>>◌}
 use Rattle.local_format.proofs.OutLaws.{on_ok, bind_ok, then_ok, checked_ok, check_ok, ok_same, never}
@@ -30,7 +32,7 @@ use Rattle.evr0_head.proofs.HeadLaws.{limited}
 use Rattle.evr0_tables.specs.LentTables.{Lent, room_of}
 use Rattle.evr0_tables.specs.LentMaps.{Cleared}
 use Rattle.evr0_tables.specs.Maps.{next_in, asked, starts_in, Owned, owned_in}
-use Rattle.evr0_tables.specs.PayloadMaps.{Payload, parents_in, payload_in, Begins, Reads}
+use Rattle.evr0_tables.specs.PayloadMaps.{Payload, under, parents_in, payload_in, Begins, Reads}
 
 -- ---- A table by what is kept of it
 module _ {A S : Type 0} (row : S → List ℕ → Out (Row A S))
@@ -46,6 +48,23 @@ module _ {A S : Type 0} (row : S → List ℕ → Out (Row A S))
 pub owned_next : (x : Out (Rows Settled Unowned)) {o : Owned} → owned_in x ≡ ok o → next_in x ≡ ok o.next
 owned_next (ok t) e = ap (λ (o : Owned). ok o.next) (ok_same e)
 owned_next (refused r) e = absurd (never e)
+
+-- the propositions, as many as the part of a table that is lent for their starts
+module _ (p : List ℕ) (at : ℕ) (table : List ℕ) (n : ℕ) (h : n ≤ length table) where
+  part : length (take n table) ≡ n
+  part = length-take-le n table h
+
+  pub next_of_part : {y : Out ℕ} → y ≡ next_in (rows proposition_row (length (take n table)) first p at) → y ≡ next_in (rows proposition_row n first p at)
+  next_of_part e = rw part at e
+
+  pub front_of_part : (starts rest : List ℕ) → Front (starts_in (rows proposition_row (length (take n table)) first p at)) starts
+      → Front (starts_in (rows proposition_row n first p at)) (starts ++ rest)
+  front_of_part starts rest f = front_on (starts_in (rows proposition_row n first p at)) (rw part at f)
+    where
+      front_on : (xs : List ℕ) → Front xs starts → Front xs (starts ++ rest)
+      front_on xs e =
+          let m : length (take (length xs) starts) ≡ length xs = ap length e in
+          take-append-le (length xs) starts rest (omega (arith, m, length-take (length xs) starts)) ∙ e
 
 -- ---- The answer, step by step
 module _ (width : ℕ) (counts : Counts) (p : List ℕ) (at : ℕ) where
@@ -134,132 +153,117 @@ cleared {x} {before} {middle} {after} {q} b l c =
       polarities = c.depths ∙ rw (n, ap (λ (r : Room). r.depths) l);
     }
 
--- ---- A payload with a checked head, step by step
-module _ (rules : List Rule) (room : Room) (p : List ℕ) where
+-- ---- The tables after a head, step by step
+module _ (rules : List Rule) (width : ℕ) (counts : Counts) (p : List ℕ) (at : ℕ) (h : Head) where
   abbrev x : Out Tables
-  x = tables_of rules room p
+  x = under h (tables_after rules width counts p at)
 
-  pub no_head : {q : Refusal} → refused q ≡ checked_head room p → payload_in x ≡ refused q
+  abbrev owned : Unowned → Bool
+  owned u = eqb u.witness counts.witnesses && eqb u.parent counts.parents
+
+  abbrev rest : ℕ → Out Rest
+  rest place = rest_after width counts p place
+
+  abbrev after_proofs : Owned → Out Payload
+  after_proofs o = check (owned o.unowned) 22 o.next >> (parents_in (rest o.next) >>= λ q. ok (record {
+    head = h;
+    witnesses_at = o.next;
+    parents_at = q;
+  }))
+
+  abbrev four : Rows Proposition Before → Rows Settled Unowned → Out Four
+  four a b = rest b.next >>= λ r. ok (record { propositions = a; proofs = b; rest = r })
+
+  pub payload_kept : payload_in x
+      ≡ (next_in (rows proposition_row counts.propositions first p at) >>= λ n. owned_in (rows (proof_row rules counts) counts.proofs none_owned p n)
+      >>= λ o. after_proofs o)
+  unfolding tables_after
+  payload_kept = by_propositions (rows proposition_row counts.propositions first p at)
+    where
+      by_rest : (a : Rows Proposition Before) (b : Rows Settled Unowned) (y : Out Rest)
+          → payload_in ((y >>= λ r. ok (record { propositions = a; proofs = b; rest = r })) >>= λ f. ok (whole h f))
+          ≡ (parents_in y >>= λ q. ok (record { head = h; witnesses_at = b.next; parents_at = q }))
+      by_rest a b (ok r) = refl
+      by_rest a b (refused r) = refl
+
+      by_owned : (a : Rows Proposition Before) (b : Rows Settled Unowned) (t : Bool)
+          → payload_in ((check t 22 b.next >> four a b) >>= λ f. ok (whole h f))
+          ≡ (check t 22 b.next >> (parents_in (rest b.next) >>= λ q. ok (record { head = h; witnesses_at = b.next; parents_at = q })))
+      by_owned a b true = by_rest a b (rest b.next)
+      by_owned a b false = refl
+
+      by_proofs : (a : Rows Proposition Before) (y : Out (Rows Settled Unowned))
+          → payload_in ((y >>= λ b. check (owned b.state) 22 b.next >> four a b) >>= λ f. ok (whole h f)) ≡ (owned_in y >>= λ o. after_proofs o)
+      by_proofs a (ok b) = by_owned a b (owned b.state)
+      by_proofs a (refused r) = refl
+
+      by_propositions : (y : Out (Rows Proposition Before))
+          → payload_in ((y >>= λ a. rows (proof_row rules counts) counts.proofs none_owned p a.next >>= λ b. check (owned b.state) 22 b.next
+          >> four a b) >>= λ f. ok (whole h f))
+          ≡ (next_in y >>= λ n. owned_in (rows (proof_row rules counts) counts.proofs none_owned p n) >>= λ o. after_proofs o)
+      by_propositions (ok a) = by_proofs a (rows (proof_row rules counts) counts.proofs none_owned p a.next)
+      by_propositions (refused r) = refl
+
+  -- ---- What the lent tables hold
+  read_four : {t : Tables} → x ≡ ok t → (f : Four) × (x ≡ ok (whole h f)) × FourSteps rules width counts p at f
+  read_four {t} e =
+      let a = bind_ok (tables_after rules width counts p at) _ e in
+      (a.0, on_ok (λ f. ok (whole h f)) a.1, four_steps rules width counts p at a.0 a.1)
+
+  -- begun by the propositions and the proofs that were read
+  pub all_begun : {g : Payload} {n : ℕ} {before after : Lent} → payload_in x ≡ ok g
+      → ok n ≡ next_in (rows proposition_row counts.propositions first p at)
+      → Front (starts_in (rows proposition_row counts.propositions first p at)) after.propositions
+      → Front (starts_in (rows (proof_row rules counts) counts.proofs none_owned p n)) after.proofs
+      → ((t : Rows Settled Unowned) → rows (proof_row rules counts) counts.proofs none_owned p n ≡ ok t
+      → after.depths ≡ laid (map asked t.entries) before.depths)
+      → Begins x before after (ok g)
+  all_begun {g} {n} {before} {after} e m k l o =
+      let a = bind_ok x _ e in
+      let (f, is, steps) = read_four a.1 in
+      let next : n ≡ f.propositions.next = ok_same (m ∙ ap next_in steps.propositions) in
+      let l' : Front (starts_in (rows (proof_row rules counts) counts.proofs none_owned p f.propositions.next)) after.proofs = rw next at l in
+      record {
+        answer = sym e;
+        propositions = rw is (rw steps.propositions at k);
+        proofs = rw is (rw steps.proofs at l');
+        polarities = λ t y. rw (← ok_same (sym is ∙ y)) (o f.proofs (rw next steps.proofs));
+      }
+
+  -- cleared past what was read
+  pub cleared_past : {g : Payload} {before middle after : Lent} → Begins x before middle (ok g) → room_of middle ≡ room_of before
+      → after.propositions ≡ lent (length middle.propositions) (take counts.propositions middle.propositions)
+      → after.proofs ≡ lent (length middle.proofs) (take counts.proofs middle.proofs) → after.depths ≡ middle.depths → Reads x before after (ok g)
+  cleared_past {g} {before} {middle} {after} b l ep eq ek =
+      let a = bind_ok x _ (sym b.answer) in
+      let (f, is, steps) = read_four a.1 in
+      let np : length (starts_of f.propositions.entries) ≡ counts.propositions =
+      length-map f.propositions.entries _ ∙ trace_length proposition_row p (trace proposition_row p _ _ _ f.propositions steps.propositions) in
+      let nq : length (starts_of f.proofs.entries) ≡ counts.proofs =
+      length-map f.proofs.entries _
+      ∙ trace_length (proof_row rules counts) p (trace (proof_row rules counts) p _ _ _ f.proofs steps.proofs) in
+      record {
+        answer = b.answer;
+        propositions = rw is (ep ∙ front_lent _ _ middle.propositions _ (ap (λ (r : Room). r.propositions) l) np (rw is at b.propositions));
+        proofs = rw is (eq ∙ front_lent _ _ middle.proofs _ (ap (λ (r : Room). r.proofs) l) nq (rw is at b.proofs));
+        polarities = rw is (ek ∙ b.polarities (whole h f) is);
+      }
+
+-- ---- A payload, by its head
+module _ (rules : List Rule) (room : Room) (p : List ℕ) where
+  pub no_head : {q : Refusal} {before after : Lent} → refused q ≡ checked_head room p → Cleared before after
+      → Reads (tables_of rules room p) before after (refused q)
   unfolding tables_of
-  no_head e = rw (← e)
+  no_head e c = rw (← e) (record { answer = refl; propositions = c.propositions; proofs = c.proofs; polarities = c.depths })
 
-  module _ {h : Head} (eh : ok h ≡ checked_head room p) where
-    abbrev owned : Unowned → Bool
-    owned u = eqb u.witness h.counts.witnesses && eqb u.parent h.counts.parents
-
-    abbrev rest : ℕ → Out Rest
-    rest at = rest_after (span_width h.schema) h.counts p at
-
-    abbrev after_proofs : Owned → Out Payload
-    after_proofs o = check (owned o.unowned) 22 o.next >> (parents_in (rest o.next) >>= λ q. ok (record {
-      head = h;
-      witnesses_at = o.next;
-      parents_at = q;
-    }))
-
-    abbrev four : Rows Proposition Before → Rows Settled Unowned → Out Four
-    four a b = rest b.next >>= λ r. ok (record { propositions = a; proofs = b; rest = r })
-
-    of_head : x ≡ (tables_after rules (span_width h.schema) h.counts p h.next >>= λ f. ok (whole h f))
-    unfolding tables_of
-    of_head = rw (← eh)
-
-    by_tables : payload_in (tables_after rules (span_width h.schema) h.counts p h.next >>= λ f. ok (whole h f))
-        ≡ (next_in (rows proposition_row h.counts.propositions first p h.next) >>= λ n.
-        owned_in (rows (proof_row rules h.counts) h.counts.proofs none_owned p n) >>= λ o. after_proofs o)
-    unfolding tables_after
-    by_tables = by_propositions (rows proposition_row h.counts.propositions first p h.next)
-      where
-        by_rest : (a : Rows Proposition Before) (b : Rows Settled Unowned) (y : Out Rest)
-            → payload_in ((y >>= λ r. ok (record { propositions = a; proofs = b; rest = r })) >>= λ f. ok (whole h f))
-            ≡ (parents_in y >>= λ q. ok (record { head = h; witnesses_at = b.next; parents_at = q }))
-        by_rest a b (ok r) = refl
-        by_rest a b (refused r) = refl
-
-        by_owned : (a : Rows Proposition Before) (b : Rows Settled Unowned) (t : Bool)
-            → payload_in ((check t 22 b.next >> four a b) >>= λ f. ok (whole h f))
-            ≡ (check t 22 b.next >> (parents_in (rest b.next) >>= λ q. ok (record { head = h; witnesses_at = b.next; parents_at = q })))
-        by_owned a b true = by_rest a b (rest b.next)
-        by_owned a b false = refl
-
-        by_proofs : (a : Rows Proposition Before) (y : Out (Rows Settled Unowned))
-            → payload_in ((y >>= λ b. check (owned b.state) 22 b.next >> four a b) >>= λ f. ok (whole h f))
-            ≡ (owned_in y >>= λ o. after_proofs o)
-        by_proofs a (ok b) = by_owned a b (owned b.state)
-        by_proofs a (refused r) = refl
-
-        by_propositions : (y : Out (Rows Proposition Before))
-            → payload_in ((y >>= λ a. rows (proof_row rules h.counts) h.counts.proofs none_owned p a.next >>= λ b. check (owned b.state) 22 b.next
-            >> four a b) >>= λ f. ok (whole h f))
-            ≡ (next_in y >>= λ n. owned_in (rows (proof_row rules h.counts) h.counts.proofs none_owned p n) >>= λ o. after_proofs o)
-        by_propositions (ok a) = by_proofs a (rows (proof_row rules h.counts) h.counts.proofs none_owned p a.next)
-        by_propositions (refused r) = refl
-
-    pub payload_kept : payload_in x
-        ≡ (next_in (rows proposition_row h.counts.propositions first p h.next) >>= λ n.
-        owned_in (rows (proof_row rules h.counts) h.counts.proofs none_owned p n) >>= λ o. after_proofs o)
-    payload_kept = ap payload_in of_head ∙ by_tables
-
-    -- ---- What the lent tables hold
-    read_four : {t : Tables} → x ≡ ok t → (f : Four) × (x ≡ ok (whole h f)) × FourSteps rules (span_width h.schema) h.counts p h.next f
-    read_four {t} e =
-        let a = bind_ok (tables_after rules (span_width h.schema) h.counts p h.next) _ (sym of_head ∙ e) in
-        (a.0, of_head ∙ on_ok (λ f. ok (whole h f)) a.1, four_steps rules (span_width h.schema) h.counts p h.next a.0 a.1)
-
-    -- begun by the propositions and the proofs that were read
-    pub all_begun : {g : Payload} {n : ℕ} {before after : Lent} → payload_in x ≡ ok g
-        → ok n ≡ next_in (rows proposition_row h.counts.propositions first p h.next)
-        → Front (starts_in (rows proposition_row h.counts.propositions first p h.next)) after.propositions
-        → Front (starts_in (rows (proof_row rules h.counts) h.counts.proofs none_owned p n)) after.proofs
-        → ((t : Rows Settled Unowned) → rows (proof_row rules h.counts) h.counts.proofs none_owned p n ≡ ok t
-        → after.depths ≡ laid (map asked t.entries) before.depths)
-        → Begins x before after (ok g)
-    all_begun {g} {n} {before} {after} e m k l o =
-        let a = bind_ok x _ e in
-        let (f, is, steps) = read_four a.1 in
-        let next : n ≡ f.propositions.next = ok_same (m ∙ ap next_in steps.propositions) in
-        let l' : Front (starts_in (rows (proof_row rules h.counts) h.counts.proofs none_owned p f.propositions.next)) after.proofs = rw next at l in
-        record {
-          answer = sym e;
-          propositions = rw is (rw steps.propositions at k);
-          proofs = rw is (rw steps.proofs at l');
-          polarities = λ t y. rw (← ok_same (sym is ∙ y)) (o f.proofs (rw next steps.proofs));
-        }
+  pub by_head : {h : Head} → ok h ≡ checked_head room p → under h (tables_after rules (span_width h.schema) h.counts p h.next) ≡ tables_of rules room p
+  unfolding tables_of
+  by_head e = rw (← e)
 
   -- ---- A payload that was read
-  pub room_there : {t : Tables} → x ≡ ok t → Ready room p t.head
+  pub room_there : {t : Tables} → tables_of rules room p ≡ ok t → Ready room p t.head
   unfolding tables_of
   room_there e =
       let a = bind_ok (checked_head room p) _ e in
       let b = bind_ok (tables_after rules (span_width a.0.schema) a.0.counts p a.0.next) _ a.2 in
       subst (λ (t : Tables). Ready room p t.head) (ok_same b.2) (ready room p (sym a.1))
-
-  head_read : {t : Tables} → x ≡ ok t → (h : Head) × (ok h ≡ checked_head room p)
-  unfolding tables_of
-  head_read e =
-      let a = bind_ok (checked_head room p) _ e in
-      (a.0, sym a.1)
-
-  -- cleared past what was read
-  pub cleared_past : {g : Payload} {before middle after : Lent} → Begins x before middle (ok g) → room_of middle ≡ room_of before
-      → after.propositions ≡ lent (length middle.propositions) (take g.head.counts.propositions middle.propositions)
-      → after.proofs ≡ lent (length middle.proofs) (take g.head.counts.proofs middle.proofs) → after.depths ≡ middle.depths → Reads x before after (ok g)
-  cleared_past {g} {before} {middle} {after} b l ep eq ek =
-      let a = bind_ok x _ (sym b.answer) in
-      let k = head_read a.1 in
-      let (f, is, steps) = read_four k.1 a.1 in
-      let same : k.0.counts ≡ g.head.counts = ap (λ (y : Payload). y.head.counts) (ok_same (sym (b.answer ∙ ap payload_in is))) in
-      let np : length (starts_of f.propositions.entries) ≡ g.head.counts.propositions =
-      length-map f.propositions.entries _
-      ∙ trace_length proposition_row p (trace proposition_row p _ _ _ f.propositions steps.propositions)
-      ∙ ap (λ (c : Counts). c.propositions) same in
-      let nq : length (starts_of f.proofs.entries) ≡ g.head.counts.proofs =
-      length-map f.proofs.entries _
-      ∙ trace_length (proof_row rules k.0.counts) p (trace (proof_row rules k.0.counts) p _ _ _ f.proofs steps.proofs)
-      ∙ ap (λ (c : Counts). c.proofs) same in
-      record {
-        answer = b.answer;
-        propositions = rw is (ep ∙ front_lent _ _ middle.propositions _ (ap (λ (r : Room). r.propositions) l) np (rw is at b.propositions));
-        proofs = rw is (eq ∙ front_lent _ _ middle.proofs _ (ap (λ (r : Room). r.proofs) l) nq (rw is at b.proofs));
-        polarities = rw is (ek ∙ b.polarities (whole k.0 f) is);
-      }

@@ -4,11 +4,12 @@ use Rattle.local_format.specs.Out.{Out, ok, refused, ◌>>=◌}
 use Rattle.lent_table.specs.Lent.{lent, laid, Front}
 use Rattle.evr0_section.specs.Rows.{starts_of}
 use Rattle.evr0_section.specs.Head.{Head}
-use Rattle.evr0_section.specs.Section.{Rest, Tables}
+use Rattle.evr0_section.specs.Section.{Rest, Four, Tables, whole}
 use Rattle.evr0_head.specs.Maps.{head_out}
 use Rattle.evr0_tables.specs.LentTables.{Lent}
 use Rattle.evr0_tables.specs.Maps.{asked}
 use Rattle.evr0_tables.specs.declared.payload.Payload as code
+use Rattle.evr0_tables.specs.declared.payload.Places.{Places}
 
 -- the head, and where the witnesses and the parents start
 pub record Payload : Type 0 where
@@ -23,6 +24,16 @@ payload_in x = do
 
 abbrev pub payload_out : code.Payload → Payload
 payload_out p = record { head = head_out p.head; witnesses_at = p.witnesses_at; parents_at = p.parents_at }
+
+-- the tables after a head
+abbrev pub under : Head → Out Four → Out Tables
+under h x = do
+  f ← x
+  ok (whole h f)
+
+-- the places of the tables after a head
+abbrev pub places_out : Head → Places → Payload
+places_out h p = record { head = h; witnesses_at = p.witnesses_at; parents_at = p.parents_at }
 
 -- where the parents start
 abbrev pub parents_in : Out Rest → Out ℕ

@@ -23,22 +23,16 @@ use local_format::refusal::{Refusal, refuse};
 
 // The place after the propositions.
 // Kept (2d): over a closure, as `fill_starts` of semcode_decode, the walk would carry a state and, for proofs, a second table: more than these four lines.
-// Kept (6a): callers in C lend the table of starts; the count is the head's.
-pub fn read_propositions(
-    payload: &[u8],
-    count: usize,
-    at: usize,
-    starts: &mut [u64],
-) -> Result<usize, Refusal>
-    requires { (count ≤ length starts.old) × (at ≤ length payload.now) }
-    ensures result_value { answer_out (λ n. n) result ≡ next_in (rows proposition_row count first payload.now at) }
-    ensures front { Front (starts_in (rows proposition_row count first payload.now at)) starts.new }
+pub fn read_propositions(payload: &[u8], at: usize, starts: &mut [u64]) -> Result<usize, Refusal>
+    requires { at ≤ length payload.now }
+    ensures result_value { answer_out (λ n. n) result ≡ next_in (rows proposition_row (length starts.old) first payload.now at) }
+    ensures front { Front (starts_in (rows proposition_row (length starts.old) first payload.now at)) starts.new }
 {
     let mut before = None;
     let mut place = at;
-    for i in 0..count {
+    for start in starts {
         let next = moved(next_proposition(payload, place, before), place)?;
-        starts[i] = place as u64; // of a proposition
+        *start = place as u64; // of a proposition
         before = Some(next.state);
         place += next.size;
     }
@@ -47,7 +41,7 @@ pub fn read_propositions(
 
 // What is unowned after the proofs, and the place after them. Their starts are put at the front of a lent table, and the polarities that their rules ask at
 // the front of another, past which it holds what stood there.
-// Kept (6a): callers in C lend both tables; the count is the head's.
+// Kept (6d): `counts` stays for the checks of each proof, so of tables that are cut to their count the same two clauses are to be said, as equalities.
 pub fn read_proofs(
     rules: &Rulebook,
     payload: &[u8],

@@ -5,6 +5,7 @@ use Rattle.semcode_records.specs.Records.{Taken}
 use Rattle.semcode_records.specs.Symbol as symbols
 use Rattle.semcode_records.specs.Component as components
 use Rattle.semcode_records.specs.Path as paths
+use Rattle.semcode_records.specs.Numbers.{parts, numbered}
 use Rattle.semcode_decode.specs.Layout.{Layout}
 use Rattle.falgnust.specs.Maps.{flat_refusal, no_refusal}
 use Rattle.falgnust.specs.declared.refusal.Refusal.{Refusal}
@@ -69,12 +70,7 @@ flat_symbol (refused r) = record { accepted = false; refusal = flat_refusal r; p
 
 -- an event by its number in C, and its site
 abbrev pub flat_event : paths.Event → Event
-flat_event (paths.borrow paths.no_activation) = record { event = 0; site = 0 }
-flat_event (paths.borrow paths.frame_entry) = record { event = 1; site = 0 }
-flat_event (paths.borrow (paths.borrow_store_site site)) = record { event = 2; site = site }
-flat_event (paths.write paths.no_execution) = record { event = 3; site = 0 }
-flat_event (paths.write (paths.write_store_site site)) = record { event = 4; site = site }
-flat_event (paths.write (paths.write_record_site site)) = record { event = 5; site = site }
+flat_event e = record { event = (numbered e).event; site = (numbered e).site }
 
 abbrev pub no_event : Event
 no_event = record { event = 0; site = 0 }
@@ -103,10 +99,7 @@ flat_path (refused r) =
 
 -- a component by its kind's byte, and its one or two numbers
 abbrev pub flat_parts : components.Component → Parts
-flat_parts (components.tuple_index index) = record { kind = 0; first = index; second = 0 }
-flat_parts (components.field_symbol symbol) = record { kind = 1; first = symbol; second = 0 }
-flat_parts (components.variant which index) = record { kind = 2; first = which; second = index }
-flat_parts (components.sequence_index index) = record { kind = 3; first = index; second = 0 }
+flat_parts c = record { kind = (parts c).kind; first = (parts c).first; second = (parts c).second }
 
 abbrev pub no_parts : Parts
 no_parts = record { kind = 0; first = 0; second = 0 }

@@ -39,7 +39,7 @@ impl From<Answer<bool>> for Authorised {
     }
 }
 
-// Kept (2a): C has no enum with a value, so each function by the four has one by a table of rules beside it; both call one function of Rules.
+// Kept (2a): C has no enum with a value, so each function by the four has one by a table of rules; but for two decoders both call one of Rules.
 #[unsafe(no_mangle)]
 pub extern "C" fn falgnust_authorised(
     bytes: &[u8],

@@ -14,7 +14,7 @@ use semcode_records::symbol::DecodedDebugSymbol;
 use semcode_symbols::parse_string_table_debug_and_ownership;
 
 // Counts, whether each tag was found, and places in the block; or a refusal, with zeros beside it.
-// Kept (1a): callers in C read a flag and the values beside it.
+// Kept (1a): callers in C read four flags and the values beside them.
 #[repr(C)]
 #[derive(Clone, Copy, Debug, Default, PartialEq, Eq)]
 pub struct Block {

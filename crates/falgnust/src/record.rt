@@ -11,9 +11,7 @@ use crate::refusal::{Answer, Refusal};
 use local_format::field::Field;
 use lock_words::words::Part;
 use semcode_records::component::{DecodedAccessPathComponent, read_component};
-use semcode_records::path::{
-    DecodedAccessPath, DecodedBorrowActivation, DecodedEvent, DecodedWriteExecution, read_path,
-};
+use semcode_records::path::{DecodedAccessPath, DecodedEvent, read_path};
 use semcode_records::symbol::{DecodedDebugSymbol, read_debug_symbol};
 
 // ---- Debug symbols
@@ -68,7 +66,6 @@ pub extern "C" fn falgnust_read_debug_symbol(code: &[u8], at: usize) -> Symbol
 // 0: a borrow without activation; 1: on frame entry; 2: at a store site; 3: a write without execution; 4: at a store site; 5: at a record
 // site. The site is 0 where there is none. C has no enum with a value.
 // Kept (1a): callers in C read an event as a number, with its site beside it.
-// Kept (2d): path_words' Numbered is made by the same arms, for its own words: made public it would be copied here, field by field, into C's struct.
 #[repr(C)]
 #[derive(Clone, Copy, Debug, Default, PartialEq, Eq)]
 pub struct Event {
@@ -80,14 +77,7 @@ impl From<DecodedEvent> for Event {
     ghost from_gives = { λ event e. e ≡ flat_event (event_is event) };
 
     fn from(event: DecodedEvent) -> Event {
-        let (event, site) = match event {
-            DecodedEvent::Borrow(DecodedBorrowActivation::None) => (0, 0),
-            DecodedEvent::Borrow(DecodedBorrowActivation::FrameEntry) => (1, 0),
-            DecodedEvent::Borrow(DecodedBorrowActivation::StoreVarSite(site)) => (2, site),
-            DecodedEvent::Write(DecodedWriteExecution::None) => (3, 0),
-            DecodedEvent::Write(DecodedWriteExecution::StoreVarSite(site)) => (4, site),
-            DecodedEvent::Write(DecodedWriteExecution::MakeRecordSite(site)) => (5, site),
-        };
+        let (event, site) = event.numbered();
         Event { event, site }
     }
 }
@@ -137,7 +127,8 @@ pub extern "C" fn falgnust_read_path(code: &[u8], at: usize, header_rev: u16) ->
 // ---- Components
 
 // The kind is the byte of the format; a variant's index is the second number.
-// Kept (1a, 2d): callers in C read a kind as a number; lock_words' Part has the same three, and one for both would put C's layout into lock_words.
+// Kept (1a): callers in C read a kind as a number.
+// Kept (2d): lock_words' Part has the same three; `repr(C)` is for a type that C lends, as DecodedDebugSymbol: C never lends a Part, it is answered in this.
 #[repr(C)]
 #[derive(Clone, Copy, Debug, Default, PartialEq, Eq)]
 pub struct Parts {
@@ -150,12 +141,7 @@ impl From<DecodedAccessPathComponent> for Parts {
     ghost from_gives = { λ component p. p ≡ flat_parts (component_is component) };
 
     fn from(component: DecodedAccessPathComponent) -> Parts {
-        let (kind, first, second) = match component {
-            DecodedAccessPathComponent::TupleIndex(index) => (0, index.into(), 0),
-            DecodedAccessPathComponent::FieldSymbol(field) => (1, field, 0),
-            DecodedAccessPathComponent::AdtPayload { variant, index } => (2, variant, index),
-            DecodedAccessPathComponent::SequenceIndexStatic(index) => (3, index, 0),
-        };
+        let (kind, first, second) = component.parts();
         Parts {
             kind,
             first,

@@ -38,7 +38,7 @@ pub extern "C" fn falgnust_scan(bytes: &[u8]) -> Scanned
 }
 
 // What the bytes are and the place after them; all is zero where they pass the end.
-// Kept (1a): callers in C read a flag and the values beside it.
+// Kept (1a): callers in C read two flags and the values beside them.
 #[repr(C)]
 #[derive(Clone, Copy, Debug, Default, PartialEq, Eq)]
 pub struct Utf8 {

@@ -23,7 +23,7 @@ impl Zero for u64 {
     const ZERO: u64 = 0;
 }
 
-// Zeros in the whole table, by a loop alone: less code where a reader is to be compiled into its caller.
+// Zeros in the whole table, by a loop alone.
 // Kept (4d): `fill` asks that an entry's `clone` cannot fail, which the trait would have to promise as a law of its own.
 pub fn clear_many<T: Zero>(table: &mut [T])
     ensures { table.new ≡ lent_by T.ZERO (length table.old) [] }

@@ -37,7 +37,8 @@ module _ (s : List ℕ) (at : ℕ) where
   unfolding le
   le_4 = simp add_assoc (omega arith)
 
-  pub le_8 : le 4 s at + 4294967296 * le 4 s (at + 4) ≡ le 8 s at
+  pub le_8 : get_or s at 0 + 256 * (get_or s (at + 1) 0 + 256 * (get_or s (at + 2) 0 + 256 * (get_or s (at + 3) 0
+      + 256 * (get_or s (at + 4) 0 + 256 * (get_or s (at + 5) 0 + 256 * (get_or s (at + 6) 0 + 256 * get_or s (at + 7) 0)))))) ≡ le 8 s at
   unfolding le
   le_8 = simp add_assoc (omega arith)
 

@@ -1,15 +1,17 @@
 -- Laws of comparing byte strings.
 use mathlib.Core.Path.{◌≡◌, refl, ap, ap₂, sym, ◌∙◌}
-use Prim.Native.Nat.{ℕ, suc, ◌+◌, ◌≤◌, ◌<◌}
+use Prim.Native.Nat.{ℕ, zero, suc, ◌+◌, ◌-◌, ◌*◌, ◌≤◌, ◌<◌}
 use native.Mathlib.Omega.{arith}
+use native.Mathlib.Numerals.{add-one}
 use mathlib.Core.List.{List, [], ◌∷◌}
 use mathlib.Core.Bool.{Bool, true, false, ◌&&◌, and-false}
 use lib.Dec.{eqb, leb}
 use borrow.Author.Tests.{eq-eqb, ne_eqb, eqb-true, eqb-false, le-leb, lt-leb, leb-true, leb-false}
-use lib.ListN.{length, take, drop, length-take, length-drop}
+use lib.ListN.{length, get_or, take, drop, length-take, length-drop, drop_of_length-le}
 use lib.Pointwise.{pointwise}
-use lib.Seq.{take_all}
+use lib.Seq.{take_all, drop-cons, drop-drop}
 use Rattle.std.specs.List.{starts_with}
+use Rattle.local_format.specs.Field.{le}
 use Rattle.local_format.specs.Tag.{equal, tag_at}
 use Rattle.utf8.proofs.BoolLaws.{both}
 
@@ -40,6 +42,18 @@ equal_is (x ∷ xs) (y ∷ ys) h = go (eqb x y) refl (equal_is xs ys) h
     go true e ih k = ap₂ (λ (z : ℕ) (zs : List ℕ). z ∷ zs) (eqb-true x y e) (ih k)
     go false e ih k = let z : x ∷ xs ≡ y ∷ ys = cc in z
 
+pub equal_self : (a : List ℕ) → equal a a ≡ true
+unfolding equal
+equal_self [] = refl
+equal_self (x ∷ xs) = rw (eq-eqb x x refl) (equal_self xs)
+
+pub differ : (a b : List ℕ) → (a ≡ b → ⊥) → equal a b ≡ false
+differ a b h = go (equal a b) refl
+  where
+    go : (t : Bool) → equal a b ≡ t → t ≡ false
+    go true e = absurd (h (equal_is a b e))
+    go false e = refl
+
 equal_sym : (a b : List ℕ) → equal a b ≡ equal b a
 unfolding equal
 equal_sym [] [] = refl
@@ -58,6 +72,64 @@ equal_pointwise (x ∷ xs) (y ∷ ys) = ap (λ (t : Bool). eqb x y && t) (equal_
 -- what `starts_with` answers of two slices of one length
 pub equal_starts : (a b : List ℕ) → length a ≡ length b → starts_with eqb a b ≡ equal a b
 equal_starts a b h = rw (take_all (length b) a (omega (arith, h))) (equal_pointwise b a ∙ equal_sym b a)
+
+-- ---- By words of eight bytes
+module _ (a b : List ℕ) (i : ℕ) where
+  turn : i < length a → i < length b
+      → equal (drop i a) (drop i b) ≡ (eqb (get_or a i 0) (get_or b i 0) && equal (drop (i + 1) a) (drop (i + 1) b))
+  unfolding equal
+  turn h k = rw (add-one, drop-cons a i 0 h, drop-cons b i 0 k)
+
+-- a byte and the number of those after it
+eqb_byte : (x y p q : ℕ) → x < 256 → y < 256 → eqb (x + 256 * p) (y + 256 * q) ≡ (eqb x y && eqb p q)
+eqb_byte x y p q h k = go (eqb x y) refl (eqb p q) refl
+  where
+    go : (t : Bool) → eqb x y ≡ t → (u : Bool) → eqb p q ≡ u → eqb (x + 256 * p) (y + 256 * q) ≡ (t && u)
+    go true e true f = eq-eqb (x + 256 * p) (y + 256 * q) (omega (arith, eqb-true x y e, eqb-true p q f))
+    go true e false f = ne_eqb (x + 256 * p) (y + 256 * q) (λ z. eqb-false p q f (omega (arith, eqb-true x y e)))
+    go false e u f = ne_eqb (x + 256 * p) (y + 256 * q) (λ z. eqb-false x y e (omega arith))
+
+module _ (a b : List ℕ) (p : (i : ℕ) → get_or a i 0 < 256) (q : (i : ℕ) → get_or b i 0 < 256) where
+  -- the bytes from a place on are the same where a field there is, and what follows it
+  turns : (width i : ℕ) → i + width ≤ length a → i + width ≤ length b
+      → equal (drop i a) (drop i b) ≡ (eqb (le width a i) (le width b i) && equal (drop (i + width) a) (drop (i + width) b))
+  unfolding le
+  turns zero i h k = let e : i + 0 ≡ i = omega arith in rw e
+  turns (suc width) i h k =
+      let e : i + suc width ≡ i + 1 + width = omega arith in
+      rw (e, eqb_byte (get_or a i 0) (get_or b i 0) (le width a (i + 1)) (le width b (i + 1)) (p i) (q i))
+      (turn a b i (omega arith) (omega arith)
+      ∙ ap (λ (t : Bool). eqb (get_or a i 0) (get_or b i 0) && t) (turns width (i + 1) (omega arith) (omega arith))
+      ∙ sym (and_assoc (eqb (get_or a i 0) (get_or b i 0)) (eqb (le width a (i + 1)) (le width b (i + 1))) _))
+    where
+      and_assoc : (p q r : Bool) → ((p && q) && r) ≡ (p && (q && r))
+      and_assoc true q r = refl
+      and_assoc false q r = refl
+
+  -- words that are the same are passed
+  pub word_same : (i : ℕ) → i + 8 ≤ length a → i + 8 ≤ length b → le 8 a i ≡ le 8 b i
+      → equal (drop i a) (drop i b) ≡ equal (drop (i + 8) a) (drop (i + 8) b)
+  word_same i h k e = turns 8 i h k ∙ simp (eq-eqb _ _ e)
+
+  -- nothing is left of either
+  ended : (i : ℕ) → length a ≤ i → length b ≤ i → equal (drop i a) (drop i b) ≡ true
+  unfolding equal
+  ended i h k = rw (drop_of_length-le a h, drop_of_length-le b k) refl
+
+  -- the last word is the same, and so is what follows its first byte
+  pub end_same : length a ≡ length b → 8 ≤ length a → le 8 a (length a - 8) ≡ le 8 b (length a - 8) → (i : ℕ) → length a - 8 ≤ i
+      → equal (drop i a) (drop i b) ≡ true
+  end_same l h e i k =
+      let n = length a - 8 in
+      let ends : equal (drop (n + 8) a) (drop (n + 8) b) ≡ true = ended (n + 8) (omega arith) (omega arith) in
+      let word : drop n a ≡ drop n b = equal_is _ _ (word_same n (omega arith) (omega arith) e ∙ ends) in
+      let at : n + (i - n) ≡ i = omega arith in
+      let rest : drop i a ≡ drop i b = rw at at (sym (drop-drop (i - n) n a) ∙ ap (drop (i - n)) word ∙ drop-drop (i - n) n b) in
+      rw rest (equal_self (drop i b))
+
+-- words of theirs differ
+pub word_differs : (a b : List ℕ) (i : ℕ) → (le 8 a i ≡ le 8 b i → ⊥) → false ≡ equal a b
+word_differs a b i h = sym (differ a b (λ e. h (ap (λ (c : List ℕ). le 8 c i) e)))
 
 module _ (tag s : List ℕ) (at : ℕ) where
   pub tag_cut : length s < at + length tag → false ≡ tag_at tag s at

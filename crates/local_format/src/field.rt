@@ -79,9 +79,16 @@ impl LittleEndian for u64 {
     const WIDTH: usize = 8;
 
     fn le_at(bytes: &[u8], at: usize) -> u64 {
-        let low = u32::le_at(bytes, at);
-        let high = u32::le_at(bytes, at + 4);
-        low as u64 + ((high as u64) << 32)
+        u64::from_le_bytes([
+            bytes[at],
+            bytes[at + 1],
+            bytes[at + 2],
+            bytes[at + 3],
+            bytes[at + 4],
+            bytes[at + 5],
+            bytes[at + 6],
+            bytes[at + 7],
+        ])
     }
 
     ghost has_bytes = { Prim.search rules };

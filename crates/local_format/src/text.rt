@@ -18,7 +18,7 @@ pub struct Span {
 }
 
 // The bytes of a text from a place on, which were read.
-fn spanned(start: usize, len: usize, text: Utf8) -> Span
+pub fn spanned(start: usize, len: usize, text: Utf8) -> Span
     ensures { span_out result ≡ record { start = start; len = len; chars = text.chars; next = text.next } }
 {
     Span {
@@ -30,7 +30,7 @@ fn spanned(start: usize, len: usize, text: Utf8) -> Span
 }
 
 // A text of a section: 1 to 4,096 bytes, without control characters.
-// Kept (2d): `string_at` and `read_name` differ in refusals, limits and offsets; one function of the three would take seven numbers.
+// Kept (2d): `string_at` and `read_name` differ in refusals, limits and offsets: one function of the three would take seven numbers, of those two four.
 #[tactic(auto, unfolding(crate::specs::Text::text_at))]
 pub fn text_at(bytes: &[u8], at: usize) -> Result<Span, Refusal>
     ensures { answer_out span_out result ≡ text_at bytes.now at }

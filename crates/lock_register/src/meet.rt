@@ -55,7 +55,8 @@ pub fn hindered(register: &[u64; 6145], key: &[u64; 24]) -> bool
     held_locks(register).iter().any(|lock| meets(lock, key))
 }
 
-// Some lock that is held has this symbol.
+// Some lock that is held has this symbol. Compiled apart: within a claim, whose values fill the registers, its loop reads its place from the stack.
+#[inline(never)]
 pub fn symbol_held(register: &[u64; 6145], symbol: u32) -> bool
     ensures { result ≡ any (λ l. eqb l.root.symbol symbol) (locks_in register.now) }
 {

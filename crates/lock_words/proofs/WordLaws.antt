@@ -9,6 +9,9 @@ use Rattle.std.specs.Simd.{first_chunks}
 use Rattle.std.proofs.lemmas.List.{map-append}
 use Rattle.lock_words.specs.Words.{part_in, lock_in, slot, locks_to, locks_in, held_in}
 use Rattle.lock_words.specs.Maps.{part}
+use Rattle.lock_rules.specs.Lock.{part_of}
+use Rattle.semcode_records.specs.Numbers as numbers
+use Rattle.semcode_records.specs.Component.{Component, tuple_index, field_symbol, variant, sequence_index}
 
 parts : {k f s a b c : ℕ} → a ≡ k → b ≡ f → c ≡ s → part a b c ≡ part k f s
 parts p q r = cc
@@ -16,6 +19,18 @@ parts p q r = cc
 pub packed_part : (k f s : ℕ) → k < 4 → f < 4294967296 → s < 65536 → part_in (k + 4 * f + 17179869184 * s) ≡ part k f s
 unfolding part_in
 packed_part k f s a b c = parts (omega arith) (omega arith) (omega arith)
+
+pub kind_few : (c : Component) → (numbers.parts c).kind < 4
+kind_few (tuple_index i) = omega arith
+kind_few (field_symbol f) = omega arith
+kind_few (variant v i) = omega arith
+kind_few (sequence_index i) = omega arith
+
+pub component_part : (c : Component) → part (numbers.parts c).kind (numbers.parts c).first (numbers.parts c).second ≡ part_of c
+component_part (tuple_index i) = refl
+component_part (field_symbol f) = refl
+component_part (variant v i) = refl
+component_part (sequence_index i) = refl
 
 pub slot_at : (words : List ℕ) (i k : ℕ) → k < 24 → get_or (slot words i) k 0 ≡ get_or words (1 + 24 * i + k) 0
 unfolding slot

@@ -5,7 +5,7 @@ ghost use Rattle.lock_words.specs.Maps.{source_is};
 use local_format::field::LittleEndian;
 
 // The four words of 32 bytes: eight bytes to a word, lowest first.
-// Kept (4d): `source.as_chunks::<8>()` and `u64::from_le_bytes` of each of four is no shorter; `le_at` is the repository's name for both.
+// Kept (4d): in `[0, 8, 16, 24].map(|at| u64::le_at(source, at))` the closure would state that eight bytes are there at each of the four.
 pub fn source_words(source: &[u8; 32]) -> [u64; 4]
     ensures { source_is result ≡ source.now }
 {

@@ -19,24 +19,21 @@ pub struct Part {
 
 // The word of a part of one of the four kinds.
 #[tactic(auto, using(crate::proofs::WordLaws::packed_part))]
-fn packed(kind: u64, first: u32, second: u16) -> u64
+fn packed(kind: u8, first: u32, second: u16) -> u64
     requires { kind < 4 }
     ensures { part_in result ≡ part kind first second }
 {
-    kind + 4 * (first as u64) + 17179869184 * (second as u64)
+    (kind as u64) + 4 * (first as u64) + 17179869184 * (second as u64)
 }
 
 // The word of a path's component.
-// Kept (2d, 4d): a `From` in semcode_records could promise path_words' word alone; this part of it would then take a lemma over the four kinds here.
+// Kept (2d): path_words' component_word is equated with a number, this one with the part that is read of it; both are one line over `parts`.
+// Kept (4d): a `From` of a component for `u64` could stand in semcode_records alone, which knows no words.
 pub fn component_word(component: DecodedAccessPathComponent) -> u64
     ensures { part_in result ≡ part_of (component_is component) }
 {
-    match component {
-        DecodedAccessPathComponent::TupleIndex(index) => packed(0, index as u32, 0),
-        DecodedAccessPathComponent::FieldSymbol(symbol) => packed(1, symbol, 0),
-        DecodedAccessPathComponent::AdtPayload { variant, index } => packed(2, variant, index),
-        DecodedAccessPathComponent::SequenceIndexStatic(index) => packed(3, index, 0),
-    }
+    let (kind, first, second) = component.parts();
+    packed(kind, first, second)
 }
 
 // The part of a word.

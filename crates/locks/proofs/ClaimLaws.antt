@@ -183,6 +183,12 @@ module _ (revision : ℕ) (s starts : List ℕ) (count : ℕ) where
               ∙ ap (λ (j : ℕ). locks_to j after ++ (lock_in key ∷ [])) is_to
               ∙ rw (x.locks paths l e, key_is i h key k paths l e, t, append_assoc)
 
+    -- where no path is read, none stands
+    pub stores_past : (i : ℕ) → i < count → ((t : Taken Path) → path_at revision s (get_or starts i 0) ≡ ok t → ⊥) → (after : List ℕ)
+        → Storing i after → Storing (i + 1) after
+    stores_past i h none after x =
+        record { locks = λ paths l e. let p = l.each i h in absurd (none (record { value = _; next = p.next }) p.is_read); same = x.same }
+
     pub stored : (i total : ℕ) (after : List ℕ) → Storing i after → i ≡ count → total ≡ held_in words + i → total ≤ 256
         → 0 < length words → Stored revision s starts count source owner words (set after 0 total)
     stored i total after x p t h z =

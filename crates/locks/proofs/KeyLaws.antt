@@ -6,8 +6,10 @@ use native.Mathlib.Numerals.{add-one}
 use mathlib.Core.List.{List, [], ◌∷◌, ◌++◌, map, append-nil, append_assoc}
 use mathlib.Core.Bool.{Bool, not}
 use lib.Dec.{eqb}
-use lib.ListN.{length, get_or, set, take, drop, length-set, length-drop}
-use lib.Seq.{drop-set-add, take-suc-set, take-set-le, get_or-take}
+use lib.ListN.{length, get_or, set, take, drop}
+use lib.Seq.{take-suc-set, take_all, take_at, drop_at, length-take-le, get_or-take}
+use package.borrow.Rule.Slice.PartMut.{put_mid, post_of}
+use Rattle.std.proofs.lemmas.Slice.{take-put_mid_below}
 use package.borrow.Author.Tests.{leb-true, not-false}
 use Rattle.local_format.specs.Refusal.{Refusal}
 use Rattle.local_format.specs.Out.{Out, ok, refused}
@@ -54,80 +56,53 @@ module _ (revision : ℕ) (s : List ℕ) (at : ℕ) where
 
 -- ---- The words of the components
 
--- k of n components have been read; the next is at the cursor
-pub record Left (read : ℕ → Out (Taken Component)) (n k cursor : ℕ) (t : Table Component) (key : List ℕ) : Type 0 where
+-- k of n words are those of components that were read; the next is at the cursor
+pub record Left (read : ℕ → Out (Taken Component)) (n k cursor : ℕ) (t : Table Component) (words : List ℕ) : Type 0 where
   pub rest : Table Component
   pub is_rest : records read (n - k) cursor ≡ ok rest
-  pub whole : map part_in (take k (drop 8 key)) ++ parts_of rest ≡ parts_of t
+  pub whole : map part_in (take k words) ++ parts_of rest ≡ parts_of t
 
-pub record Filling (read : ℕ → Out (Taken Component)) (n at k cursor : ℕ) (key after : List ℕ) : Type 0 where
-  pub left : (t : Table Component) → records read n at ≡ ok t → Left read n k cursor t after
-  pub front : take 8 after ≡ take 8 key
-  pub same : length after ≡ length key
+abbrev pub Filling : (ℕ → Out (Taken Component)) → ℕ → ℕ → ℕ → ℕ → List ℕ → Type 0
+Filling read n at k cursor words = (t : Table Component) → records read n at ≡ ok t → Left read n k cursor t words
 
-module _ (read : ℕ → Out (Taken Component)) (n at : ℕ) (key : List ℕ) where
-  pub begin : Filling read n at 0 at key key
-  begin =
-      record {
-        left = λ t e. record { rest = t; is_rest = ap (λ (m : ℕ). records read m at) (zero_off n) ∙ e; whole = refl };
-        front = refl;
-        same = refl;
-      }
+module _ (read : ℕ → Out (Taken Component)) (n at : ℕ) where
+  pub begin : (words : List ℕ) → Filling read n at 0 at words
+  begin words t e = record { rest = t; is_rest = ap (λ (m : ℕ). records read m at) (zero_off n) ∙ e; whole = refl }
     where
       zero_off : (n : ℕ) → n - 0 ≡ n
       zero_off n = omega arith
 
-  module _ (k cursor : ℕ) (after : List ℕ) (f : Filling read n at k cursor key after) where
+  module _ (k cursor : ℕ) (words : List ℕ) (f : Filling read n at k cursor words) where
     -- one component more
-    pub more : (c : Component) (next w : ℕ) → k < n → 8 + k < length key → read cursor ≡ taken c next → part_in w ≡ part_of c
-        → Filling read n at (k + 1) next key (set after (8 + k) w)
-    more c next w h l e p =
+    pub more : (c : Component) (next w : ℕ) → k < n → k < length words → read cursor ≡ taken c next → part_in w ≡ part_of c
+        → Filling read n at (k + 1) next (set words k w)
+    more c next w h l e p t i =
+        let x = f t i in
+        let grown : take (k + 1) (set words k w) ≡ take k words ++ (w ∷ []) = rw add-one (take-suc-set words k w l) in
+        let q = bind_ok (records read (n - (k + 1)) next) _ (sym (first_read read n k cursor h e) ∙ x.is_rest) in
+        let b : before (record { start = cursor; value = c; next = next }) q.0 ≡ x.rest = ok_same q.2 in
         record {
-          left = λ t i. go t (f.left t i);
-          front = take-set-le 8 after (8 + k) w (omega arith) ∙ f.front;
-          same = length-set after (8 + k) w ∙ f.same;
+          rest = q.0;
+          is_rest = q.1;
+          whole =
+              rw (grown, map_append part_in (take k words) (w ∷ []), append_assoc, p)
+              (ap (λ (r : Table Component). map part_in (take k words) ++ parts_of r) b ∙ x.whole);
         }
-      where
-        grown : take (k + 1) (drop 8 (set after (8 + k) w)) ≡ take k (drop 8 after) ++ (w ∷ [])
-        grown =
-            let s = f.same in
-            let b : k < length (drop 8 after) = simp length-drop (omega arith) in
-            rw (drop-set-add 8 after k w, add-one) (take-suc-set (drop 8 after) k w b)
-
-        go : (t : Table Component) → Left read n k cursor t after → Left read n (k + 1) next t (set after (8 + k) w)
-        go t x =
-            let q = bind_ok (records read (n - (k + 1)) next) _ (sym (first_read read n k cursor h e) ∙ x.is_rest) in
-            let b : before (record { start = cursor; value = c; next = next }) q.0 ≡ x.rest = ok_same q.2 in
-            record {
-              rest = q.0;
-              is_rest = q.1;
-              whole =
-                  rw (grown, map_append part_in (take k (drop 8 after)) (w ∷ []), append_assoc, p)
-                  (ap (λ (r : Table Component). map part_in (take k (drop 8 after)) ++ parts_of r) b ∙ x.whole);
-            }
 
     -- a component that is refused is none of a table's
-    pub none : {r : Refusal} → k < n → read cursor ≡ refused r → Filled read n at key after
-    none h e =
-        record {
-          parts = λ t i. absurd (never (sym (first_refused_lem read n k cursor h e) ∙ (f.left t i).is_rest));
-          front = f.front;
-          same = f.same;
-        }
+    pub none : {r : Refusal} → k < n → read cursor ≡ refused r → (t : Table Component) → records read n at ≡ ok t → ⊥
+    none h e t i = never (sym (first_refused_lem read n k cursor h e) ∙ (f t i).is_rest)
 
-    pub all : k ≡ n → Filled read n at key after
-    all h =
-        record { parts = λ t i. go t (f.left t i); front = f.front; same = f.same }
-      where
-        go : (t : Table Component) → Left read n k cursor t after → map part_in (take n (drop 8 after)) ≡ parts_of t
-        go t x =
-            let z : n - k ≡ 0 = omega arith in
-            let r : no_records cursor ≡ x.rest =
-            ok_same (sym (none_left_lem read cursor) ∙ ap (λ (m : ℕ). records read m cursor) (sym z) ∙ x.is_rest) in
-            ap (λ (m : ℕ). map part_in (take m (drop 8 after))) (sym h)
-            ∙ sym (append-nil (map part_in (take k (drop 8 after))))
-            ∙ ap (λ (r : Table Component). map part_in (take k (drop 8 after)) ++ parts_of r) r
-            ∙ x.whole
+    pub all : n ≤ k → length words ≤ k → (t : Table Component) → records read n at ≡ ok t → map part_in words ≡ parts_of t
+    all h l t i =
+        let x = f t i in
+        let z : n - k ≡ 0 = omega arith in
+        let r : no_records cursor ≡ x.rest =
+        ok_same (sym (none_left_lem read cursor) ∙ ap (λ (m : ℕ). records read m cursor) (sym z) ∙ x.is_rest) in
+        ap (map part_in) (sym (take_all k words l))
+        ∙ sym (append-nil (map part_in (take k words)))
+        ∙ ap (λ (r : Table Component). map part_in (take k words) ++ parts_of r) r
+        ∙ x.whole
 
 -- ---- The whole key
 
@@ -150,16 +125,39 @@ pub record Begun (key : List ℕ) (a b c d owner : ℕ) (f : Front) : Type 0 whe
   pub is_c : get_or key 6 0 ≡ c
   pub is_d : get_or key 7 0 ≡ d
 
+-- they are put in two parts
+module _ (four part xs src : List ℕ) (l : length src ≡ 4) (owner : ℕ) (f : Front) where
+  source_word : (post : List ℕ) (j : ℕ) → j < 4 → get_or (src ++ post) j 0 ≡ get_or src j 0
+  source_word post j h =
+      sym (get_or-take 4 (src ++ post) j 0 h) ∙ ap (λ (t : List ℕ). get_or t j 0) (take_at src post 4 l)
+
+  pub begun : four ≡ (owner ∷ f.kind ∷ f.root ∷ f.count ∷ []) → part ≡ src
+      → Begun (put_mid 4 4 (four ++ xs) part) (get_or src 0 0) (get_or src 1 0) (get_or src 2 0) (get_or src 3 0) owner f
+  begun e g =
+      rw (e, g) (record {
+        is_owner = refl;
+        is_kind = refl;
+        is_root = refl;
+        is_count = refl;
+        is_a = source_word _ 0 (omega arith);
+        is_b = source_word _ 1 (omega arith);
+        is_c = source_word _ 2 (omega arith);
+        is_d = source_word _ 3 (omega arith);
+      })
+
 front_word : (key after : List ℕ) → take 8 after ≡ take 8 key → (j : ℕ) → j < 8 → get_or after j 0 ≡ get_or key j 0
 front_word key after e j h =
     sym (get_or-take 8 after j 0 h) ∙ ap (λ (l : List ℕ). get_or l j 0) e ∙ get_or-take 8 key j 0 h
 
 module _ (revision : ℕ) (s : List ℕ) (at : ℕ) (f : Front) (is : FrontOf (path_at revision s at) f) (owner : ℕ) (small : owner < 4294967296)
     (narrow : f.root < 4294967296) where
-  pub keyed : (a b c d n : ℕ) (key after : List ℕ) → n ≡ min f.count 16 → Begun key a b c d owner f
-      → Filled (component_at revision f.kind s) n f.start key after → KeyOf (path_at revision s at) (source_of a b c d) owner after
+  pub keyed : (a b c d n k : ℕ) (key ys : List ℕ) → n ≡ min f.count 16 → Begun key a b c d owner f → 8 ≤ length key → length ys ≡ n
+      → Filled (component_at revision f.kind s) n f.start ys → KeyOf (path_at revision s at) (source_of a b c d) owner (put_mid 8 k key ys)
   unfolding lock_in root_in source_in parts_in
-  keyed a b c d n key after is_n begun x t e l =
+  keyed a b c d n j key ys is_n begun size many_ys x t e l =
+      let after : List ℕ = put_mid 8 j key ys in
+      let back : take n (drop 8 after) ≡ ys =
+      ap (take n) (drop_at (take 8 key) (ys ++ post_of 8 j key) 8 (length-take-le 8 key size)) ∙ take_at ys (post_of 8 j key) n many_ys in
       let g = is t e in
       let many : f.count ≡ length t.value.components.entries = ap (λ (f : Front). f.count) g in
       let short : length t.value.components.entries ≤ 16 = leb-true _ _ (not-false _ l) in
@@ -168,7 +166,7 @@ module _ (revision : ℕ) (s : List ℕ) (at : ℕ) (f : Front) (is : FrontOf (p
       let start : f.start ≡ t.value.components.start = ap (λ (f : Front). f.start) g in
       let all_read : records (component_at revision f.kind s) n f.start ≡ ok t.value.components =
       rw (k, m, start) (path_components revision s at e) in
-      let at_front = front_word key after x.front in
+      let at_front = front_word key after (take-put_mid_below 8 j key ys 8 (omega arith) size) in
       lock_is
       (ap (λ (w : ℕ). w % 4294967296) (at_front 0 (omega arith) ∙ begun.is_owner) ∙ under small)
       (ap (λ (w : ℕ). not (eqb w 0)) (at_front 1 (omega arith) ∙ begun.is_kind ∙ k) ∙ writes t.value.event)
@@ -177,7 +175,8 @@ module _ (revision : ℕ) (s : List ℕ) (at : ℕ) (f : Front) (is : FrontOf (p
       (ap (λ (w : ℕ). w % 4294967296) (at_front 2 (omega arith) ∙ begun.is_root) ∙ under narrow ∙ ap (λ (f : Front). f.root) g))
       (ap (λ (w : ℕ). map part_in (take (min w 16) (drop 8 after))) (at_front 3 (omega arith) ∙ begun.is_count)
       ∙ ap (λ (w : ℕ). map part_in (take w (drop 8 after))) (sym is_n)
-      ∙ x.parts t.value.components all_read)
+      ∙ ap (map part_in) back
+      ∙ x t.value.components all_read)
     where
       roots : {a a' b b' c c' d d' r r' : ℕ} → a ≡ a' → b ≡ b' → c ≡ c' → d ≡ d' → r ≡ r'
           → root_under (source_of a b c d) r ≡ root_under (source_of a' b' c' d') r'

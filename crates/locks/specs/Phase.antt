@@ -1,5 +1,5 @@
 -- What the functions inside promise: the key of a path, and the phases of a claim.
-use Rattle.std.specs.Prelude.{◌≡◌, ℕ, ◌<◌, List, ◌++◌, map, Bool, false, length, get_or, take, drop}
+use Rattle.std.specs.Prelude.{◌≡◌, ℕ, ◌<◌, List, ◌++◌, map, Bool, false, length, get_or}
 use Rattle.local_format.specs.Out.{Out, ok}
 use Rattle.semcode_records.specs.Records.{Taken, taken, Table, no_records, records}
 use Rattle.semcode_records.specs.Component.{Component}
@@ -29,11 +29,9 @@ FrontOf read f = (t : Taken Path) → read ≡ ok t → f ≡ front_of t.value
 abbrev pub parts_of : Table Component → List Part
 parts_of t = map (λ e. part_of e.value) t.entries
 
--- the words of so many components, as this reader reads each, stand from place 8 on
-pub record Filled (read : ℕ → Out (Taken Component)) (n at : ℕ) (key after : List ℕ) : Type 0 where
-  pub parts : (t : Table Component) → records read n at ≡ ok t → map part_in (take n (drop 8 after)) ≡ parts_of t
-  pub front : take 8 after ≡ take 8 key
-  pub same : length after ≡ length key
+-- these are the words of so many components, as this reader reads each
+abbrev pub Filled : (ℕ → Out (Taken Component)) → ℕ → ℕ → List ℕ → Type 0
+Filled read n at words = (t : Table Component) → records read n at ≡ ok t → map part_in words ≡ parts_of t
 
 -- the key of a path with at most 16 components
 abbrev pub KeyOf : Out (Taken Path) → List ℕ → ℕ → List ℕ → Type 0

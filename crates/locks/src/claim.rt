@@ -48,10 +48,9 @@ impl<'a> PathClaim<'a> {
             (source_is self.now.source) self.now.owner register.now result }
     {
         for start in self.starts {
-            let at = *start as usize;
-            if let Ok(path) = read_front(self.code, at, self.header_rev) {
+            if let Ok(path) = read_front(self.code, *start as usize, self.header_rev) {
                 if symbol_held(register, path.root_symbol_id) {
-                    let key = path_key(self.code, at, self.header_rev, self.source, self.owner);
+                    let key = path_key(self.code, path, self.header_rev, self.source, self.owner);
                     if hindered(register, &key) {
                         return true;
                     }
@@ -70,14 +69,10 @@ impl<'a> PathClaim<'a> {
     {
         let before = held(register);
         for (i, start) in self.starts.iter().enumerate() {
-            let key = path_key(
-                self.code,
-                *start as usize,
-                self.header_rev,
-                self.source,
-                self.owner,
-            );
-            put_lock(register, before + i, &key);
+            if let Ok(path) = read_front(self.code, *start as usize, self.header_rev) {
+                let key = path_key(self.code, path, self.header_rev, self.source, self.owner);
+                put_lock(register, before + i, &key);
+            }
         }
         register[0] = (before + self.starts.len()) as u64;
     }

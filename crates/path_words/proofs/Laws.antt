@@ -6,22 +6,33 @@ use mathlib.Core.List.{List, [], ◌∷◌, ◌++◌, append-nil, append_assoc}
 use native.Mathlib.Omega.{arith}
 use native.Mathlib.Nat.{add_assoc, sub-zero}
 use native.Mathlib.Numerals.{add-one}
+use Rattle.std.specs.Prelude.{Option, Some, None}
 use lib.Dec.{leb}
-use lib.ListN.{length, take, drop, get_or, set, length-append, length-set}
-use lib.Seq.{take-suc-set, take-set-le, drop-cons, drop-length, take-suc, take-take, take_at, length-take-le}
-use borrow.Author.Tests.{le-leb, lt-leb, leb-true}
+use lib.ListN.{length, take, drop, get_or, set, take-append-drop, length-append}
+use lib.Seq.{take-suc-set, drop-cons, drop-length, take-suc, take_all, take_at, length-take-le}
+use borrow.Rule.Slice.PartMut.{put_mid, post_of}
+use Rattle.std.proofs.lemmas.Slice.{take-put_mid_below}
+use borrow.Author.Tests.{lt-leb, leb-true}
 use Rattle.local_format.specs.Out.{Out, ok, refused, ◌>>=◌}
 use Rattle.local_format.specs.Field.{le}
 use Rattle.local_format.proofs.FieldLaws.{le_below, le_1}
 use Rattle.lent_table.specs.Lent.{lent}
 use Rattle.semcode_records.specs.Records.{Taken, records}
-use Rattle.semcode_records.specs.Component.{Component, component_at}
+use Rattle.semcode_records.specs.Component.{Component, tuple_index, field_symbol, variant, sequence_index, component_at}
+use Rattle.semcode_records.specs.Numbers.{parts}
 use Rattle.semcode_records.proofs.RecordsLaws.{none_left_lem, first_read, first_refused_lem}
 use Rattle.semcode_records.proofs.SizeLaws.{Sized, a_tuple, a_symbol, a_variant, a_sequence}
-use Rattle.record_words.specs.Words.{Puts, all_words}
-use Rattle.record_words.proofs.Laws.{puts_then}
-use Rattle.path_words.specs.Words.{Step, step_of, component_words, path_words, fitting, fitted, PutsOne, Fits}
-use Rattle.path_words.specs.Front.{there, PutsComponents, Opening, opening_words}
+use Rattle.record_words.specs.Words.{all_words}
+use Rattle.path_words.specs.Words.{component_word, Step, step_of, component_words, path_words, fitting, fitted, Fits}
+use Rattle.path_words.specs.Front.{there, Opening, opening_words}
+
+-- ---- A component by its numbers
+
+pub word_by : (c : Component) → (parts c).kind + 4 * (parts c).first + 17179869184 * (parts c).second ≡ component_word c
+word_by (tuple_index i) = omega arith
+word_by (field_symbol f) = omega arith
+word_by (variant v i) = omega arith
+word_by (sequence_index i) = omega arith
 
 -- ---- A component by its size
 
@@ -64,7 +75,7 @@ module _ (revision event : ℕ) (s : List ℕ) (at n : ℕ) (bytes : (i : ℕ) �
 
 -- ---- Components one after the other
 
-unlike : false ≡ true → ⊥
+pub unlike : false ≡ true → ⊥
 unlike e = let z : ◌≡◌ {A = ℕ} 0 1 = cc in omega arith
 
 module _ (read : ℕ → Out (Taken Component)) where
@@ -89,72 +100,36 @@ module _ (read : ℕ → Out (Taken Component)) where
     there_no_more (refused r) e w = ap there (first_refused_lem read n i cursor more e)
 
   -- the words of i components are written, and the rest follows from the cursor on
-  pub record Putting (n at to i cursor : ℕ) (before t : List ℕ) : Type 0 where
-    pub most : i ≤ n
-    pub size : length t ≡ length before
-    pub kept : take to t ≡ take to before
-    pub done : List ℕ
-    pub many : length done ≡ i
-    pub front : take (to + i) t ≡ take to before ++ done
-    pub rest : component_words read n at ≡ done ++ component_words read (n - i) cursor
+  pub record Putting (n at i cursor : ℕ) (t : List ℕ) : Type 0 where
+    pub rest : component_words read n at ≡ take i t ++ component_words read (n - i) cursor
     pub left : there (records read n at) ≡ there (records read (n - i) cursor)
 
-  module _ (n at to : ℕ) (before : List ℕ) where
-    pub put_first : Putting n at to 0 at before before
-    put_first =
-        let e : to + 0 ≡ to = omega arith in
-        record {
-          most = omega arith;
-          size = refl;
-          kept = refl;
-          done = [];
-          many = refl;
-          front = rw (e, append-nil);
-          rest = rw sub-zero;
-          left = rw sub-zero;
-        }
+  module _ (n at : ℕ) where
+    pub put_first : (t : List ℕ) → Putting n at 0 at t
+    put_first t = record { rest = rw sub-zero; left = rw sub-zero }
 
-    module _ (i cursor : ℕ) (t : List ℕ) (p : Putting n at to i cursor before t) where
-      pub put_more : i < n → to + i < length t → (w next : ℕ) → record { whole = true; word = w; next = next } ≡ step_of (read cursor)
-          → Putting n at to (i + 1) next before (set t (to + i) w)
+    module _ (i cursor : ℕ) (t : List ℕ) (p : Putting n at i cursor t) where
+      pub put_more : i < n → i < length t → (w next : ℕ) → record { whole = true; word = w; next = next } ≡ step_of (read cursor)
+          → Putting n at (i + 1) next (set t i w)
       unfolding component_words
       put_more h l w next e =
           let left : n - i ≡ suc (n - (i + 1)) = omega arith in
-          let plus : to + (i + 1) ≡ suc (to + i) = omega arith in
           let first : component_words read (n - i) cursor ≡ w ∷ component_words read (n - (i + 1)) next = rw (left, ← e) in
           let on = there_on n i cursor h (read cursor) refl (ap (λ (s : Step). s.whole) (sym e)) in
+          let more : take (i + 1) (set t i w) ≡ take i t ++ (w ∷ []) = rw add-one (take-suc-set t i w l) in
           record {
-            most = omega arith;
-            size = length-set t (to + i) w ∙ p.size;
-            kept = take-set-le to t (to + i) w (omega arith) ∙ p.kept;
-            done = p.done ++ (w ∷ []);
-            many = rw (length-append, p.many);
-            front = rw (plus, take-suc-set t (to + i) w l, p.front) (append_assoc (take to before) p.done (w ∷ []));
-            rest = p.rest ∙ rw first (sym (append_assoc p.done (w ∷ []) (component_words read (n - (i + 1)) next)));
+            rest = p.rest ∙ rw (first, more) (sym (append_assoc (take i t) (w ∷ []) (component_words read (n - (i + 1)) next)));
             left = p.left ∙ on ∙ ap (λ (s : Step). there (records read (n - (i + 1)) s.next)) (sym e);
           }
 
-      pub put_refused : i < n → (step_of (read cursor)).whole ≡ false → PutsComponents read n at to before t false
-      put_refused h w =
-          record {
-            size = p.size;
-            kept = p.kept;
-            answer = sym (p.left ∙ there_no_more n i cursor h (read cursor) refl w);
-            words = λ e. absurd (unlike e);
-          }
+      pub put_refused : i < n → (step_of (read cursor)).whole ≡ false → false ≡ there (records read n at)
+      put_refused h w = sym (p.left ∙ there_no_more n i cursor h (read cursor) refl w)
 
-      pub put_last : n ≤ i → PutsComponents read n at to before t true
+      pub put_last : n ≤ i → length t ≤ i → (true ≡ there (records read n at)) × (t ≡ component_words read n at)
       unfolding component_words
-      put_last h =
-          let most = p.most in
+      put_last h l =
           let z : n - i ≡ 0 = omega arith in
-          let d : component_words read n at ≡ p.done = p.rest ∙ rw (z, append-nil) in
-          record {
-            size = p.size;
-            kept = p.kept;
-            answer = sym (p.left ∙ rw (z, none_left_lem read cursor));
-            words = λ e. record { size = p.size; front = rw (d, p.many, p.front) };
-          }
+          (sym (p.left ∙ rw (z, none_left_lem read cursor)), sym (p.rest ∙ rw (z, append-nil) (take_all i t l)))
 
 -- ---- A path
 
@@ -162,32 +137,16 @@ and_false : (b : Bool) → (b && false) ≡ false
 and_false true = refl
 and_false false = refl
 
-module _ (xs : List ℕ) (to : ℕ) (before : List ℕ) where
-  -- nothing is written
-  pub puts_none : length xs ≡ 0 → PutsOne xs to before before 0
-  puts_none e = let z : to + 0 ≡ to = omega arith in record { size = refl; answer = rw e; front = rw (z, e, append-nil) }
+-- words that do not fit
+short : (n room : ℕ) → room < n → fitting n room ≡ false
+short n room h = rw (lt-leb n room h) (and_false (leb 1 n))
 
-  pub puts_short : length before - to < length xs → PutsOne xs to before before 0
-  puts_short h =
-      let z : to + 0 ≡ to = omega arith in
-      let f : fitting (length xs) (length before - to) ≡ false = rw (lt-leb (length xs) (length before - to) h) (and_false (leb 1 (length xs))) in
-      record { size = refl; answer = rw f; front = rw (z, f, append-nil) }
-
-  pub puts_all : (after : List ℕ) (r : ℕ) → length xs ≡ r → 1 ≤ r → r ≤ length before - to → Puts xs to before after → PutsOne xs to before after r
-  puts_all after r e l h p =
-      let a : 1 ≤ length xs = omega arith in
-      let b : length xs ≤ length before - to = omega arith in
-      let f : fitting (length xs) (length before - to) ≡ true = rw (le-leb 1 (length xs) a, le-leb (length xs) (length before - to) b) in
-      record { size = p.size; answer = rw f (sym e); front = rw (f, ← e) p.front }
-
--- what stands before the words is kept
-before_kept : {xs a b : List ℕ} {to : ℕ} → to ≤ length a → Puts xs to a b → take to b ≡ take to a
-before_kept {xs} {a} {b} {to} h p =
-    sym (take-take to (to + length xs) b (omega arith)) ∙ ap (take to) p.front ∙ take_at (take to a) xs to (length-take-le to a h)
+-- how many words of a path are put, where its words are these
+abbrev pub Put : List ℕ → ℕ → Option ℕ → Type 0
+Put xs room r = r ≡ cond (fitting (length xs) room) (Some (length xs)) None
 
 -- one with this opening
-module _ (revision : ℕ) (s : List ℕ) (at : ℕ) (o : Opening) (e : path_words revision s at ≡ opening_words (λ kind. component_at revision kind s) o)
-    (to : ℕ) (a : List ℕ) where
+module _ (revision : ℕ) (s : List ℕ) (at : ℕ) (o : Opening) (e : path_words revision s at ≡ opening_words (λ kind. component_at revision kind s) o) where
   abbrev read : ℕ → Out (Taken Component)
   read = component_at revision o.kind s
 
@@ -197,64 +156,68 @@ module _ (revision : ℕ) (s : List ℕ) (at : ℕ) (o : Opening) (e : path_word
   all_size : length all ≡ 4 + o.count
   all_size = let n = length_components read o.count o.start in omega arith
 
-  pub opening_refused : o.whole ≡ false → PutsOne (path_words revision s at) to a a 0
-  opening_refused h = puts_none (path_words revision s at) to a (rw (e, h))
-
-  pub opening_short : length a - to < 4 + o.count → PutsOne (path_words revision s at) to a a 0
-  opening_short h = rw e (go (o.whole && there (records read o.count o.start)))
+  pub opening_short : (room : ℕ) → room < 4 + o.count → Put (path_words revision s at) room None
+  opening_short room h = rw e (go (o.whole && there (records read o.count o.start)))
     where
-      go : (b : Bool) → PutsOne (cond b all []) to a a 0
-      go true = puts_short all to a (rw all_size h)
-      go false = puts_none [] to a refl
+      go : (b : Bool) → Put (cond b all []) room None
+      go true = let f : fitting (length all) room ≡ false = short (length all) room (rw all_size h) in rw f
+      go false = refl
 
-  module _ (whole : o.whole ≡ true) {b c : List ℕ} {r : Bool} (four : Puts (o.event ∷ o.site ∷ o.root ∷ o.count ∷ []) to a b)
-      (put : PutsComponents read o.count o.start (to + 4) b c r) where
-    pub opening_whole : r ≡ true → 4 + o.count ≤ length a - to → PutsOne (path_words revision s at) to a c (4 + o.count)
-    opening_whole h room =
-        rw (e, whole, ← put.answer, h) (puts_all all to a c (4 + o.count) all_size (omega arith) room (puts_then (to + 4) refl four (put.words h)))
-
-    pub opening_cut : r ≡ false → to ≤ length a → PutsOne (path_words revision s at) to a c 0
-    opening_cut h room =
-        let z : to + 0 ≡ to = omega arith in
-        let k : take to c ≡ take to b =
-        sym (take-take to (to + 4) c (omega arith)) ∙ ap (take to) put.kept ∙ take-take to (to + 4) b (omega arith) in
-        rw (e, whole, ← put.answer, h)
-        (record { size = put.size ∙ four.size; answer = refl; front = rw (z, append-nil) (k ∙ before_kept room four) })
+  -- the four words and those of the components, at the front of a table
+  pub opening_puts : o.whole ≡ true → (n : ℕ) → n ≡ o.count → true ≡ there (records read n o.start) → {ws : List ℕ} → ws ≡ component_words read n o.start
+      → {four : List ℕ} → four ≡ (o.event ∷ o.site ∷ o.root ∷ o.count ∷ []) → (xs post : List ℕ) → (size : ℕ) → size ≡ 4 + o.count
+      → take size (take 4 (four ++ xs) ++ (ws ++ post)) ≡ path_words revision s at
+  opening_puts whole n many h {ws} p {four} q xs post size z =
+      let there_all : true ≡ there (records read o.count o.start) = rw many at h in
+      let words : ws ≡ component_words read o.count o.start = rw many at p in
+      let l : length ws ≡ o.count = ap length words ∙ length_components read o.count o.start in
+      rw (q, e, whole, ← there_all)
+      (take_at (o.event ∷ o.site ∷ o.root ∷ o.count ∷ ws) post size (omega arith)
+      ∙ ap (λ (t : List ℕ). o.event ∷ o.site ∷ o.root ∷ o.count ∷ t) words)
 
 -- ---- Paths one after the other
 
 -- what a call says of one path
-module _ (xs : List ℕ) (to : ℕ) (t u : List ℕ) where
+module _ (xs : List ℕ) (room : ℕ) where
   and_true : (a b : Bool) → (a && b) ≡ true → (a ≡ true) × (b ≡ true)
   and_true true true e = (refl, refl)
   and_true true false e = (refl, e)
   and_true false b e = (e, cc)
 
-  pub one_none : PutsOne xs to t u 0 → (fitting (length xs) (length t - to) ≡ false) × (take to u ≡ take to t)
-  one_none p = go (fitting (length xs) (length t - to)) refl p.answer p.front
+  one_none : Put xs room None → fitting (length xs) room ≡ false
+  one_none p = go (fitting (length xs) room) refl p
     where
-      z : to + 0 ≡ to
-      z = omega arith
+      go : (b : Bool) → fitting (length xs) room ≡ b → None ≡ cond b (Some (length xs)) None → b ≡ false
+      go true e a = absurd (cc)
+      go false e a = refl
 
-      go : (b : Bool) → fitting (length xs) (length t - to) ≡ b → 0 ≡ cond b (length xs) 0 → take (to + 0) u ≡ take to t ++ cond b xs []
-          → (b ≡ false) × (take to u ≡ take to t)
-      go true e a f = let l = leb-true 1 (length xs) (and_true (leb 1 (length xs)) (leb (length xs) (length t - to)) e).0 in absurd (omega arith)
-      go false e a f = (refl, ap (λ (n : ℕ). take n u) (sym z) ∙ f ∙ append-nil (take to t))
-
-  pub record Some (r : ℕ) : Type 0 where
-    pub fits : fitting (length xs) (length t - to) ≡ true
+  pub record One (r : ℕ) : Type 0 where
+    pub fits : fitting (length xs) room ≡ true
     pub many : length xs ≡ r
-    pub within : r ≤ length t - to
-    pub front : take (to + r) u ≡ take to t ++ xs
+    pub within : r ≤ room
 
-  pub one_some : (r : ℕ) → PutsOne xs to t u r → 0 < r → Some r
-  one_some r p h = go (fitting (length xs) (length t - to)) refl p.answer p.front
+  pub one_some : (r : ℕ) → Put xs room (Some r) → One r
+  one_some r p = go (fitting (length xs) room) refl p
     where
-      go : (b : Bool) → fitting (length xs) (length t - to) ≡ b → r ≡ cond b (length xs) 0 → take (to + r) u ≡ take to t ++ cond b xs [] → Some r
-      go true e a f =
-          let l = leb-true (length xs) (length t - to) (and_true (leb 1 (length xs)) (leb (length xs) (length t - to)) e).1 in
-          record { fits = e; many = sym a; within = omega arith; front = f }
-      go false e a f = absurd (omega arith)
+      go : (b : Bool) → fitting (length xs) room ≡ b → Some r ≡ cond b (Some (length xs)) None → One r
+      go true e a =
+          let l = leb-true (length xs) room (and_true (leb 1 (length xs)) (leb (length xs) room) e).1 in
+          let m : length xs ≡ r = cc in
+          record { fits = e; many = m; within = omega arith }
+      go false e a = absurd (cc)
+
+-- words put in a table from a place on, of which the first are taken
+module _ (to k : ℕ) (w ys : List ℕ) (h : to ≤ length w) where
+  pub put_front : (r : ℕ) → r ≤ length ys → take (to + r) (put_mid to k w ys) ≡ take to w ++ take r ys
+  put_front r g =
+      let n : length (take to w ++ take r ys) ≡ to + r = rw (length-append, length-take-le to w h, length-take-le r ys g) in
+      ap (λ (zs : List ℕ). take (to + r) (take to w ++ (zs ++ post_of to k w))) (sym (take-append-drop r ys))
+      ∙ ap (λ (zs : List ℕ). take (to + r) (take to w ++ zs)) (append_assoc (take r ys) (drop r ys) (post_of to k w))
+      ∙ ap (take (to + r)) (sym (append_assoc (take to w) (take r ys) (drop r ys ++ post_of to k w)))
+      ∙ take_at (take to w ++ take r ys) (drop r ys ++ post_of to k w) (to + r) n
+
+  pub put_kept : take to (put_mid to k w ys) ≡ take to w
+  put_kept = take-put_mid_below to k w ys to (omega arith) h
 
 module _ (words : ℕ → List ℕ) where
   all_append : (xs ys : List ℕ) → all_words words (xs ++ ys) ≡ all_words words xs ++ all_words words ys
@@ -296,21 +259,22 @@ module _ (words : ℕ → List ℕ) (starts : List ℕ) where
       unfolding fitted
       next = rw (drop-cons starts i 0 more, add-one)
 
-      pub fill_stop : (after : List ℕ) → PutsOne (words (get_or starts i 0)) to t u 0 → after ≡ lent (length u) (take to u) → Fits words starts before after i
-      fill_stop after p z =
-          let n = one_none (words (get_or starts i 0)) to t u p in
+      pub fill_stop : (after : List ℕ) → Put (words (get_or starts i 0)) (length t - to) None → take to u ≡ take to t → length u ≡ length t
+          → after ≡ lent (length u) (take to u) → Fits words starts before after i
+      fill_stop after p same l z =
           let s = inv.size in
-          let f : fitting (length (words (get_or starts i 0))) (length before - to) ≡ false = rw s at n.0 in
+          let w = words (get_or starts i 0) in
+          let f : fitting (length w) (length before - to) ≡ false = rw s at (one_none w (length t - to) p) in
           let c : i ≡ fitted words starts (length before) = sym (inv.count ∙ rw (next, f) (omega arith)) in
-          record { answer = c; table = z ∙ rw (n.1, inv.front, p.size, s) }
+          record { answer = c; table = z ∙ rw (same, inv.front, l, s) }
 
-      pub fill_on : (r : ℕ) → PutsOne (words (get_or starts i 0)) to t u r → 0 < r → Filling (i + 1) (to + r) before u
-      fill_on r p h =
-          let o = one_some (words (get_or starts i 0)) to t u r p h in
+      pub fill_on : (r : ℕ) → Put (words (get_or starts i 0)) (length t - to) (Some r) → length u ≡ length t
+          → take (to + r) u ≡ take to t ++ words (get_or starts i 0) → Filling (i + 1) (to + r) before u
+      fill_on r p l front =
+          let o = one_some (words (get_or starts i 0)) (length t - to) r p in
           let s = inv.size in
           let f : fitting (length (words (get_or starts i 0))) (length before - to) ≡ true = rw s at o.fits in
           let w = o.within in
-          let l = p.size in
           let k = inv.within in
           let room : length before - to - length (words (get_or starts i 0)) ≡ length before - (to + r) = let m = o.many in omega arith in
           let left = fitted words (drop (i + 1) starts) (length before - (to + r)) in
@@ -321,5 +285,5 @@ module _ (words : ℕ → List ℕ) (starts : List ℕ) where
             within = omega arith;
             size = l ∙ s;
             count = inv.count ∙ rw (next, f, room) plus;
-            front = o.front ∙ rw (inv.front, whole, all_append words (take i starts) (get_or starts i 0 ∷ []), all_one words (get_or starts i 0));
+            front = front ∙ rw (inv.front, whole, all_append words (take i starts) (get_or starts i 0 ∷ []), all_one words (get_or starts i 0));
           }

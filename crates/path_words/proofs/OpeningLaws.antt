@@ -5,7 +5,14 @@ use mathlib.Core.Bool.{true, cond}
 use mathlib.Core.List.{List, [], ◌∷◌}
 use native.Mathlib.Omega.{arith}
 use lib.ListN.{length}
+use Rattle.std.specs.Prelude.{Some, None, Result, Ok, Err}
+use Rattle.std.specs.Result.{result_ok}
 use Rattle.local_format.specs.Refusal.{Refusal}
+use Rattle.local_format.specs.Maps.{answer_out}
+use Rattle.local_format.specs.declared.field.Field.{Field}
+use Rattle.local_format.specs.declared.refusal.Refusal as code
+use Rattle.semcode_records.specs.declared.path.DecodedAccessPath.{DecodedAccessPath}
+use Rattle.semcode_records.specs.Maps.{taken_out, head_is}
 use Rattle.local_format.specs.Out.{Out, ok, refused, ◌>>=◌}
 use Rattle.local_format.specs.Field.{le}
 use Rattle.semcode_records.specs.Records.{Taken, Table, records, ends}
@@ -15,8 +22,12 @@ use Rattle.semcode_records.specs.Sizes.{site_size}
 use Rattle.semcode_records.specs.Path.{known, kind_of_event, Front, front_at, Head, head_at}
 use Rattle.semcode_records.proofs.FrontLaws.{entry, store, written_store, written_record}
 use Rattle.semcode_records.proofs.PathLaws.{head_from, head_steps, front_kind, path_read, path_components}
-use Rattle.path_words.specs.Words.{component_words, Numbered, numbered, words_of, path_words}
+use Rattle.path_words.specs.Words.{component_words, words_of, path_words}
+use Rattle.semcode_records.specs.Numbers.{Numbered, numbered}
 use Rattle.path_words.specs.Front.{there, site_of, Opening, opening_words}
+
+pub both : (n : Numbered) {event site : ℕ} → event ≡ n.event → site ≡ n.site → record { event = event; site = site } ≡ n
+both n e f = rw (e, f)
 
 module _ (revision : ℕ) (s : List ℕ) (at : ℕ) where
   abbrev reader : ℕ → ℕ → Out (Taken Component)
@@ -27,6 +38,24 @@ module _ (revision : ℕ) (s : List ℕ) (at : ℕ) where
   pub closed : {r : Refusal} → head_at revision s at ≡ refused r → path_words revision s at ≡ []
   unfolding path_words
   closed e = rw e
+
+  -- by the answer of the reader
+  module _ (r : Result (Field DecodedAccessPath) code.Refusal) (read : answer_out (taken_out head_is) r ≡ head_at revision s at) where
+    pub is_closed : None ≡ result_ok r → path_words revision s at ≡ []
+    is_closed e = go r read e
+      where
+        go : (r : Result (Field DecodedAccessPath) code.Refusal) → answer_out (taken_out head_is) r ≡ head_at revision s at → None ≡ result_ok r
+            → path_words revision s at ≡ []
+        go (Ok f) h e = absurd (cc)
+        go (Err q) h e = closed (sym h)
+
+    pub is_read : {f : Field DecodedAccessPath} → Some f ≡ result_ok r → head_at revision s at ≡ ok (taken_out head_is f)
+    is_read {f} e = go r read e
+      where
+        go : (r : Result (Field DecodedAccessPath) code.Refusal) → answer_out (taken_out head_is) r ≡ head_at revision s at → Some f ≡ result_ok r
+            → head_at revision s at ≡ ok (taken_out head_is f)
+        go (Ok g) h e = let same : f ≡ g = cc in sym h ∙ rw same
+        go (Err q) h e = absurd (cc)
 
   pub opened : {t : Taken Head} → head_at revision s at ≡ ok t → {event site kind : ℕ} → record { event = event; site = site } ≡ numbered t.value.event
       → kind ≡ kind_of_event t.value.event

@@ -1,23 +1,16 @@
 -- A path's words from its front and from its components, as they are read once.
-use Rattle.std.specs.Prelude.{ℕ, ◌≡◌, Bool, true, false, cond, ◌&&◌, List, [], ◌∷◌, eqb, length, take}
+use Rattle.std.specs.Prelude.{ℕ, Bool, true, false, cond, ◌&&◌, List, [], ◌∷◌, eqb}
 use Rattle.local_format.specs.Out.{Out, ok, refused}
 use Rattle.semcode_records.specs.Records.{Taken, records}
 use Rattle.semcode_records.specs.Component.{Component}
-use Rattle.record_words.specs.Words.{Puts}
 use Rattle.path_words.specs.Words.{component_words}
 
 -- ---- Components
 
+-- whether all are there
 abbrev pub there : {A : Type 0} → Out A → Bool
 there (ok a) = true
 there (refused r) = false
-
--- so many components from a place on, to the words from an index on: whether all are there, and their words where they are
-pub record PutsComponents (read : ℕ → Out (Taken Component)) (n at to : ℕ) (before after : List ℕ) (r : Bool) : Type 0 where
-  pub size : length after ≡ length before
-  pub kept : take to after ≡ take to before
-  pub answer : r ≡ there (records read n at)
-  pub words : r ≡ true → Puts (component_words read n at) to before after
 
 -- ---- What stands in front of a path's components
 

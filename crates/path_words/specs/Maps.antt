@@ -3,15 +3,11 @@ use Rattle.std.specs.Prelude.{ℕ, true, false, Option, Some, None}
 use Rattle.local_format.specs.declared.field.Field.{Field}
 use Rattle.path_words.specs.Words as words
 use Rattle.path_words.specs.Front as front
-use Rattle.path_words.specs.declared.Numbered.{Numbered}
 use Rattle.path_words.specs.declared.Opening.{Opening}
 
 abbrev pub step_is : Option (Field ℕ) → words.Step
 step_is (Some s) = record { whole = true; word = s.value; next = s.next }
 step_is None = record { whole = false; word = 0; next = 0 }
-
-abbrev pub numbered_is : Numbered → words.Numbered
-numbered_is n = record { event = n.event; site = n.site }
 
 abbrev pub opening_is : Option Opening → front.Opening
 opening_is (Some o) =

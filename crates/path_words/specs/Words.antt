@@ -1,11 +1,11 @@
 -- The fields of paths and of their components as words.
-use Rattle.std.specs.Prelude.{ℕ, zero, suc, ◌+◌, ◌-◌, ◌*◌, ◌≡◌, Bool, true, false, cond, ◌&&◌, List, [], ◌∷◌, ◌++◌, leb, length, take}
+use Rattle.std.specs.Prelude.{ℕ, zero, suc, ◌+◌, ◌-◌, ◌*◌, ◌≡◌, Bool, true, false, cond, ◌&&◌, List, [], ◌∷◌, leb, length, take}
 use Rattle.local_format.specs.Out.{Out, ok, refused}
 use Rattle.lent_table.specs.Lent.{lent}
 use Rattle.semcode_records.specs.Records.{Taken}
 use Rattle.semcode_records.specs.Component.{Component, tuple_index, field_symbol, variant, sequence_index, component_at}
-use Rattle.semcode_records.specs.Path.{Event, borrow, write, no_activation, frame_entry, borrow_store_site, no_execution, write_store_site, write_record_site}
 use Rattle.semcode_records.specs.Path.{kind_of_event, Head, head_at}
+use Rattle.semcode_records.specs.Numbers.{numbered}
 use Rattle.record_words.specs.Words.{all_words}
 
 -- ---- A component
@@ -34,19 +34,6 @@ component_words read (suc n) at = (step_of (read at)).word ∷ component_words r
 
 -- ---- A path
 
--- the event's number and its site, as in C's `FalgnustEvent`
-pub record Numbered : Type 0 where
-  pub event : ℕ
-  pub site : ℕ
-
-abbrev pub numbered : Event → Numbered
-numbered (borrow no_activation) = record { event = 0; site = 0 }
-numbered (borrow frame_entry) = record { event = 1; site = 0 }
-numbered (borrow (borrow_store_site site)) = record { event = 2; site = site }
-numbered (write no_execution) = record { event = 3; site = 0 }
-numbered (write (write_store_site site)) = record { event = 4; site = site }
-numbered (write (write_record_site site)) = record { event = 5; site = site }
-
 -- event, site, root, how many components, and these
 abbrev pub head_words : (ℕ → ℕ → Out (Taken Component)) → Head → List ℕ
 head_words read h =
@@ -70,12 +57,6 @@ fitting size room = leb 1 size && leb size room
 unfoldable pub fitted : (ℕ → List ℕ) → List ℕ → ℕ → ℕ
 fitted words [] room = 0
 fitted words (at ∷ ats) room = cond (fitting (length (words at)) room) (suc (fitted words ats (room - length (words at)))) 0
-
--- the words of one from an index on, or nothing where it is not there or does not fit
-pub record PutsOne (xs : List ℕ) (to : ℕ) (before after : List ℕ) (r : ℕ) : Type 0 where
-  pub size : length after ≡ length before
-  pub answer : r ≡ cond (fitting (length xs) (length before - to)) (length xs) 0
-  pub front : take (to + r) after ≡ take to before ++ cond (fitting (length xs) (length before - to)) xs []
 
 -- what a call leaves: the words of these and zeros past them
 pub record Fits (words : ℕ → List ℕ) (starts before after : List ℕ) (r : ℕ) : Type 0 where

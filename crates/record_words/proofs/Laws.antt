@@ -6,10 +6,12 @@ use mathlib.Core.List.{List, [], ◌∷◌, ◌++◌, append-nil, append_assoc}
 use native.Mathlib.Omega.{arith}
 use native.Mathlib.Numerals.{add-one}
 use lib.Dec.{leb}
-use lib.ListN.{length, take, drop, get_or, set, length-append, length-set}
-use lib.Seq.{take-suc-set, length-take-le, drop-cons, drop-length, take_all}
+use lib.ListN.{length, take, drop, get_or, set, length-append, length-set, length-take, length-drop}
+use lib.Seq.{take-suc-set, length-take-le, drop-cons, drop-length, take_all, take_at}
 use Rattle.local_format.specs.Field.{le}
 use borrow.Author.Tests.{le-leb, lt-leb, leb-true}
+use borrow.Rule.Slice.PartMut.{put_mid}
+use Rattle.std.proofs.lemmas.Slice.{take-put_mid}
 use Rattle.lent_table.specs.Lent.{lent}
 use Rattle.evr0_section.specs.Head.{witness_size}
 use Rattle.record_words.specs.Words.{
@@ -20,7 +22,6 @@ use Rattle.record_words.specs.Words.{
   witness_whole,
   witness_words,
   span_words,
-  Puts,
   all_whole,
   all_words,
   fits,
@@ -40,30 +41,57 @@ fields_more (suc n) s at =
     let e : at + 4 + 4 * n ≡ at + 4 * suc n = omega arith in
     ap (λ (l : List ℕ). le 4 s at ∷ l) (fields_more n s (at + 4) ∙ rw e)
 
--- ---- Words in front
-
-pub puts_one : (to v : ℕ) (t : List ℕ) → to < length t → Puts (v ∷ []) to t (set t to v)
-puts_one to v t h = record { size = simp length-set; front = rw add-one (take-suc-set t to v h) }
-
-pub puts_then : {xs ys a b c : List ℕ} {to : ℕ} (next : ℕ) → to + length xs ≡ next → Puts xs to a b → Puts ys next b c → Puts (xs ++ ys) to a c
-puts_then {xs} {ys} {a} {b} {c} {to} next h p q =
-    let e : to + length (xs ++ ys) ≡ next + length ys = rw length-append (omega arith) in
-    let f : take next b ≡ take to a ++ xs = rw h at p.front in
-    record { size = q.size ∙ p.size; front = rw (e, q.front, f) (append_assoc (take to a) xs ys) }
-
-module _ (s : List ℕ) (at to : ℕ) where
-  pub fill_none : (t : List ℕ) → take (to + 0) t ≡ take to t ++ fields 0 s at
+module _ (s : List ℕ) (at : ℕ) where
+  pub fill_none : (t : List ℕ) → take 0 t ≡ fields 0 s at
   unfolding fields
-  fill_none t = let e : to + 0 ≡ to = omega arith in rw (e, append-nil)
+  fill_none t = refl
 
-  pub fill_more : (i : ℕ) (t u : List ℕ) → to + i < length t → take (to + i) t ≡ take to u ++ fields i s at
-      → take (to + (i + 1)) (set t (to + i) (le 4 s (at + 4 * i))) ≡ take to u ++ fields (i + 1) s at
-  fill_more i t u h inv =
-      let e : to + (i + 1) ≡ suc (to + i) = omega arith in
-      rw (e, take-suc-set t (to + i) _ h, inv, add-one, fields_more i s at) (append_assoc (take to u) (fields i s at) _)
+  pub fill_more : (i : ℕ) (t : List ℕ) → i < length t → take i t ≡ fields i s at
+      → take (i + 1) (set t i (le 4 s (at + 4 * i))) ≡ fields (i + 1) s at
+  fill_more i t h inv = rw (add-one, take-suc-set t i _ h, inv, fields_more i s at)
 
-  pub fill_done : (n i : ℕ) (t u : List ℕ) → i ≡ n → length t ≡ length u → take (to + i) t ≡ take to u ++ fields i s at → Puts (fields n s at) to u t
-  fill_done n i t u e l inv = record { size = l; front = rw (length_fields n s at, ← e) inv }
+  pub fill_done : (n i : ℕ) (t : List ℕ) → i ≡ n → length t ≡ i → take i t ≡ fields i s at → t ≡ fields n s at
+  fill_done n i t e l inv = sym (take_all i t (omega arith)) ∙ inv ∙ ap (λ (m : ℕ). fields m s at) e
+
+-- ---- Words put piece by piece
+
+-- words in front of a table, and two more
+abbrev pub with_two : ℕ → List ℕ → List ℕ → ℕ → ℕ → List ℕ
+with_two n xs ys a b = set (set (ys ++ drop n xs) n a) (n + 1) b
+
+module _ (n : ℕ) (xs ys : List ℕ) (l : length ys ≡ n) where
+  front_size : n ≤ length xs → length (ys ++ drop n xs) ≡ length xs
+  front_size h = simp (length-append, length-drop) (omega arith)
+
+  -- the words in front, and one more
+  front_one : (a : ℕ) → n < length xs → take (n + 1) (set (ys ++ drop n xs) n a) ≡ ys ++ (a ∷ [])
+  front_one a h =
+      let m = front_size (omega arith) in
+      rw (add-one, take-suc-set (ys ++ drop n xs) n a (omega arith)) (ap (λ (t : List ℕ). t ++ (a ∷ [])) (take_at ys (drop n xs) n l))
+
+  -- and two more
+  pub two_size : (a b : ℕ) → n ≤ length xs → length (with_two n xs ys a b) ≡ length xs
+  two_size a b h = let m = front_size h in simp length-set m
+
+  front_two : (a b : ℕ) → n + 1 < length xs → take (n + 2) (with_two n xs ys a b) ≡ ys ++ (a ∷ b ∷ [])
+  front_two a b h =
+      let e : n + 2 ≡ suc (n + 1) = omega arith in
+      let m = front_size (omega arith) in
+      let k : length (set (ys ++ drop n xs) n a) ≡ length xs = simp length-set m in
+      rw (e, take-suc-set (set (ys ++ drop n xs) n a) (n + 1) b (omega arith), front_one a (omega arith)) (append_assoc ys (a ∷ []) (b ∷ []))
+
+-- a part of a table
+pub put_size : (a k : ℕ) (w zs : List ℕ) → length zs ≡ k → a + k ≤ length w → length (put_mid a k w zs) ≡ length w
+put_size a k w zs e h = simp (length-append, length-take, length-drop) (omega arith)
+
+-- a part that goes to the end
+pub last_size : (w : List ℕ) (a : ℕ) → length (take (length w - a) (drop a w)) ≡ length w - a
+last_size w a = simp (length-take, length-drop) (omega arith)
+
+last_put : (w zs : List ℕ) (a : ℕ) → put_mid a (length w - a) w zs ≡ take a w ++ zs
+last_put w zs a =
+    let e : drop (length w - a) (drop a w) ≡ [] = ap (λ (k : ℕ). drop k (drop a w)) (sym (length-drop a w)) ∙ drop-length (drop a w) in
+    rw (e, append-nil)
 
 -- ---- A record with a text
 
@@ -96,31 +124,23 @@ module _ (front back : ℕ) (s : List ℕ) (at : ℕ) where
           record { whole = h; after = j; inside = omega arith }
       go false h k = absurd (cc)
 
-  pub puts_text : {a b c d e : List ℕ} {to rest : ℕ} → rest ≡ after_text front s at → Puts (fields front s at) to a b
-      → Puts ((at + 4 * front + 2) ∷ []) (to + front) b c → Puts ((rest - (at + 4 * front + 2)) ∷ []) (to + front + 1) c d
-      → Puts (fields back s rest) (to + front + 2) d e → Puts (text_words front back s at) to a e
+  -- fields, the place of the text and its length, and fields
+  pub text_put : (rest m k : ℕ) (xs ys zs : List ℕ) → rest ≡ after_text front s at → length xs ≡ front + 2 + back
+      → m ≡ front → ys ≡ fields m s at → k ≡ back → zs ≡ fields k s rest
+      → let w = with_two front xs ys (at + 4 * front + 2) (rest - (at + 4 * front + 2)) in
+      put_mid (front + 2) (length w - (front + 2)) w zs ≡ text_words front back s at
   unfolding text_words
-  puts_text {to = to} {rest = rest} h p q r t =
+  text_put rest m k xs ys zs h size e p f q =
       let n : rest - (at + 4 * front + 2) ≡ le 2 s (at + 4 * front) = omega arith in
-      puts_then (to + front) (rw (length_fields front s at)) p
-      (puts_then (to + front + 1) refl q (puts_then (to + front + 2) (omega arith) (rw n at r) (rw h at t)))
+      let l : length ys ≡ front = rw (p, e) (length_fields front s at) in
+      last_put (with_two front xs ys (at + 4 * front + 2) (rest - (at + 4 * front + 2))) zs (front + 2)
+      ∙ ap (λ (t : List ℕ). t ++ zs) (front_two front xs ys l (at + 4 * front + 2) (rest - (at + 4 * front + 2)) (omega arith))
+      ∙ append_assoc ys ((at + 4 * front + 2) ∷ (rest - (at + 4 * front + 2)) ∷ []) zs
+      ∙ rw (n, p, e, q, f, h)
 
 -- ---- A witness
 
 module _ (width : ℕ) (s : List ℕ) (at : ℕ) where
-  pub span_puts : {a b c : List ℕ} {to v w : ℕ} → v ≡ le width s at → w ≡ le width s (at + width) → Puts (v ∷ []) to a b → Puts (w ∷ []) (to + 1) b c
-      → Puts (span_words width s at) to a c
-  unfolding span_words
-  span_puts {to = to} e f p q = puts_then (to + 1) refl (rw e at p) (rw f at q)
-
-  pub puts_witness : {a b c d e : List ℕ} {to origin : ℕ} → Puts (fields 3 s at) to a b → Puts ((at + 12) ∷ []) (to + 3) b c
-      → Puts (span_words width s (at + 44)) (to + 4) c d → origin ≡ at + 44 + 2 * width → Puts (origin ∷ []) (to + 6) d e
-      → Puts (witness_words width s at) to a e
-  unfolding witness_words span_words
-  puts_witness {to = to} p q r h t =
-      puts_then (to + 3) (rw (length_fields 3 s at)) p
-      (puts_then (to + 4) (omega arith) q (puts_then (to + 6) (omega arith) r (rw h at t)))
-
   pub witness_cut : length s < at + witness_size width → witness_whole width s at ≡ false
   unfolding witness_whole
   witness_cut h = lt-leb (at + witness_size width) (length s) h
@@ -128,6 +148,29 @@ module _ (width : ℕ) (s : List ℕ) (at : ℕ) where
   pub witness_there : at + witness_size width ≤ length s → witness_whole width s at ≡ true
   unfolding witness_whole
   witness_there h = le-leb (at + witness_size width) (length s) h
+
+module _ (width : ℕ) (s : List ℕ) (at origin m : ℕ) (xs ys zs : List ℕ) where
+  -- three fields, a place, a span's ends and a place
+  pub witness_put : length xs ≡ 7 → m ≡ 3 → ys ≡ fields m s at → zs ≡ span_words width s (at + 44) → origin ≡ at + 44 + 2 * width
+      → set (put_mid 4 2 (set (ys ++ drop 3 xs) 3 (at + 12)) zs) 6 origin ≡ witness_words width s at
+  unfolding witness_words span_words fields
+  witness_put size e p q h =
+      let l : length ys ≡ 3 = rw (p, e) (length_fields 3 s at) in
+      let two : length zs ≡ 2 = rw q refl in
+      let u : List ℕ = set (ys ++ drop 3 xs) 3 (at + 12) in
+      let a : length u ≡ 7 = let f = front_size 3 xs ys l (omega arith) in simp length-set (omega arith) in
+      let t : List ℕ = put_mid 4 2 u zs in
+      let b : length t ≡ 7 = put_size 4 2 u zs two (omega arith) ∙ a in
+      let c : length (set t 6 origin) ≡ 7 = simp length-set b in
+      sym (take_all 7 (set t 6 origin) (omega arith))
+      ∙ take-suc-set t 6 origin (omega arith)
+      ∙ ap (λ (w : List ℕ). w ++ (origin ∷ []))
+      (take-put_mid 4 2 u zs 6 (omega arith) (omega arith) ∙ ap (λ (w : List ℕ). w ++ zs) (front_one 3 xs ys l (at + 12) (omega arith)))
+      ∙ rw (p, e, q, h)
+
+pub wide_span : (s : List ℕ) (at : ℕ) {v w : ℕ} → v ≡ le 8 s at → w ≡ le 8 s (at + 8) → (v ∷ w ∷ []) ≡ span_words 8 s at
+unfolding span_words
+wide_span s at e f = rw (e, f)
 
 -- fields of 4 bytes are a span's ends
 pub narrow_span : (s : List ℕ) (at : ℕ) → fields 2 s at ≡ span_words 4 s at
@@ -172,14 +215,15 @@ module _ (whole : ℕ → Bool) (words : ℕ → List ℕ) (starts : List ℕ) w
         rw s (and_false (all_whole whole starts))
 
     -- a record that is written
-    pub fill_on : (size : ℕ) (u : List ℕ) → i < length starts → whole (get_or starts i 0) ≡ true → length (words (get_or starts i 0)) ≡ size
-        → Puts (words (get_or starts i 0)) to t u → Filling (i + 1) (to + size) u
-    fill_on size u h e l p =
-        let f : take (to + size) u ≡ take to t ++ words (get_or starts i 0) = rw l at p.front in
+    pub fill_on : (k size : ℕ) (ws : List ℕ) → i < length starts → whole (get_or starts i 0) ≡ true → ws ≡ words (get_or starts i 0)
+        → length (words (get_or starts i 0)) ≡ size → to ≤ length t → Filling (i + 1) (to + size) (put_mid to k t ws)
+    fill_on k size ws h e p l room =
+        let n : to + size ≡ to + length ws = rw (p, l) in
         record {
           there = next_there h ∙ rw e;
           written = next_words h ∙ sym (append_assoc (take to t) (words (get_or starts i 0)) _)
-              ∙ ap (λ (xs : List ℕ). xs ++ all_words words (drop (i + 1) starts)) (sym f);
+              ∙ ap (λ (xs : List ℕ). xs ++ all_words words (drop (i + 1) starts))
+              (ap (λ (xs : List ℕ). take to t ++ xs) (sym p) ∙ sym (take-put_mid to k t ws (to + size) n room));
         }
 
     pub fill_end : (u : List ℕ) → i ≡ length starts → to ≤ length t → length t ≡ length u
@@ -209,10 +253,9 @@ module _ (s : List ℕ) (at : ℕ) (before after : List ℕ) where
       let e : leb (4 * length before) (length s - at) ≡ false = lt-leb (4 * length before) (length s - at) h in
       record { answer = sym e; table = rw e z }
 
-  pub runs_all : 4 * length before ≤ length s - at → Puts (fields (length before) s at) 0 before after → Runs s at before after true
-  runs_all h p =
+  pub runs_all : 4 * length before ≤ length s - at → after ≡ fields (length before) s at → Runs s at before after true
+  runs_all h w =
       let e : leb (4 * length before) (length s - at) ≡ true = le-leb (4 * length before) (length s - at) h in
       let n : length (fields (length before) s at) ≡ length before = length_fields (length before) s at in
-      let w : after ≡ fields (length before) s at = sym (take_all (0 + length (fields (length before) s at)) after (omega (arith, p.size))) ∙ p.front in
       let z : length before - length before ≡ 0 = omega arith in
       record { answer = sym e; table = w ∙ rw (e, n, z, append-nil) }

@@ -1,6 +1,6 @@
 -- The fields of records as words: each field is a word, and a text or a digest stands there by its place. Where a record starts is
 -- given, and nothing is asked of it but that it is whole. proofs/Read.antt: the words of a record that was read are its fields.
-use Rattle.std.specs.Prelude.{ℕ, zero, suc, ◌+◌, ◌-◌, ◌*◌, ◌≡◌, Bool, true, cond, ◌&&◌, List, [], ◌∷◌, ◌++◌, leb, length, take}
+use Rattle.std.specs.Prelude.{ℕ, zero, suc, ◌+◌, ◌-◌, ◌*◌, ◌≡◌, Bool, true, cond, ◌&&◌, List, [], ◌∷◌, ◌++◌, leb, length}
 use Rattle.local_format.specs.Field.{le}
 use Rattle.lent_table.specs.Lent.{lent}
 use Rattle.evr0_section.specs.Head.{witness_size}
@@ -46,17 +46,6 @@ all_words words [] = []
 all_words words (at ∷ ats) = words at ++ all_words words ats
 
 -- ---- A lent table of words
-
--- some words were written from an index on, and those before it stay
-pub record Puts (xs : List ℕ) (to : ℕ) (before after : List ℕ) : Type 0 where
-  pub size : length after ≡ length before
-  pub front : take (to + length xs) after ≡ take to before ++ xs
-
--- a record that is whole is put, and the table keeps its size
-pub record Stores (whole : Bool) (words : List ℕ) (to : ℕ) (before after : List ℕ) (r : Bool) : Type 0 where
-  pub answer : r ≡ whole
-  pub size : length after ≡ length before
-  pub put : whole ≡ true → Puts words to before after
 
 -- whether all records are whole and their words fit
 abbrev pub fits : (ℕ → Bool) → (ℕ → List ℕ) → List ℕ → List ℕ → Bool

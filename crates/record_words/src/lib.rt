@@ -11,8 +11,6 @@ ghost use Rattle.record_words.specs.Words.{
   witness_whole,
   witness_words,
   span_words,
-  Puts,
-  Stores,
   Fills,
   Runs,
 };
@@ -35,16 +33,17 @@ trait Record {
     fn count(&self) -> usize
         ensures { result ≡ size self.now };
 
-    // Puts the words of the record at `at` from `to` on, where it is whole.
-    fn put(&self, bytes: &[u8], at: usize, words: &mut [u64], to: usize) -> bool
-        requires { to + size self.now ≤ length words.old }
-        ensures { Stores (is_whole self.now bytes.now at) (words_of self.now bytes.now at) to words.old words.new result };
+    // Puts the words of the record at `at`, where it is whole, into a place of their size.
+    fn put(&self, bytes: &[u8], at: usize, words: &mut [u64]) -> bool
+        requires { length words.old ≡ size self.now }
+        ensures whole { result ≡ is_whole self.now bytes.now at }
+        ensures puts { result ≡ true → words.new ≡ words_of self.now bytes.now at };
 
     ghost sized: { (r : Self) (s : List ℕ) (at : ℕ) → length (words_of r s at) ≡ size r };
 }
 
 // The records that start at these places.
-// Kept (6d): by `words.chunks_exact_mut(size)` what was put into one chunk is still to be said of the whole table, where `Fills` says it of `to`.
+// Kept (6d): by `words.chunks_exact_mut(size)` what was put into one chunk is still to be said of the whole table, where the invariant says it of `to`.
 fn read_all<R: Record>(kind: &R, bytes: &[u8], starts: &[u64], words: &mut [u64]) -> bool
     ensures { Fills (R.is_whole kind.now bytes.now) (R.words_of kind.now bytes.now) starts.now
         words.old words.new result }
@@ -56,7 +55,7 @@ fn read_all<R: Record>(kind: &R, bytes: &[u8], starts: &[u64], words: &mut [u64]
             clear(words);
             return false;
         }
-        if !kind.put(bytes, *start as usize, words, to) {
+        if !kind.put(bytes, *start as usize, &mut words[to..to + size]) {
             clear(words);
             return false;
         }
@@ -66,23 +65,14 @@ fn read_all<R: Record>(kind: &R, bytes: &[u8], starts: &[u64], words: &mut [u64]
     true
 }
 
-// So many fields of 4 bytes, to the words from `to` on.
-// Kept (6d): `put_fields(bytes, at, &mut words[to..to + count])` moves the place into each call, and a promise of the words around it with it.
-fn put_fields(bytes: &[u8], at: usize, count: usize, words: &mut [u64], to: usize)
-    requires { (4 * count ≤ length bytes.now - at) × (to + count ≤ length words.old) }
-    ensures { Puts (fields count bytes.now at) to words.old words.new }
+// Fields of 4 bytes, as many as there are words.
+fn put_fields(bytes: &[u8], at: usize, words: &mut [u64])
+    requires { 4 * length words.old ≤ length bytes.now - at }
+    ensures { words.new ≡ fields (length words.old) bytes.now at }
 {
-    for i in 0..count {
-        words[to + i] = u32::le_at(bytes, at + 4 * i) as u64;
+    for (i, word) in words.iter_mut().enumerate() {
+        *word = u32::le_at(bytes, at + 4 * i) as u64;
     }
-}
-
-// One word.
-fn put_word(words: &mut [u64], to: usize, value: usize)
-    requires { to < length words.old }
-    ensures { Puts (value ∷ []) to words.old words.new }
-{
-    words[to] = value as u64;
 }
 
 // ---- Records with a text
@@ -127,16 +117,15 @@ impl Record for Texts {
         self.front + 2 + self.back
     }
 
-    fn put(&self, bytes: &[u8], at: usize, words: &mut [u64], to: usize) -> bool {
+    fn put(&self, bytes: &[u8], at: usize, words: &mut [u64]) -> bool {
         let Some(rest) = self.after_text(bytes, at) else {
             return false;
         };
-        let behind = to + self.front;
         let text = at + 4 * self.front + 2;
-        put_fields(bytes, at, self.front, words, to);
-        put_word(words, behind, text);
-        put_word(words, behind + 1, rest - text);
-        put_fields(bytes, rest, self.back, words, behind + 2);
+        put_fields(bytes, at, &mut words[..self.front]);
+        words[self.front] = text as u64;
+        words[self.front + 1] = (rest - text) as u64;
+        put_fields(bytes, rest, &mut words[self.front + 2..]);
         true
     }
 
@@ -144,7 +133,7 @@ impl Record for Texts {
 }
 
 // Propositions: the place and the length of the kind, owner, scope, type.
-// Kept (1a, 2a): C has a function for each of the three, with a flag for whether all are there: no refusal has a number for words that do not fit.
+// Kept (1a, 2a): C has a function for each of the three, an instance of `read_all`, with a flag: no refusal has a number for words that do not fit.
 pub fn read_propositions(payload: &[u8], starts: &[u64], words: &mut [u64]) -> bool
     ensures { Fills (text_whole 0 3 payload.now) (text_words 0 3 payload.now) starts.now
         words.old words.new result }
@@ -175,18 +164,17 @@ pub fn read_strings(bytes: &[u8], starts: &[u64], words: &mut [u64]) -> bool
 
 // The start and the end of a span.
 // Kept (1a): a payload's schema may be any number, and all but 2 have the narrow span.
-// Kept (6d, 7d): the same table and place; an `if` on the schema picks the width, where a closure would be made of it for one call.
+// Kept (7d): an `if` on the schema picks the width; a closure for the width would be chosen by the same `if`.
 #[tactic(auto, using(evr0_section::proofs::Schemas::wide, evr0_section::proofs::Schemas::narrow))]
-fn put_span(bytes: &[u8], at: usize, schema: u16, words: &mut [u64], to: usize)
-    requires { (at + 2 * span_width schema ≤ length bytes.now) × (to + 2 ≤ length words.old) }
-    ensures { Puts (span_words (span_width schema) bytes.now at) to words.old words.new }
+fn put_span(bytes: &[u8], at: usize, schema: u16, words: &mut [u64])
+    requires { (at + 2 * span_width schema ≤ length bytes.now) × (length words.old ≡ 2) }
+    ensures { words.new ≡ span_words (span_width schema) bytes.now at }
 {
     if schema == 2 {
-        put_word(words, to, u64::le_at(bytes, at) as usize);
-        put_word(words, to + 1, u64::le_at(bytes, at + 8) as usize);
-        return;
+        words.copy_from_slice(&[u64::le_at(bytes, at), u64::le_at(bytes, at + 8)]);
+    } else {
+        put_fields(bytes, at, words);
     }
-    put_fields(bytes, at, 2, words, to);
 }
 
 // Witnesses of a payload of this schema.
@@ -206,15 +194,15 @@ impl Record for Witnesses {
         7
     }
 
-    fn put(&self, bytes: &[u8], at: usize, words: &mut [u64], to: usize) -> bool {
+    fn put(&self, bytes: &[u8], at: usize, words: &mut [u64]) -> bool {
         let size = witness_size(self.schema);
         if bytes.len().saturating_sub(at) < size {
             return false;
         }
-        put_fields(bytes, at, 3, words, to);
-        put_word(words, to + 3, at + 12);
-        put_span(bytes, at + 44, self.schema, words, to + 4);
-        put_word(words, to + 6, at + (size - 32)); // the second digest
+        put_fields(bytes, at, &mut words[..3]);
+        words[3] = (at + 12) as u64;
+        put_span(bytes, at + 44, self.schema, &mut words[4..6]);
+        words[6] = (at + (size - 32)) as u64; // the second digest
         true
     }
 
@@ -235,11 +223,10 @@ pub fn read_witnesses(payload: &[u8], schema: u16, starts: &[u64], words: &mut [
 pub fn read_parents(payload: &[u8], at: usize, words: &mut [u64]) -> bool
     ensures { Runs payload.now at words.old words.new result }
 {
-    let count = words.len();
-    if payload.len().saturating_sub(at) / 4 < count {
+    if payload.len().saturating_sub(at) / 4 < words.len() {
         clear(words);
         return false;
     }
-    put_fields(payload, at, count, words, 0);
+    put_fields(payload, at, words);
     true
 }

@@ -7,7 +7,7 @@ use mathlib.Core.List.{List, Memᴰ}
 use native.Mathlib.Omega.{arith}
 use lib.ListN.{drop}
 use Rattle.local_format.specs.Refusal.{Refusal}
-use Rattle.local_format.specs.Out.{Out, ok, refused, moved, ◌>>=◌}
+use Rattle.local_format.specs.Out.{Out, ok, refused, moved}
 use Rattle.local_format.specs.Text.{bytes_at}
 use Rattle.local_format.proofs.OutLaws.{ok_same, on_ok, on_refused}
 use Rattle.derivation.specs.Rule.{Rule, Shaped, by_witness, by_parents, rule_named, four_rules}

@@ -17,7 +17,7 @@ use Rattle.local_format.specs.Text.{Span, or_ill, bytes_at, section_field, text_
 use Rattle.local_format.specs.Tag.{equal}
 use Rattle.local_format.proofs.OutLaws.{never, ok_same, on_ok, bind_ok, checked_ok}
 use Rattle.local_format.proofs.FieldLaws.{field_ok, field_there}
-use Rattle.local_format.proofs.TagLaws.{equal_is}
+use Rattle.local_format.proofs.TagLaws.{equal_self}
 use Rattle.derivation.specs.Rule.{Rule, Shaped, by_witness, by_parents}
 use Rattle.rule_table.specs.Load.{is_shaped, bounded, rule_in, Loaded, rule_at, outside, named_in, rules_from, rules_of}
 use Rattle.rule_table.specs.Load.{Allowed, Distinct, none, also, Loadable}
@@ -58,19 +58,6 @@ module _ (r : Rule) where
   unfolding bounded
   in_bounds a =
       both_true _ _ (le-leb (length r.name) 64 a.name.short) (both_true _ _ (le-leb r.operation 1 a.operation) (shaped_is a.shaped))
-
-pub equal_self : (a : List ℕ) → equal a a ≡ true
-unfolding equal
-equal_self [] = refl
-equal_self (x ∷ xs) = rw (eq-eqb x x refl) (equal_self xs)
-
--- names that differ
-pub differ : (a b : List ℕ) → (a ≡ b → ⊥) → equal a b ≡ false
-differ a b h = go (equal a b) refl
-  where
-    go : (t : Bool) → equal a b ≡ t → t ≡ false
-    go true e = absurd (h (equal_is a b e))
-    go false e = refl
 
 -- a step of what was read, and the rest
 pub step : {A B P : Type 0} (x : Out A) (f : A → Out B) {b : B} → (x >>= f) ≡ ok b → ((a : A) → x ≡ ok a → f a ≡ ok b → P) → P

@@ -11,7 +11,8 @@ use Rattle.utf8.specs.Utf8 as utf8
 use Rattle.derivation.specs.Rule.{Rule, Named, known, unknown, rule_named, four_rules}
 use Rattle.rule_table.specs.Load.{is_shaped, bounded, rule_in, rule_at, named_in, rules_from, rules_of, Distinct, also, rule_bytes, each_rule, written, none}
 use Rattle.derivation.proofs.Rules.{named}
-use Rattle.rule_table.proofs.Load.{equal_self, differ, loaded}
+use Rattle.local_format.proofs.TagLaws.{equal_self, differ}
+use Rattle.rule_table.proofs.Load.{loaded}
 
 found : {rs : List Rule} {r : Rule} → Distinct rs → Memᴰ r rs → rule_named rs r.name ≡ known r
 unfolding rule_named

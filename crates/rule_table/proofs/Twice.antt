@@ -10,17 +10,17 @@ use lib.Dec.{eqb, leb}
 use lib.ListN.{length, drop}
 use borrow.Author.Tests.{le-leb, leb-true, not-true, not-false}
 use Rattle.local_format.specs.Refusal.{Refusal}
-use Rattle.local_format.specs.Out.{Out, ok, refused, refuse, check, ◌>>=◌, ◌>>◌}
+use Rattle.local_format.specs.Out.{Out, ok, refused, refuse, check, ◌>>◌}
 use Rattle.local_format.specs.Field.{le}
 use Rattle.local_format.specs.Text.{section_field}
 use Rattle.local_format.specs.Tag.{equal}
 use Rattle.local_format.proofs.OutLaws.{never, refused_same, on_ok, bind_refused, checked_refused}
 use Rattle.local_format.proofs.FieldLaws.{field_ok, field_there}
-use Rattle.local_format.proofs.TagLaws.{equal_is}
+use Rattle.local_format.proofs.TagLaws.{equal_is, equal_self}
 use Rattle.derivation.specs.Rule.{Rule}
 use Rattle.rule_table.specs.Load.{rule_at, outside, named_in, rules_from, rules_of, Allowed, Distinct, also, rule_bytes, each_rule, Twice}
 use Rattle.derivation.proofs.Tests.{both, either, first_true, second_true}
-use Rattle.rule_table.proofs.Load.{equal_self, Read, rules_none, read_more, outside_ok, rule_allowed_lem}
+use Rattle.rule_table.proofs.Load.{Read, rules_none, read_more, outside_ok, rule_allowed_lem}
 use Rattle.rule_table.proofs.Written.{rule_reads, after_rule, rule_written, still_new, byte_at}
 
 -- ---- The first rule whose name stands before it, in `before` or in the table

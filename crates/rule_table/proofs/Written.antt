@@ -19,7 +19,8 @@ use Rattle.local_format.proofs.FieldLaws.{field_ok, field_there, le_drop, le_1}
 use Rattle.derivation.specs.Rule.{Rule}
 use Rattle.rule_table.specs.Load.{bounded, rule_in, Loaded, rule_at, outside, named_in, rules_from, rules_of, Allowed, Distinct, also, Loadable}
 use Rattle.rule_table.specs.Load.{rule_bytes, each_rule, written}
-use Rattle.rule_table.proofs.Load.{differ, step, len, Text, text_read, text_there, bounds, in_bounds, outside_ok, rules_read, loaded}
+use Rattle.local_format.proofs.TagLaws.{differ}
+use Rattle.rule_table.proofs.Load.{step, len, Text, text_read, text_there, bounds, in_bounds, outside_ok, rules_read, loaded}
 
 -- ---- Whatever a table may hold loads
 rule_by : List ℕ → ℕ → ℕ → ℕ → ℕ → Rule

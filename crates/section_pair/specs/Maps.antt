@@ -1,7 +1,5 @@
 -- From the code's structs and enums to the definitions' types.
-use Rattle.evr0_section.specs.Proposition.{Key}
 use Rattle.evr0_compare.specs.Compare.{Tally, Verdict, agreed, contradicted, first_only, second_only}
-use Rattle.section_pair.specs.declared.key.Key as code
 use Rattle.section_pair.specs.declared.verdict.Verdict as verdict
 use Rattle.section_pair.specs.declared.verdict.Verdict.TheVariants.{Agreed, Contradicted, FirstOnly, SecondOnly}
 use Rattle.section_pair.specs.declared.totals.Totals.{Totals}
@@ -14,6 +12,3 @@ verdict_out Agreed = agreed
 verdict_out Contradicted = contradicted
 verdict_out FirstOnly = first_only
 verdict_out SecondOnly = second_only
-
-abbrev pub key_out : code.Key → Key
-key_out k = record { kind = k.kind.now; owner = k.owner; scope = k.scope; type = k.type_obligation }

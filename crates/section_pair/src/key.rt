@@ -1,18 +1,10 @@
-// What orders propositions.
+// The key of a proposition, by the place where it starts.
 ghost use Rattle.std.specs.Prelude.{◌+◌, ◌≤◌, ◌≡◌, length};
 ghost use Rattle.evr0_compare.specs.Merge.{kind_end, key_at};
-ghost use Rattle.section_pair.specs.Maps.{key_out};
+ghost use Rattle.evr0_records.specs.Maps.{key_out};
 
+use evr0_records::proposition::Key;
 use local_format::field::LittleEndian;
-
-// Kind's bytes, then owner, scope, type.
-#[derive(Clone, Copy, PartialEq, Eq, PartialOrd, Ord)]
-pub struct Key<'a> {
-    kind: &'a [u8],
-    owner: u32,
-    scope: u32,
-    type_obligation: u32,
-}
 
 // The key of the proposition that starts at a place.
 pub fn key_at(payload: &[u8], start: usize) -> Key<'_>

@@ -21,6 +21,7 @@ impl<'a> Side<'a> {
     ghost use Rattle.section_pair.specs.Maps.{verdict_out};
 
     // The verdict on the next proposition, after i of this section, the first, and j of the second.
+    // Kept (6a): starts and flags are two tables that C lends.
     pub fn next_verdict(self, i: usize, second: Side, j: usize) -> Verdict
         ensures { (xs ys : List Standing) → Views self.entry.payload.now self.entry.starts.now self.entry.flags.now xs
             → Views second.entry.payload.now second.entry.starts.now second.entry.flags.now ys

@@ -5,8 +5,8 @@ use native.Mathlib.Omega.{arith}
 use native.Mathlib.Nat.{sub-zero}
 use native.Mathlib.Numerals.{add-one}
 use mathlib.Core.List.{List, [], ◌∷◌, ◌++◌, map, append-nil, append_assoc}
-use lib.ListN.{length, length-map, take, drop, set, take-append-drop}
-use lib.Seq.{take-suc-set, drop-set-lt, length-take-le}
+use lib.ListN.{length, length-map, take, drop, set}
+use lib.Seq.{take-suc-set, take_all}
 use Rattle.local_format.specs.Refusal.{Refusal}
 use Rattle.local_format.specs.Out.{Out, ok, refused, ◌>>=◌}
 use Rattle.local_format.proofs.OutLaws.{never, refused_same, ok_same, bind_ok}
@@ -48,41 +48,39 @@ kept_ok : {A : Type 0} (x : Out (Table A)) {k : Kept} → kept x ≡ ok k → (t
 kept_ok (ok t) e = (t, refl, ap (λ (k : Kept). k.starts) (ok_same e), ap (λ (k : Kept). k.end) (ok_same e))
 kept_ok (refused r) e = absurd (never e)
 
-module _ {A : Type 0} (read : ℕ → Out (Taken A)) (count at : ℕ) (held : List ℕ) where
-  -- i records are read, the first of the rest stands at a place, and the table's first i entries are their starts; past all of them stands what it held
+module _ {A : Type 0} (read : ℕ → Out (Taken A)) (count at : ℕ) where
+  -- i records are read, the first of the rest stands at a place, and the first i entries are their starts
   abbrev pub Filling : ℕ → ℕ → List ℕ → Type 0
-  Filling i place xs = (kept (records read count at) ≡ after (take i xs) (kept (records read (count - i) place))) × (drop count xs ≡ drop count held)
+  Filling i place xs = kept (records read count at) ≡ after (take i xs) (kept (records read (count - i) place))
 
-  pub fill_first : Filling 0 at held
-  fill_first = (rw sub-zero (after_none (kept (records read count at))), refl)
+  pub fill_first : (xs : List ℕ) → Filling 0 at xs
+  fill_first xs = rw sub-zero (after_none (kept (records read count at)))
 
   module _ (i place : ℕ) (xs : List ℕ) (inv : Filling i place xs) where
     pub fill_refused : {r : Refusal} → i < count → read place ≡ refused r → records read count at ≡ refused r
     fill_refused more e =
-        kept_refused (records read count at) (inv.0 ∙ ap (λ (x : Out (Table A)). after (take i xs) (kept x)) (first_refused_lem read count i place more e))
+        kept_refused (records read count at) (inv ∙ ap (λ (x : Out (Table A)). after (take i xs) (kept x)) (first_refused_lem read count i place more e))
 
     pub fill_on : {t : Taken A} → i < count → i < length xs → read place ≡ ok t → Filling (i + 1) t.next (set xs i place)
     fill_on {t} more room e =
-        let s : take (i + 1) (set xs i place) ≡ take i xs ++ place ∷ [] = rw add-one (take-suc-set xs i place room) in (
-          inv.0
-              ∙ ap (λ (x : Out (Table A)). after (take i xs) (kept x)) (first_read read count i place more e)
-              ∙ after_one (take i xs) (record { start = place; value = t.value; next = t.next }) (records read (count - (i + 1)) t.next)
-              ∙ ap (λ (ys : List ℕ). after ys (kept (records read (count - (i + 1)) t.next))) (sym s),
-          drop-set-lt count xs i place more ∙ inv.1,
-        )
+        let s : take (i + 1) (set xs i place) ≡ take i xs ++ place ∷ [] = rw add-one (take-suc-set xs i place room) in
+        inv
+        ∙ ap (λ (x : Out (Table A)). after (take i xs) (kept x)) (first_read read count i place more e)
+        ∙ after_one (take i xs) (record { start = place; value = t.value; next = t.next }) (records read (count - (i + 1)) t.next)
+        ∙ ap (λ (ys : List ℕ). after ys (kept (records read (count - (i + 1)) t.next))) (sym s)
 
-  pub filled : (place : ℕ) (xs : List ℕ) → Filling count place xs → count ≤ length xs
-      → (extent (records read count at) ≡ ok (record { start = at; count = count; end = place })) × Lies (records read count at) held xs
-  filled place xs inv room =
+  pub filled : (place : ℕ) (xs : List ℕ) → Filling count place xs → length xs ≤ count
+      → (extent (records read count at) ≡ ok (record { start = at; count = count; end = place }))
+      × ((t : Table A) → records read count at ≡ ok t → xs ≡ starts_of t)
+  filled place xs inv all =
       let z : count - count ≡ 0 = omega arith in
       let done : kept (records read count at) ≡ ok (record { starts = take count xs ++ []; end = place }) =
-      inv.0 ∙ rw (z, none_left_lem read place)
+      inv ∙ rw (z, none_left_lem read place)
       in
       let w = kept_ok (records read count at) done in
       let many = as_many read count at w.1 in
-      let s : starts_of w.0 ≡ take count xs = w.2 ∙ append-nil (take count xs) in
-      let l : length (take count xs) ≡ count = length-take-le count xs room in
-      (rw (w.1, many.0, many.1, w.3), rw (w.1, s, l, ← inv.1) (sym (take-append-drop count xs)))
+      let s : starts_of w.0 ≡ xs = w.2 ∙ append-nil (take count xs) ∙ take_all count xs all in
+      (rw (w.1, many.0, many.1, w.3), λ t e. sym s ∙ ap starts_of (ok_same (sym w.1 ∙ e)))
 
 -- where the place after the last record is known, so is the table's extent
 pub extent_ends : {A : Type 0} (read : ℕ → Out (Taken A)) (count at : ℕ) {end : ℕ} → ends (records read count at) ≡ ok end
@@ -108,9 +106,14 @@ module _ {A : Type 0} (read : ℕ → Out (Taken A)) (count at : ℕ) where
       go (ok t) = rw length-map
       go (refused r) = refl
 
-  pub lies_places : (held xs : List ℕ) → Lies (records (places read) count at) held xs → Lies (records read count at) held xs
-  lies_places held xs h = go (records read count at) (rw (records_places read count at) at h)
+  -- the starts at the front of a table, and past them what it held
+  pub lies_places : (held front : List ℕ) → length front ≡ count
+      → ((t : Table (Unit {0})) → records (places read) count at ≡ ok t → front ≡ starts_of t)
+      → Lies (records read count at) held (front ++ drop count held)
+  lies_places held front l h = go (records read count at) refl
     where
-      go : (x : Out (Table A)) → Lies (x >>= λ t. ok (places_in t)) held xs → Lies x held xs
-      go (ok t) h = rw (← starts_blank t.entries) h
-      go (refused r) h = tt
+      go : (x : Out (Table A)) → records read count at ≡ x → Lies x held (front ++ drop count held)
+      go (ok t) e =
+          let f : front ≡ starts_of t = h (places_in t) (records_places read count at ∙ rw e) ∙ starts_blank t.entries in
+          rw (← f, l)
+      go (refused r) e = tt

@@ -77,7 +77,7 @@ fn read_block(
 }
 
 // The same, where a refusal leaves zeros in the lent tables.
-// Kept (2d): this leaves what stands past the starts, for a loop over functions that clears once; `parse_block` clears it and copies the families.
+// Kept (2b): `parse_block` over this function took 1.01 to 1.03 of the instructions (D52); both call `read_block`.
 pub fn parse_tables(
     code: &[u8],
     header_rev: u16,

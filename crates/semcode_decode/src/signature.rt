@@ -38,6 +38,7 @@ fn read_family(bytes: &[u8], at: usize) -> Result<Field<u8>, Refusal>
 }
 
 // Whether each is a byte from 1 to 15. The loop looks at all of them, where `iter().all(..)` ends at the first that is none.
+// Kept (3d): by `fold(true, |all, family| ..)` the closure would state what the loop's invariant says.
 fn all_families(families: &[u8]) -> bool
     ensures { result ≡ true → (i : ℕ) → i < length families.now
         → (1 ≤ get_or families.now i 0) × (get_or families.now i 0 ≤ 15) }

@@ -1,14 +1,15 @@
 // The tables of a block, each with its count in front.
 ghost use Rattle.std.specs.Prelude.{◌≡◌, ◌≤◌, ℕ, length};
-ghost use Rattle.local_format.specs.Out.{Out};
+ghost use Rattle.local_format.specs.Out.{Out, ok};
 ghost use Rattle.local_format.specs.Maps.{answer_out};
 ghost use Rattle.local_format.specs.Tag.{dbg0, own0};
 ghost use Rattle.semcode_records.specs.Records.{Taken, records, next_of};
+ghost use Rattle.semcode_records.specs.Records as of;
 ghost use Rattle.semcode_records.specs.Symbol.{symbol_at};
 ghost use Rattle.semcode_records.specs.Path.{path_at};
 ghost use Rattle.semcode_records.specs.Maps.{Tells};
 ghost use Rattle.semcode_decode.specs.Block.{string_record, string_table, symbol_table, path_table, section_at};
-ghost use Rattle.semcode_decode.specs.Layout.{extent, tagged, table_in};
+ghost use Rattle.semcode_decode.specs.Layout.{extent, starts_of, tagged, table_in};
 ghost use Rattle.semcode_decode.specs.Begun.{Lies};
 ghost use Rattle.semcode_decode.specs.Maps.{table_is, section_is};
 
@@ -42,31 +43,28 @@ pub fn table_of(section: Option<Table>, at: usize) -> Table
     })
 }
 
-// So many records from a place on, of which `end` tells where each ends, with their starts at the front of a table, and past them what stood there.
-// Kept (6a): C lends the table of starts; no heap, so no Vec of them is made.
+// Records from a place on, as many as their starts have room, of which `end` tells where each ends.
 fn fill_starts<F: Fn(usize) -> Result<usize, Refusal>>(
     at: usize,
-    count: u16,
     starts: &mut [u64],
     end: F,
 ) -> Result<Table, Refusal>
-    requires room { count ≤ length starts.old }
     requires tells { F.IsAlwaysCallable end }
     ensures result_value { (read : ℕ → Out (Taken (Unit {0}))) → Tells read (F.post end)
-        → answer_out table_is result ≡ extent (records read count at) }
-    ensures lies { (read : ℕ → Out (Taken (Unit {0}))) → Tells read (F.post end)
-        → Lies (records read count at) starts.old starts.new }
+        → answer_out table_is result ≡ extent (records read (length starts.old) at) }
+    ensures filled { (read : ℕ → Out (Taken (Unit {0}))) → Tells read (F.post end)
+        → (t : of.Table (Unit {0})) → records read (length starts.old) at ≡ ok t → starts.new ≡ starts_of t }
 {
-    let wanted = count as usize;
+    let count = starts.len();
     let mut cursor = at;
-    for i in 0..wanted {
+    for start in starts {
         let next = end(cursor)?;
-        starts[i] = cursor as u64;
+        *start = cursor as u64;
         cursor = next;
     }
     Ok(Table {
         start: at,
-        count: wanted,
+        count,
         end: cursor,
     })
 }
@@ -87,8 +85,7 @@ pub fn string_table(bytes: &[u8], at: usize, strings: &mut [u64]) -> Result<Tabl
     check(count as usize <= strings.len(), 61, next)?;
     fill_starts(
         next,
-        count,
-        strings,
+        &mut strings[..count as usize],
         |place: usize| -> Result<usize, Refusal>
             ensures { answer_out (λ end. end) result ≡ next_of (string_record bytes.entry.now place) }
         { Ok(string_at(bytes, place)?.next) },
@@ -159,8 +156,7 @@ fn ownership_table(
     check(count as usize <= paths.len(), 61, next)?;
     fill_starts(
         next,
-        count,
-        paths,
+        &mut paths[..count as usize],
         |place: usize| -> Result<usize, Refusal>
             ensures { answer_out (λ end. end) result ≡ next_of (path_at header_rev bytes.entry.now place) }
         { path_end(bytes, place, header_rev) },

@@ -71,6 +71,7 @@ fn next_function(
 
 // The starts stand at the front of the tables, and what stands past them is left; a refusal leaves zeros in those of a block. The loop goes by where
 // each function ends.
+// Kept (3d): it goes by where a function ends, and 65 is refused only where bytes are left after 1,024; a `for` would write the answer in it and behind it.
 // Kept (5d): as `locks::claim` for three of them; the table of starts is of the file alone, so it would stand beside such a struct.
 // Kept (5a): bytes, cursor and revision are the Rust's own parameters in front of them, in the order of C.
 // Kept (6a): C lends the table of starts with its length; the answer says how many of its entries count.

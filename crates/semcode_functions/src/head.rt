@@ -7,7 +7,7 @@ ghost use Rattle.semcode_functions.specs.Maps.{head_is};
 
 use local_format::field::{Field, field_at};
 use local_format::refusal::{Refusal, check, refuse};
-use local_format::text::Span;
+use local_format::text::{Span, spanned};
 
 pub const MAX_FUNCTION_NAME_BYTES: usize = 1024;
 
@@ -30,12 +30,7 @@ fn read_name(bytes: &[u8], at: usize) -> Result<Span, Refusal>
     let len = value as usize;
     check((1 <= len) & (len <= MAX_FUNCTION_NAME_BYTES), 64, start)?;
     match utf8::read_utf8(bytes, start, len) {
-        Ok(text) => Ok(Span {
-            start,
-            len,
-            chars: text.chars,
-            next: text.next,
-        }),
+        Ok(text) => Ok(spanned(start, len, text)),
         Err(_) => Err(refuse(64, start)),
     }
 }

@@ -40,7 +40,8 @@ fn not_there(strings: &mut [u64], paths: &mut [u64], families: &mut [u8]) -> Ref
     refuse(62, 0)
 }
 
-// Kept (2d): the four share two calls; each has a count, a place and a reader of its own, which one function would take as three closures.
+// Kept (2d): over a trait, as `Numbered` of evr0_read, there would be three structs of a number, each with an impl of a count, a place and a reader:
+// more than three bodies of one call and one `if`; `component_number` goes by `path_number`.
 // Kept (7d): `number_in(.., |p| p.string_count, |p| .., |at| string_at(code, at))` states more at each call than this `if`.
 pub fn string_number(
     base_offset: usize,
@@ -130,7 +131,7 @@ pub fn path_number(
 
 // The component after so many others.
 // Kept (1a): the byte of the path's event, as `read_component` takes it.
-// Kept (5a): the readers of components are public, and take bytes, place, revision and kind apart as the functions of C hand them on.
+// Kept (5a): `read_component` takes the four as C hands them on, and the others are its steps; a struct would be taken apart there.
 fn component_after(
     bytes: &[u8],
     at: usize,

@@ -4,3 +4,4 @@ pub mod Component
 pub mod Sizes
 pub mod Path
 pub mod Maps
+pub mod Numbers

@@ -5,6 +5,7 @@ ghost use Rattle.semcode_records.specs.Maps.{taken_out, component_is};
 ghost use Rattle.semcode_records.specs.Records.{records, ends};
 ghost use Rattle.semcode_records.specs.Component.{tuple_index_at, field_symbol_at, variant_at, sequence_index_at, component_of, component_at};
 ghost use Rattle.semcode_records.specs.Sizes.{sizes, size_in};
+ghost use Rattle.semcode_records.specs.Numbers.{parts};
 
 use local_format::field::{Field, field_at};
 use local_format::refusal::{Refusal, check, refuse};
@@ -31,6 +32,22 @@ pub enum DecodedAccessPathComponent {
     FieldSymbol(u32),
     AdtPayload { variant: u32, index: u16 },
     SequenceIndexStatic(u32),
+}
+
+impl DecodedAccessPathComponent {
+    // Its kind's byte, and its one or two numbers.
+    pub fn parts(self) -> (u8, u32, u16)
+        ensures kind { result.0 ≡ (parts (component_is self)).kind }
+        ensures first { result.1 ≡ (parts (component_is self)).first }
+        ensures second { result.2 ≡ (parts (component_is self)).second }
+    {
+        match self {
+            DecodedAccessPathComponent::TupleIndex(index) => (0, index as u32, 0),
+            DecodedAccessPathComponent::FieldSymbol(symbol) => (1, symbol, 0),
+            DecodedAccessPathComponent::AdtPayload { variant, index } => (2, variant, index),
+            DecodedAccessPathComponent::SequenceIndexStatic(index) => (3, index, 0),
+        }
+    }
 }
 
 // Kept (2d): each has a width, a refusal and a variant of its own: `index_at::<u16>(bytes, at, 51, TupleIndex)` hands on all of its body but one `let`.

@@ -5,6 +5,7 @@ ghost use Rattle.local_format.specs.Maps.{answer_out};
 ghost use Rattle.semcode_records.specs.Maps.{taken_out, activation_is, execution_is, event_is, kinded_is, front_is, head_is};
 ghost use Rattle.semcode_records.specs.Records.{next_of};
 ghost use Rattle.semcode_records.specs.Sizes.{site_size};
+ghost use Rattle.semcode_records.specs.Numbers.{numbered};
 ghost use Rattle.semcode_records.specs.Path.{kind_of_event, activation_at, execution_at, event_of, front_at, path_at, head_at};
 
 use crate::component::{
@@ -41,6 +42,23 @@ pub enum DecodedWriteExecution {
 pub enum DecodedEvent {
     Borrow(DecodedBorrowActivation),
     Write(DecodedWriteExecution),
+}
+
+impl DecodedEvent {
+    // Its number, as C and its tables of words have it, and its site: 0 where there is none.
+    pub fn numbered(self) -> (u8, u32)
+        ensures event { result.0 ≡ (numbered (event_is self)).event }
+        ensures site { result.1 ≡ (numbered (event_is self)).site }
+    {
+        match self {
+            DecodedEvent::Borrow(DecodedBorrowActivation::None) => (0, 0),
+            DecodedEvent::Borrow(DecodedBorrowActivation::FrameEntry) => (1, 0),
+            DecodedEvent::Borrow(DecodedBorrowActivation::StoreVarSite(site)) => (2, site),
+            DecodedEvent::Write(DecodedWriteExecution::None) => (3, 0),
+            DecodedEvent::Write(DecodedWriteExecution::StoreVarSite(site)) => (4, site),
+            DecodedEvent::Write(DecodedWriteExecution::MakeRecordSite(site)) => (5, site),
+        }
+    }
 }
 
 #[derive(Clone, Copy, Debug, PartialEq, Eq)]
@@ -278,7 +296,7 @@ pub fn site_size(kind: u8, mode: u8) -> usize
 
 // The place after a path, or none where it is not seen so: where modes stand, and each part of any length would be there whole. No branch is for the
 // event or for a component's kind.
-// Kept (2d): `path_words::read_opening` asks the same of the first two bytes, and then reads five fields where this passes components.
+// Kept (2d): `path_words::read_opening` asks the same of the first two bytes; one function for these five tests would promise both six facts of them.
 fn seen_end(bytes: &[u8], at: usize, header_rev: u16) -> Option<usize>
     ensures { (end : ℕ) → result ≡ Some end → next_of (path_at header_rev bytes.now at) ≡ ok end }
 {

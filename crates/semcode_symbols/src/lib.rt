@@ -94,7 +94,7 @@ fn symbol_at(code: &[u8], at: usize, count: usize, i: usize) -> DecodedDebugSymb
 // ---- The list
 
 // So many symbols from a place on, then zeros.
-// Kept (4d, 6a): C lends the list; `symbols.iter_mut().zip(code[at..].chunks_exact(10))` would be cut to the count, and zeros past it be a loop more.
+// Kept (4d, 6a): C lends the list; `symbols.iter_mut().zip(code[at..].chunks_exact(10))` must be cut to the count, and zeros past it be a loop more.
 fn fill_symbols(symbols: &mut [DecodedDebugSymbol], code: &[u8], at: usize, count: usize)
     requires { (10 * count ≤ length code.now - at) × (count ≤ length symbols.old) }
     ensures { map symbol_is symbols.new ≡

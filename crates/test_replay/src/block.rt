@@ -98,7 +98,7 @@ fn symbols<'a>(list: &'a [u8], code: &[u8], start: usize, count: usize) -> Optio
 }
 
 // An entry that asks for longer tables than there are is not the same.
-// Kept (2d): three decoders with other tables, of which each is lent cut to an asked length.
+// Kept (2d): the three lend tables of their own and take other answers apart; one for all would make every table and choose twice by the decoder.
 pub fn block(asked: Asked) -> Option<&[u8]> {
     let [a, b, c, d] = asked.lengths;
     if STRINGS < a || PATHS < c || FAMILIES < d {

@@ -2,11 +2,10 @@
 use crate::asked::Asked;
 use crate::block::{FAMILIES, OLD, OLD_BYTE, PATHS, STRINGS, Tables};
 use crate::held::{numbers, refusal, table};
+use semcode_decode::decode::ANY_SYMBOLS;
 use semcode_functions::functions::{FunctionBlock, read_functions};
 
 const FUNCTIONS: usize = 1100;
-
-const SYMBOLS: usize = 8192;
 
 // The last block: its place, its layout, its tables and its symbols.
 fn last<'a>(
@@ -36,7 +35,7 @@ pub fn functions(asked: Asked) -> Option<&[u8]> {
         asked.input,
         asked.origin,
         asked.revision,
-        SYMBOLS,
+        ANY_SYMBOLS,
         &mut starts[..a],
         &mut strings[..b],
         &mut paths[..c],

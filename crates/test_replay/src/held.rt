@@ -15,7 +15,8 @@ fn number(list: &[u8], value: usize) -> Option<&[u8]> {
     }
 }
 
-// Kept (2d, 6d): the list is read from the front and answered as what is left of it: `?` after each field is the cursor.
+// Kept (2d): this takes fields as `usize`, `table` entries of a lent table as `u64`: one function for both would take either by a cast.
+// Kept (6d): the list is read from the front and answered as what is left of it: `?` after each field is the cursor.
 pub fn numbers<'a>(list: &'a [u8], values: &[usize]) -> Option<&'a [u8]> {
     let mut rest = list;
     for value in values {
@@ -30,7 +31,8 @@ pub fn bytes<'a>(list: &'a [u8], value: &[u8]) -> Option<&'a [u8]> {
 }
 
 // A lent table, whole: numbers of the list below the count, 0 from there on.
-// Kept (2d, 6d): a lent table has zeros past its count, which are compared too: a slice of the counted part would drop them.
+// Kept (2d): as numbers, which takes no lent table.
+// Kept (6d): a lent table has zeros past its count, which are compared too: a slice of the counted part would drop them.
 pub fn table<'a>(list: &'a [u8], table: &[u64], count: usize) -> Option<&'a [u8]> {
     let (front, past) = table.split_at(count.min(table.len()));
     let mut rest = list;

@@ -5,7 +5,7 @@ use crate::asked::read_asked;
 const END: u8 = 255;
 
 // What is left of the list after its first entry; none where the answer is not the same.
-// Kept (7d): a match over three decoders by the byte of the list.
+// Kept (7d): a `match` from the byte to its decoder is today's form; a table of functions would have none for bytes above 2, which the last arm takes.
 fn entry(list: &[u8]) -> Option<&[u8]> {
     let asked = read_asked(list)?;
     match asked.decoder {

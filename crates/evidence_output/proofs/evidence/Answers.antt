@@ -9,5 +9,5 @@ pub returns : goal.returns
 unfolding held
 returns c =
     let left : c.output-1.given.0 ≡ c.put_evidence.new.out.bytes.now = search rules in
-    let w = c.put_evidence.ensures.written (omega arith) in
+    let w = c.put_evidence.ensures.written in
     record { holds = left ∙ w.holds; place = c.min.ensures ∙ omega (arith, w.place, w.fits) }

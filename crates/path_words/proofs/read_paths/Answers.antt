@@ -1,6 +1,10 @@
 -- The words of i paths are written, and the rest follows.
-use Rattle.std.proofs.Common.{◌≡◌, length, arith, refl}
-use Rattle.path_words.proofs.Laws.{one_some, fill_first, fill_stop, fill_on, fill_end}
+use Rattle.std.proofs.Common.{◌≡◌, length, arith, refl, ap, ◌∙◌, ℕ}
+use mathlib.Core.List.{List, ◌++◌}
+use lib.ListN.{get_or, take}
+use Rattle.record_words.proofs.Laws.{last_size}
+use Rattle.path_words.specs.Words.{path_words}
+use Rattle.path_words.proofs.Laws.{one_some, put_front, put_kept, fill_first, fill_stop, fill_on, fill_end}
 use Rattle.path_words.proofs.read_paths.Goals as goal
 
 pub loop-i-init : goal.loop-i-init
@@ -9,17 +13,24 @@ loop-i-init c =
 
 pub returns-in_default : goal.returns-in_default
 returns-in_default c =
-    fill_stop _ _ c.loop-i.i c.loop-i.to _ c.loop-i.words c.loop-i.invariant _ (omega arith) _
-    c.in_default.ensures.puts c.clear_from.ensures
+    let inv = c.loop-i.invariant in
+    let p = rw (last_size c.loop-i.words c.loop-i.to) at c.in_default.ensures.many in
+    fill_stop _ _ c.loop-i.i c.loop-i.to _ c.loop-i.words inv _ (omega arith) _ p (put_kept c.loop-i.to _ c.loop-i.words _ inv.within)
+    (omega (arith, c.put_path.auto.words)) c.clear_from.ensures
 
 pub overflow_add-to : goal.overflow_add-to
 overflow_add-to c =
-    let some = c.in-Some.ensures.some _ refl in
-    omega (arith, (one_some _ c.loop-i.to c.loop-i.words _ _ c.in-Some.ensures.puts some).within, c.loop-i.invariant.within)
+    let p = one_some (path_words c.args.header_rev c.args.code.now (get_or c.args.starts.now c.loop-i.i 0)) _ _ c.in-Some.ensures.many in
+    omega (arith, p.within, c.loop-i.invariant.within)
 
 pub loop-i-preserved : goal.loop-i-preserved
 loop-i-preserved c =
-    fill_on _ _ c.loop-i.i c.loop-i.to _ c.loop-i.words c.loop-i.invariant _ (omega arith) _ c.in-Some.ensures.puts (c.in-Some.ensures.some _ refl)
+    let inv = c.loop-i.invariant in
+    let p = rw (last_size c.loop-i.words c.loop-i.to) at c.in-Some.ensures.many in
+    let one = one_some (path_words c.args.header_rev c.args.code.now (get_or c.args.starts.now c.loop-i.i 0)) _ _ p in
+    fill_on _ _ c.loop-i.i c.loop-i.to _ c.loop-i.words inv _ (omega arith) c.in-Some.size p (omega (arith, c.put_path.auto.words))
+    (put_front c.loop-i.to _ c.loop-i.words _ inv.within c.in-Some.size (omega (arith, one.within, c.put_path.auto.words))
+    ∙ ap (λ (ws : List ℕ). take c.loop-i.to c.loop-i.words ++ ws) (c.in-Some.ensures.puts c.in-Some.size refl))
 
 pub returns : goal.returns
 returns c =

@@ -1,33 +1,23 @@
--- All at once where they fit; else one by one, with the invariant that those before are written.
-use mathlib.Core.Path.{refl}
+-- Those that fit are copied; the others are counted.
+use Prim.Native.Nat.{ℕ}
+use mathlib.Core.Path.{◌≡◌, refl, ◌∙◌}
+use mathlib.Core.List.{List}
 use native.Mathlib.Omega.{arith}
-use native.Mathlib.Numerals.{add-one}
-use lib.Seq.{take-suc, take_all}
-use Rattle.local_format.specs.Out.{held}
-use Rattle.byte_output.proofs.WrittenLaws.{sets_mid, writes_now, writes_none, writes_append}
+use lib.ListN.{length, take}
+use lib.Seq.{length-take-le}
+use Rattle.byte_output.proofs.WrittenLaws.{sets_mid, sets_fit, writes_now}
 use Rattle.byte_output.proofs.Output.put_bytes.Goals as goal
-
-pub returns-then-bytes-self : goal.returns-then-bytes-self
-unfolding held
-returns-then-bytes-self c =
-    let o = c.args.self.now in
-    writes_now refl
-    (record {
-      holds = sets_mid o.bytes.now o.next _ c.args.bytes.now (omega arith) (omega arith) c.copy_from_slice.ensures.after;
-      place = omega arith;
-      fits = omega arith;
-    })
-
-pub loop-byte-init : goal.loop-byte-init
-loop-byte-init c =
-    writes_none _ (omega arith)
-
-pub loop-byte-preserved : goal.loop-byte-preserved
-loop-byte-preserved c =
-    let bytes = c.args.bytes.now in
-    let i = c.loop-byte.byte-index in
-    rw (add-one i, take-suc bytes i 0 (omega arith)) (writes_append c.loop-byte.invariant c.put.ensures)
 
 pub returns : goal.returns
 returns c =
-    rw (take_all c.loop-byte.byte-index c.args.bytes.now (omega arith)) at c.loop-byte.invariant
+    let held : List ℕ = c.args.self.now.bytes.now in
+    let bytes : List ℕ = c.args.bytes.now in
+    let fit : ℕ = c.min-fit.result in
+    let long : length (take fit bytes) ≡ fit = length-take-le fit bytes (omega arith) in
+    writes_now refl
+    (record {
+      holds = sets_mid held c.min-start.result _ (take fit bytes) (omega (arith, long)) (omega (arith, long)) c.copy_from_slice.ensures.after
+          ∙ sets_fit held c.args.self.now.next c.min-start.result fit bytes (omega arith) (omega arith);
+      place = c.diag_offset-self.ensures;
+      fits = omega arith;
+    })

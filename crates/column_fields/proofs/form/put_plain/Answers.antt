@@ -5,7 +5,7 @@ use Rattle.column_fields.proofs.form.put_plain.Goals as goal
 
 pub loop-place-init : goal.loop-place-init
 loop-place-init c =
-    plainly_first _ _ _ (omega arith)
+    plainly_first _ _ _ (omega arith) (omega arith)
 
 pub loop-place-preserved : goal.loop-place-preserved
 loop-place-preserved c =

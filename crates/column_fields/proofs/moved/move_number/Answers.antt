@@ -8,7 +8,8 @@ use Rattle.column_fields.proofs.moved.move_number.Goals as goal
 
 pub returns-in_default : goal.returns-in_default
 returns-in_default g c =
-    rw (whole_got g.A.NumberForm.numbers c.args.bytes.now c.args.at _ c.in_default.ensures) (record { puts = writes_none _ (omega arith); left = refl })
+    rw (whole_got g.A.NumberForm.numbers c.args.bytes.now c.args.at _ c.in_default.ensures)
+    (record { puts = writes_none _ (omega arith) (omega arith); left = refl })
 
 pub returns : goal.returns
 unfolding field

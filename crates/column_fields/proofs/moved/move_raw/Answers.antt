@@ -11,7 +11,7 @@ pub returns-then-rest-size : goal.returns-then-rest-size
 returns-then-rest-size g c =
     let a = c.args in
     rw (raw_short g.A.NumberForm.numbers a.bytes.now a.at a.size (omega (arith, c.if-rest-size.true, ap length c.tail-rest.ensures)))
-    (record { puts = writes_none _ (omega arith); left = refl })
+    (record { puts = writes_none _ (omega arith) (omega arith); left = refl })
 
 pub returns : goal.returns
 unfolding field copied

@@ -11,13 +11,15 @@ use Rattle.column_fields.proofs.moved.move_text.Goals as goal
 
 pub returns-in_default : goal.returns-in_default
 returns-in_default g c =
-    rw (text_none g.A.NumberForm.numbers c.args.bytes.now c.args.at c.in_default.ensures) (record { puts = writes_none _ (omega arith); left = refl })
+    rw (text_none g.A.NumberForm.numbers c.args.bytes.now c.args.at c.in_default.ensures)
+    (record { puts = writes_none _ (omega arith) (omega arith); left = refl })
 
 pub returns-then-rest-len : goal.returns-then-rest-len
 returns-then-rest-len g c =
     let a = c.args in
     let few : length (drop c.in-Ok.size.next a.bytes.now) < c.in-Ok.size.value = omega (arith, c.if-rest-len.true, ap length c.tail-rest.ensures) in
-    rw (text_short g.A.NumberForm.numbers a.bytes.now a.at _ c.in-Ok.size.next c.in-Ok.ensures few) (record { puts = writes_none _ (omega arith); left = refl })
+    rw (text_short g.A.NumberForm.numbers a.bytes.now a.at _ c.in-Ok.size.next c.in-Ok.ensures few)
+    (record { puts = writes_none _ (omega arith) (omega arith); left = refl })
 
 pub returns : goal.returns
 unfolding field copied

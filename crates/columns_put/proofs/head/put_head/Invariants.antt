@@ -1,4 +1,4 @@
--- The invariant: the fields before this one are written, and it stands at `at`.
+-- The invariant: the fields before this one are written, and what is left stands at `at`.
 use Rattle.evr0_columns.specs.Columns.{head_items}
 use Rattle.columns_put.proofs.HeadLaws.{Heading}
 use Rattle.columns_put.proofs.head.put_head.Given as goal

@@ -14,7 +14,7 @@ use Rattle.columns_put.proofs.table.put_column.Goals as goal
 
 pub loop-i-init : goal.loop-i-init
 loop-i-init c =
-    rw each_none (writes_none _ (omega arith))
+    rw each_none (writes_none _ (omega arith) (omega arith))
 
 pub loop-i-preserved : goal.loop-i-preserved
 loop-i-preserved c =

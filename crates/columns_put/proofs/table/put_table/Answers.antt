@@ -8,7 +8,7 @@ use Rattle.columns_put.proofs.table.put_table.Goals as goal
 
 pub loop-column-init : goal.loop-column-init
 loop-column-init c =
-    putting_first _ _ _ _ (omega arith)
+    putting_first _ _ _ _ (omega arith) (omega arith)
 
 pub put_column-requires : goal.put_column-requires
 put_column-requires c =

@@ -1,30 +1,30 @@
 -- The invariant: the columns before this one are passed, and their starts are noted.
 use Prim.Native.Nat.{◌≤◌, ◌<◌}
-use mathlib.Core.Path.{refl, sym, ap, subst, ◌∙◌}
+use mathlib.Core.Path.{◌∙◌}
 use native.Mathlib.Omega.{arith}
 use lib.ListN.{length, length-set}
 use Rattle.std.proofs.Common.{rules}
 use Rattle.column_fields.specs.Maps.{items_of}
-use Rattle.columns_rebuild.specs.Noted.{Starts}
 use Rattle.columns_rebuild.proofs.FirstLaws.{walked_first, walked_all, walked_more, walked_refused, starts_none, starts_more, starts_all}
+use Rattle.columns_rebuild.proofs.TookLaws.{items_most}
 use Rattle.columns_rebuild.proofs.first.table_at.Goals as goal
 
 pub loop-column-init : goal.loop-column-init
 loop-column-init c =
-    (refl, walked_first _ _ _ _, starts_none _ _ _ _ _)
+    (c.told-starts, walked_first _ _ _ _, starts_none _ _ _ _ _)
+
+pub bounds-starts-column : goal.bounds-starts-column
+bounds-starts-column c =
+    omega (arith, c.loop-column-test.true, c.columns-column-end.ensures, items_most c.args.table)
 
 pub loop-column-preserved : goal.loop-column-preserved
 loop-column-preserved c =
     let here : c.loop-column.column < length (items_of c.args.table) = omega (arith, c.loop-column-test.true, c.columns-column-end.ensures) in
     let w = c.loop-column.invariant.1 in (
-      ap length c.note.ensures ∙ length-set c.loop-column.starts c.loop-column.column c.loop-column.next ∙ c.loop-column.invariant.0,
+      length-set c.loop-column.starts c.loop-column.column c.loop-column.next ∙ c.loop-column.invariant.0,
       walked_more w here c.item.ensures c.in_ok-next.ensures,
-      subst (Starts _ _ _ _ _) (sym c.note.ensures) (starts_more w c.loop-column.invariant.2),
+      starts_more w c.loop-column.invariant.2,
     )
-
-pub shape_of-starts : goal.shape_of-starts
-shape_of-starts c =
-    c.loop-column.invariant.0
 
 pub returns-in_err-next-clause-result_value : goal.returns-in_err-next-clause-result_value
 returns-in_err-next-clause-result_value c =
@@ -34,4 +34,8 @@ returns-in_err-next-clause-result_value c =
 pub returns : goal.returns
 returns c =
     let passed : length (items_of c.args.table) ≤ c.loop-column.column = omega (arith, c.loop-column-test.false, c.columns-column-end.ensures) in
-    record { result_value = walked_all c.loop-column.invariant.1 passed; noted = starts_all _ passed c.loop-column.invariant.2 }
+    record {
+      long = c.loop-column.invariant.0;
+      result_value = walked_all c.loop-column.invariant.1 passed;
+      noted = starts_all _ passed c.loop-column.invariant.2;
+    }

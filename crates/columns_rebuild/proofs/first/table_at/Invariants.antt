@@ -7,6 +7,6 @@ use Rattle.columns_rebuild.proofs.FirstLaws.{Walked}
 use Rattle.columns_rebuild.proofs.first.table_at.Given as goal
 
 abbrev pub invariant-loop-column : goal.invariant-loop-column
-invariant-loop-column l = (length l.starts ≡ length l.initial.starts)
+invariant-loop-column l = (length l.starts ≡ 13)
     × Walked (items_of l.table) l.count l.bytes l.at l.column l.next
     × Starts (items_of l.table) l.count l.bytes l.at l.column l.starts

@@ -8,9 +8,9 @@ pub returns : goal.returns
 returns c h s =
     record {
       counts =
-          four_same (head_count s 9 (omega arith) refl c.cursor_of.ensures c.count_at.ensures)
-          (head_count s 10 (omega arith) refl c.cursor_of-2.ensures c.count_at-2.ensures)
-          (head_count s 11 (omega arith) refl c.cursor_of-3.ensures c.count_at-3.ensures)
-          (head_count s 12 (omega arith) refl c.cursor_of-4.ensures c.count_at-4.ensures);
-      span = head_span s c.cursor_of-5.ensures c.span_at.ensures;
+          four_same (head_count s 9 (omega arith) refl c.count_at.ensures)
+          (head_count s 10 (omega arith) refl c.count_at-2.ensures)
+          (head_count s 11 (omega arith) refl c.count_at-3.ensures)
+          (head_count s 12 (omega arith) refl c.count_at-4.ensures);
+      span = head_span s c.span_at.ensures;
     }

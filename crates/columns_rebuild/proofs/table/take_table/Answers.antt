@@ -9,4 +9,4 @@ pub returns-clause-takes : goal.returns-clause-takes
 returns-clause-takes c =
     let a = c.args in
     table_took a.bytes.now (items_of a.table) a.count a.at (sym c.in_ok-next.ensures.result_value) c.in_ok-next.ensures.noted
-    (omega (arith, items_most a.table, c.table_at.auto.starts)) c.take_rows.ensures.took
+    (omega (arith, items_most a.table, c.in_ok-next.ensures.long)) c.take_rows.ensures.took

@@ -51,16 +51,14 @@ returns-clause-answers c =
     let a = c.section-one.ensures in
     let b = c.section-two.ensures in
     let holds = rw (
-      a.bytes,
-      a.numbers.0,
-      a.numbers.1,
-      a.numbers.2,
+      a.place.0,
+      a.place.1,
+      a.place.2,
       a.tables.0,
       a.tables.1,
-      b.bytes,
-      b.numbers.0,
-      b.numbers.1,
-      b.numbers.2,
+      b.place.0,
+      b.place.1,
+      b.place.2,
       b.tables.0,
       b.tables.1,
     ) at c.hold.ensures in

@@ -9,7 +9,7 @@ use Rattle.evidence_output.proofs.line.end_line.Goals as goal
 
 pub loop-number-init : goal.loop-number-init
 unfolding spaced
-loop-number-init c = writes_none _ (omega arith)
+loop-number-init c = writes_none _ (omega arith) (omega arith)
 
 pub loop-number-preserved : goal.loop-number-preserved
 loop-number-preserved c =

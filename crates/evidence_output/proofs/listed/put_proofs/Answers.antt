@@ -12,7 +12,7 @@ use Rattle.evidence_output.proofs.listed.put_proofs.Goals as goal
 
 pub loop-start-init : goal.loop-start-init
 unfolding lines_at
-loop-start-init c = writes_none _ (omega arith)
+loop-start-init c = writes_none _ (omega arith) (omega arith)
 
 pub loop-start-preserved : goal.loop-start-preserved
 loop-start-preserved c =

@@ -5,7 +5,7 @@ use Rattle.evidence_output.specs.Output.{proof_line}
 use Rattle.evidence_output.proofs.listed.put_record.Goals as goal
 
 pub returns-in_default : goal.returns-in_default
-returns-in_default c = rw (← c.tail.ensures, ← c.in_default.ensures) (writes_none _ (omega arith))
+returns-in_default c = rw (← c.tail.ensures, ← c.in_default.ensures) (writes_none _ (omega arith) (omega arith))
 
 pub returns : goal.returns
 unfolding proof_line

@@ -1,6 +1,6 @@
 -- Meets its contract: what is left of the payload is told by its place in the bytes, by `DecodeLaws`.
 use native.Mathlib.Omega.{arith}
-use mathlib.Core.Path.{◌≡◌, ap, ◌∙◌}
+use mathlib.Core.Path.{ap, ◌∙◌}
 use Rattle.local_format.specs.Out.{refused}
 use Rattle.evr0_section.proofs.SectionSteps.{frame_place}
 use Rattle.evr0.specs.Answer.{answer_of}

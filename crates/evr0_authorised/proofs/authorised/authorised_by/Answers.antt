@@ -15,8 +15,8 @@ pub loop-start-init : goal.loop-start-init
 loop-start-init c rules =
     refl
 
-pub operates-requires : goal.operates-requires
-operates-requires c =
+pub authorises-requires : goal.authorises-requires
+authorises-requires c =
     let a = c.args in
     let xs = c.loop-start.yielded in
     let first : c.into_iter-start-iterator.result.a.rest.now ≡ a.tables.starts.now = search rules in
@@ -26,8 +26,8 @@ operates-requires c =
     in
     rw (turn.2 0) (a.tables.there.proofs (length xs) turn.0).inside
 
-pub returns-then-operates : goal.returns-then-operates
-returns-then-operates c more =
+pub returns-then-authorises : goal.returns-then-authorises
+returns-then-authorises c more =
     let a = c.args in
     let xs = c.loop-start.yielded in
     let first : c.into_iter-start-iterator.result.a.rest.now ≡ a.tables.starts.now = search rules in
@@ -37,7 +37,7 @@ returns-then-operates c more =
     in
     let view = proof_view more a.tables.payload.now in
     let is : own (view (get_or a.tables.starts.now (length xs) 0)) (get_or a.marks.now (length xs) 0) a.proposition ≡ true =
-    rw (← turn.2 0, ← turn.3 0) (sym (c.operates.ensures more) ∙ c.if-operates.true) in
+    rw (← turn.2 0, ← turn.3 0) (sym (c.authorises.ensures more) ∙ c.if-authorises.true) in
     found_here view a.tables.starts.now a.marks.now a.proposition (length xs) (c.loop-start.invariant more) turn.0 c.requires is
 
 pub loop-start-preserved : goal.loop-start-preserved
@@ -51,7 +51,7 @@ loop-start-preserved c more =
     in
     let view = proof_view more a.tables.payload.now in
     let is : own (view (get_or a.tables.starts.now (length xs) 0)) (get_or a.marks.now (length xs) 0) a.proposition ≡ false =
-    rw (← turn.2 0, ← turn.3 0) (sym (c.operates.ensures more) ∙ c.if-operates.false) in
+    rw (← turn.2 0, ← turn.3 0) (sym (c.authorises.ensures more) ∙ c.if-authorises.false) in
     rw (length-append xs ((c.in-Some.start, c.in-Some.mark) ∷ []))
     (goes_on view a.tables.starts.now a.marks.now a.proposition (length xs) (c.loop-start.invariant more) turn.0 c.requires is)
 

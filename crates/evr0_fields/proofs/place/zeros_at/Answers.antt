@@ -9,8 +9,8 @@ returns-in_default c =
 
 pub returns-in_err-check : goal.returns-in_err-check
 returns-in_err-check c =
-    rw (← zeros_there _ _ c.tail.ensures c.in-Some.ensures.cases, ← c.in_err-check.ensures) (search rules)
+    rw (← zeros_there _ _ c.tail.ensures c.in-Some.ensures.cases, ← c.eq.ensures, ← c.in_err-check.ensures) (search rules)
 
 pub returns : goal.returns
 returns c =
-    rw (← zeros_there _ _ c.tail.ensures c.in-Some.ensures.cases, ← c.in_ok-check.ensures)
+    rw (← zeros_there _ _ c.tail.ensures c.in-Some.ensures.cases, ← c.eq.ensures, ← c.in_ok-check.ensures)

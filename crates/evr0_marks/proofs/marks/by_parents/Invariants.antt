@@ -8,5 +8,5 @@ use Rattle.evr0_marks.proofs.marks.by_parents.Given as goal
 
 abbrev pub invariant-loop-cell : goal.invariant-loop-cell
 invariant-loop-cell l = (rules : List Rule)
-    → gathered joined (tables_by rules l.tables) l.known (l.cell-end - l.cell) l.cell l.mark
-    ≡ gathered joined (tables_by rules l.tables) l.known l.count l.first 0
+    → gathered joined (tables_by rules l.tables) l.known (l.end - l.cell) l.cell l.mark
+    ≡ gathered joined (tables_by rules l.tables) l.known (l.end - l.first) l.first 0

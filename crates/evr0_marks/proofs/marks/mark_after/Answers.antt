@@ -1,16 +1,22 @@
 -- The numbers of the record are read at their places, and the mark is the witness's or the parents', by `MarkLaws`.
+use mathlib.Core.List.{[]}
+use native.Mathlib.Omega.{arith}
 use Rattle.evr0_pass.specs.Maps.{layout_out}
 use Rattle.evr0_marks.proofs.MarkLaws.{marked_end, marked_inner}
 use Rattle.evr0_marks.proofs.marks.mark_after.Goals as goal
 
-pub returns-then-parents-eq0 : goal.returns-then-parents-eq0
-returns-then-parents-eq0 c rules =
+pub returns-then-first-end : goal.returns-then-first-end
+returns-then-first-end c rs =
     let t = c.args.tables in
-    marked_end rules t.payload.now t.starts.now (layout_out t.layout) c.args.known.now c.requires c.after_name-rest.ensures
-    c.le_at-parents.ensures c.if-parents-eq0.true c.le_at-witness.ensures (c.polarity.ensures rules) c.end_mark.ensures
+    marked_end rs t.payload.now t.starts.now (layout_out t.layout) c.args.known.now c.requires (c.cells-first.ensures.numbers rs) c.if-first-end.true
+    c.after_name-rest.ensures c.le_at-witness.ensures (c.polarity.ensures rs) c.end_mark.ensures
+
+pub by_parents-requires : goal.by_parents-requires
+by_parents-requires c =
+    (omega (arith, (c.cells-first.ensures.numbers []).1), c.cells-first.ensures.there)
 
 pub returns : goal.returns
-returns c rules =
+returns c rs =
     let t = c.args.tables in
-    marked_inner rules t.payload.now t.starts.now (layout_out t.layout) c.args.known.now c.requires c.after_name-rest.ensures
-    c.le_at-parents.ensures c.if-parents-eq0.false c.le_at-first.ensures (c.by_parents.ensures rules)
+    marked_inner rs t.payload.now t.starts.now (layout_out t.layout) c.args.known.now c.requires (c.cells-first.ensures.numbers rs) c.if-first-end.false
+    (c.by_parents.ensures rs)

@@ -1,22 +1,12 @@
--- The library's order of the four fields is the definition's (`keys_order`).
-use Rattle.evr0_section.specs.Proposition.{key_of}
-use Rattle.evr0_records.specs.Maps.{proposition_record}
-use Rattle.evr0_records.proofs.OrderLaws.{keys_order}
+-- The library's order of two keys is the definition's (`keys_order`).
+use mathlib.Core.Path.{ap, ap₂, ◌∙◌}
+use Rattle.std.specs.Ordering.{is_lt}
+use Rattle.evr0_section.specs.Proposition.{is_less, compare_keys}
+use Rattle.evr0_records.specs.Maps.{key_out}
+use Rattle.evr0_records.proofs.OrderLaws.{less_order, keys_order}
 use Rattle.evr0_records.proofs.proposition.precedes.Goals as goal
 
 pub returns : goal.returns
 returns c =
-    let a = c.args in
-    rw (
-      c.is_lt.ensures,
-      c.then-3.ensures,
-      c.then-2.ensures,
-      c.then.ensures,
-      c.cmp.ensures,
-      c.cmp-2.ensures,
-      c.cmp-3.ensures,
-      c.cmp-4.ensures,
-      c.bytes_of.ensures,
-      c.bytes_of-2.ensures,
-    )
-    (keys_order (key_of a.part.now (proposition_record a.a)) (key_of a.tail.now (proposition_record a.b)))
+    c.is_lt.ensures ∙ ap is_lt c.cmp.ensures ∙ less_order _
+    ∙ ap is_less (keys_order (key_out c.key.result) (key_out c.key-2.result) ∙ ap₂ compare_keys c.key.ensures c.key-2.ensures)

@@ -1,4 +1,4 @@
--- The table is what is marked after the rounds done, and `first` is its first unmarked proof.
+-- The table is what is marked after the rounds done, and each proof before `first` is marked in it.
 use mathlib.Core.Path.{◌≡◌}
 use mathlib.Core.List.{List}
 use lib.ListN.{length}

@@ -17,22 +17,23 @@ use Rattle.evr0.proofs.CheckLaws.{fits, may_derive}
 use Rattle.evr0_rounds.proofs.PayloadLaws.{not_read, not_made, rounds_made}
 use Rattle.evr0_rounds.proofs.section.mark_payload.Goals as goal
 
-pub returns-in_err-head-clause-passes : goal.returns-in_err-head-clause-passes
-returns-in_err-head-clause-passes c =
-    let g : answer_out (λ n. n) c.from_residual.result ≡ refused (refusal_out c.in_err-head.field-0.0) = search rules in
-    λ end. rw g (not_read _ _ _ c.in_err-head.ensures.reads end)
+pub returns-in_err-read-clause-passes : goal.returns-in_err-read-clause-passes
+returns-in_err-read-clause-passes c =
+    let g : answer_out (λ n. n) c.from_residual.result ≡ refused (refusal_out c.in_err-read.field-0.0) = search rules in
+    λ end. rw g (not_read _ _ _ c.in_err-read.ensures.reads end)
 
 pub fill_front-filled-requires : goal.fill_front-filled-requires
 fill_front-filled-requires c =
     let among : List Rule = book_rules c.args.rules.now in
     let before : Lent = tables_out c.args.tables.now in
     let p : List ℕ = c.args.payload.now in
-    let r = c.in_ok-head.ensures.reads in
-    let l = c.in_ok-head.ensures.same.room in
+    let r = c.in_ok-read.ensures.reads in
+    let l = c.in_ok-read.ensures.same.room in
     let f = fits among before p r in
+    let e = c.layout_of.ensures in
     record {
-      tables_there = may_derive among before p r c.witness_size.ensures.0;
-      room = (omega (arith, f.proofs, ap (λ (k : Room). k.proofs) l), omega (arith, f.depths, ap (λ (k : Room). k.depths) l));
+      tables_there = rw e (may_derive among before p r refl);
+      room = rw e (omega (arith, f.proofs, ap (λ (k : Room). k.proofs) l), omega (arith, f.depths, ap (λ (k : Room). k.depths) l));
     }
 
 pub returns-in-Ok-clause-passes : goal.returns-in-Ok-clause-passes
@@ -40,8 +41,9 @@ returns-in-Ok-clause-passes c =
     let among : List Rule = book_rules c.args.rules.now in
     let before : Lent = tables_out c.args.tables.now in
     let p : List ℕ = c.args.payload.now in
-    let r = c.in_ok-head.ensures.reads in
-    λ end. rounds_made among before p r c.witness_size.ensures.0 c.in_ok-head.ensures.same.room (c.in-Ok.ensures.fills among) refl
+    let r = c.in_ok-read.ensures.reads in
+    let fills = rw c.layout_of.ensures at c.in-Ok.ensures.fills in
+    λ end. rounds_made among before p r refl c.in_ok-read.ensures.same.room (fills among) refl
     c.fill_front-filled.ensures.kept end
 
 pub returns-in-Err-clause-passes : goal.returns-in-Err-clause-passes
@@ -49,10 +51,11 @@ returns-in-Err-clause-passes c =
     let among : List Rule = book_rules c.args.rules.now in
     let before : Lent = tables_out c.args.tables.now in
     let p : List ℕ = c.args.payload.now in
-    let r = c.in_ok-head.ensures.reads in
-    let l = c.in_ok-head.ensures.same.room in
+    let r = c.in_ok-read.ensures.reads in
+    let l = c.in_ok-read.ensures.same.room in
     let k = c.clear.ensures.cleared in
-    λ end. not_made among before p r c.witness_size.ensures.0 (c.in-Err.ensures.fills among)
+    let fills = rw c.layout_of.ensures at c.in-Err.ensures.fills in
+    λ end. not_made among before p r refl (fills among)
     (record {
       propositions = k.propositions ∙ ap (λ (k : Room). lent k.propositions []) l;
       proofs = k.proofs ∙ ap (λ (x : List ℕ). lent (length x) []) c.fill_front-filled.ensures.kept ∙ ap (λ (k : Room). lent k.proofs []) l;

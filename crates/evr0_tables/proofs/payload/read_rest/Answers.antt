@@ -13,7 +13,7 @@ returns-in_err-parents_at c =
 
 pub read_parents-requires : goal.read_parents-requires
 read_parents-requires c =
-    let width = span_width c.args.head.now.schema in (
+    let width = span_width c.args.schema in (
       c.requires.0,
       next_within (witness_row width _) (λ q u. witness_row_in q width _ u) _ _ 0 _ c.requires.1 (sym c.in_ok-parents_at.ensures),
     )

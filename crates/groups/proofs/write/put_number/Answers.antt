@@ -8,7 +8,7 @@ use Rattle.groups.proofs.write.put_number.Goals as goal
 
 pub loop-group-init : goal.loop-group-init
 loop-group-init c =
-    putting_first _ _ c.ranges.n.fits (omega arith)
+    putting_first _ _ c.ranges.n.fits (omega arith) (omega arith)
 
 pub loop-group-preserved : goal.loop-group-preserved
 loop-group-preserved c =

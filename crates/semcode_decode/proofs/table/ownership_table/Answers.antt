@@ -1,5 +1,7 @@
 -- Where the count is read, by the reader's places.
-use Rattle.std.proofs.Common.{◌∙◌}
+use Rattle.std.proofs.Common.{◌≡◌, ◌∙◌, rules, length}
+use lib.ListN.{take}
+use lib.Seq.{length-take-le}
 use Rattle.semcode_records.proofs.RecordsLaws.{places, tells_places}
 use Rattle.semcode_records.specs.Path.{path_at}
 use Rattle.semcode_decode.specs.Block.{path_table}
@@ -12,7 +14,8 @@ returns c =
     let a = c.args in
     let read = path_at a.header_rev a.bytes.now in
     let tells = tells_places read (λ place r fits h. h) in
+    let l : length (take c.in-Some.field-0.value a.paths.now) ≡ c.in-Some.field-0.value = length-take-le _ _ (search rules) in
     rw (← c.in-Some.ensures, ← c.in_ok-check.ensures) (record {
-      result_value = c.fill_starts.ensures.result_value (places read) tells ∙ extent_places read _ _;
-      lies = lies_places read _ _ _ _ (c.fill_starts.ensures.lies (places read) tells);
+      result_value = rw l at (c.fill_starts.ensures.result_value (places read) tells) ∙ extent_places read _ _;
+      lies = lies_places read _ _ _ _ (c.fill_starts.auto.starts ∙ l) (rw l at (c.fill_starts.ensures.filled (places read) tells));
     })

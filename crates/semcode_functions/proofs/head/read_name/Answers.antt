@@ -12,7 +12,7 @@ no_name start len (NotUtf8 next) = refl
 no_name start len Cut = refl
 
 pub returns-in-Ok : goal.returns-in-Ok
-returns-in-Ok c = name_goes_on _ _ _ _ c.in-Some.ensures c.in_ok-check.ensures _ c.in-Ok.ensures
+returns-in-Ok c = rw c.spanned.ensures (name_goes_on _ _ _ _ c.in-Some.ensures c.in_ok-check.ensures _ c.in-Ok.ensures)
 
 pub returns-in-Err : goal.returns-in-Err
 returns-in-Err c =

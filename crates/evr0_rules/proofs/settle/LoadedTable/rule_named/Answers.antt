@@ -1,7 +1,8 @@
 -- The rule at which the tree ends has the name, and no other has it.
 use mathlib.Core.Path.{sym, ◌∙◌}
+use Rattle.std.proofs.Math.Logic.{∥∥₁_elim}
+use Rattle.std.proofs.Props.{props}
 use Rattle.evr0_rules.proofs.NameLaws.{known_at, found_any}
-use Rattle.evr0_rules.proofs.LoadLaws.{rules_there}
 use Rattle.evr0_rules.proofs.settle.LoadedTable.rule_named.Goals as goal
 
 pub returns-then-has_name : goal.returns-then-has_name
@@ -10,6 +11,5 @@ returns-then-has_name c =
     let named = rw (table, at) at c.has_name.ensures in
     let numbers = rw (table, at) at c.numbers.ensures in
     let e = sym named ∙ c.if-has_name.true in
-    let book = c.args.self in
-    known_at _ _ _ _ e numbers
-    ∙ found_any _ _ _ _ (rules_there book.loads book.rules.there).distinct c.if-number-self.true e
+    ∥∥₁_elim c.args.self.told (Prim.hlevel props) (λ there.
+    known_at _ _ _ _ e numbers ∙ found_any _ _ _ _ there.distinct c.if-number-self.true e)

@@ -12,7 +12,8 @@ loop-start-init c =
 
 pub returns-then-hindered : goal.returns-then-hindered
 returns-then-hindered c =
-    met_found _ _ _ _ _ _ c.args.register.now _ c.loop-start-test.true _ c.path_key-key.ensures (sym c.hindered.ensures ∙ c.if-hindered.true)
+    met_found _ _ _ _ _ _ c.args.register.now _ c.loop-start-test.true _ (c.path_key-key.ensures _ c.in-Ok.ensures)
+    (sym c.hindered.ensures ∙ c.if-hindered.true)
 
 pub loop-start-preserved : goal.loop-start-preserved
 loop-start-preserved c =
@@ -21,7 +22,7 @@ loop-start-preserved c =
     let free = c.loop-start.invariant in
     elim c.match-read_front.branch [
       | in-Ok+then-symbol_held+else-hindered w ↦
-          free_more _ _ _ _ _ _ words _ next _ w.path_key-key.ensures (sym w.hindered.ensures ∙ w.if-hindered.false) free
+          free_more _ _ _ _ _ _ words _ next _ (w.path_key-key.ensures _ w.in-Ok.ensures) (sym w.hindered.ensures ∙ w.if-hindered.false) free
       | in-Ok+else-symbol_held w ↦
           free_other _ _ _ _ _ _ words _ next (front_in w.in-Ok.path) (found _ _ _ _ w.in-Ok.ensures)
           (sym w.symbol_held.ensures ∙ w.if-symbol_held.false) free

@@ -2,10 +2,9 @@
 use borrow.Author.Rules.{rules}
 use mathlib.Core.Path.{ap, ap₂, ◌∙◌}
 use Rattle.evr0_section.specs.Proposition.{compare_keys}
-use Rattle.section_pair.specs.Maps.{key_out}
 use Rattle.evr0_compare.proofs.Merge.{second_done, first_next, second_next, both_next}
-use Rattle.evr0_records.specs.Maps.{order_out}
-use Rattle.section_pair.proofs.KeyLaws.{keys_order}
+use Rattle.evr0_records.specs.Maps.{key_out, order_out}
+use Rattle.evr0_records.proofs.OrderLaws.{keys_order}
 use Rattle.section_pair.proofs.side.Side.next_verdict.Goals as goal
 
 pub returns-then-second-j : goal.returns-then-second-j
