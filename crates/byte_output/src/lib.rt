@@ -36,4 +36,17 @@ impl<'a> Output<'a> {
         self.bytes[start..start + fit].copy_from_slice(&bytes[..fit]);
         self.next = local_format::refusal::diag_offset(self.next, bytes.len());
     }
+
+    // So many bytes, at once where they fit.
+    pub fn put_array<const N: usize>(&mut self, bytes: [u8; N])
+        ensures { Writes self.old bytes.entry self.new }
+    {
+        let start = self.next.min(self.bytes.len());
+        if self.bytes.len() - start < N {
+            self.put_bytes(&bytes);
+        } else {
+            self.bytes[start..start + N].copy_from_slice(&bytes);
+            self.next += N;
+        }
+    }
 }

@@ -44,14 +44,13 @@ fn first_number(bytes: &[u8], width: Width) -> u64
 }
 
 // A number as a field of a section: its bytes, the lowest first.
-// Kept (4b): by `out.put_bytes(&n.to_le_bytes()[..width.size()])`, which was proved, rebuilding sections took 1.35 to 1.48 of the time of this loop.
 fn put_plain(out: &mut Output, n: u64, width: Width)
     ensures { Writes out.old (number (width_of width) n) out.new }
 {
-    let mut left = n;
-    for _place in 0..width.size() {
-        out.put((left % 256) as u8);
-        left /= 256;
+    match width {
+        Width::Two => out.put_array(((n % 65536) as u16).to_le_bytes()),
+        Width::Four => out.put_array(((n % 4294967296) as u32).to_le_bytes()),
+        Width::Eight => out.put_array(n.to_le_bytes()),
     }
 }
 

@@ -1,5 +1,4 @@
 // A section, written as its columns.
-ghost use Rattle.std.specs.Prelude.{◌≡◌};
 ghost use Rattle.byte_output.specs.Maps.{Writes};
 ghost use Rattle.groups.specs.Maps.{width_of};
 ghost use Rattle.evr0_columns.specs.Columns.{proposition_items, proof_items};

@@ -1,6 +1,5 @@
 // The section of a column file, in a lent output, with what the decoder leaves in its tables.
-ghost use Rattle.std.specs.Prelude.{◌≡◌, ◌≤◌, length, take};
-ghost use Rattle.local_format.specs.Maps.{answer_out};
+ghost use Rattle.std.specs.Prelude.{◌≤◌, length, take};
 ghost use Rattle.evr0.specs.Answer.{lent_of, room_of};
 ghost use Rattle.evr0_rules.specs.Maps.{given_out};
 ghost use Rattle.columns_answer.specs.Copies.{with_output, Copies, TakesBack};

@@ -1,6 +1,4 @@
 // Two sections, each in its bytes at its cursor: both are decoded, with their authorised propositions, and then held against each other.
-ghost use Rattle.std.specs.Prelude.{◌≡◌};
-ghost use Rattle.local_format.specs.Maps.{answer_out};
 ghost use Rattle.evr0_rules.specs.Maps.{given_out};
 ghost use Rattle.evr0_compare.specs.Compare.{told};
 ghost use Rattle.compare_sections.specs.Answer.{tables_of, lent_to, Compares};

@@ -11,8 +11,7 @@ use borrow.Author.Tests.{le-leb, lt-leb, eq-eqb, ne_eqb}
 use Rattle.local_format.specs.Refusal.{Refusal}
 use Rattle.local_format.specs.Out.{ok, refused, refuse}
 use Rattle.local_format.proofs.OutLaws.{on_ok, on_refused}
-use Rattle.derivation.specs.Rule.{polarity_fits}
-use Rattle.derivation.specs.Section.{Proof, Section, proof_at, witness_at, parent_at}
+use Rattle.derivation.specs.Section.{Proof, Section, proof_at, parent_at}
 use Rattle.derivation.specs.Pass.{agrees, parents_from, witnesses_from, depth_of, depths_from}
 use Rattle.derivation.specs.Down.{witness, spent, down_from}
 use Rattle.derivation.specs.InOrder.{in_order, gathered}
@@ -53,37 +52,11 @@ module _ (cells_at : ℕ) (s : Section) where
     witnesses_none zero w h = refl
     witnesses_none (suc k) w h = absurd (omega arith)
 
-    pub witnesses_28 : (k w : ℕ) → 0 < k → ((witness_at s w).proposition ≡ p.proposition → ⊥) → witnesses_from cells_at s p k w ≡ refuse 28 0
-    unfolding witnesses_from
-    witnesses_28 zero w h e = absurd (omega arith)
-    witnesses_28 (suc k) w h e = simp (ne_eqb _ _ e)
-
-    pub witnesses_29 : (k w : ℕ) → 0 < k → (witness_at s w).proposition ≡ p.proposition → polarity_fits p.rule (witness_at s w).polarity ≡ false
-        → witnesses_from cells_at s p k w ≡ refuse 29 0
-    unfolding witnesses_from
-    witnesses_29 zero w h e f = absurd (omega arith)
-    witnesses_29 (suc k) w h e f = simp (eq-eqb _ _ e, f)
-
-    pub witnesses_turn : (k w : ℕ) → 0 < k → (witness_at s w).proposition ≡ p.proposition → polarity_fits p.rule (witness_at s w).polarity ≡ true
-        → witnesses_from cells_at s p k w ≡ witnesses_from cells_at s p (k - 1) (w + 1)
-    unfolding witnesses_from
-    witnesses_turn zero w h e f = absurd (omega arith)
-    witnesses_turn (suc k) w h e f = simp (eq-eqb _ _ e, f, sub-one, add-one)
-
     -- ---- One proof
     module _ (ds : List ℕ) where
-      pub depth_refused : (r : Refusal) → parents_from cells_at s p ds p.parent_count p.first_parent 0 0 ≡ refused r → depth_of cells_at s p ds ≡ refused r
-      unfolding depth_of
-      depth_refused r e = on_refused _ e
-
       pub depth_27 : (m : ℕ) → parents_from cells_at s p ds p.parent_count p.first_parent 0 0 ≡ ok m → 256 ≤ m → depth_of cells_at s p ds ≡ refuse 27 0
       unfolding depth_of
       depth_27 m e h = on_ok _ e ∙ simp (lt-leb (suc m) 256 (omega arith))
-
-      pub depth_unwitnessed : (m : ℕ) (r : Refusal) → parents_from cells_at s p ds p.parent_count p.first_parent 0 0 ≡ ok m → m < 256
-          → witnesses_from cells_at s p p.witness_count p.first_witness ≡ refused r → depth_of cells_at s p ds ≡ refused r
-      unfolding depth_of
-      depth_unwitnessed m r e h w = on_ok _ e ∙ simp (le-leb (suc m) 256 h, w)
 
       pub depth_ok : (m : ℕ) → parents_from cells_at s p ds p.parent_count p.first_parent 0 0 ≡ ok m → m < 256
           → witnesses_from cells_at s p p.witness_count p.first_witness ≡ ok tt → depth_of cells_at s p ds ≡ ok (m + 1)

@@ -198,7 +198,6 @@ output_length s bytes = go (leb (length s) 65536) refl
     go false e = omega (arith, line_length too_long none)
 
 -- what is in the buffer after `evidence` is the whole output
--- Kept (8d): a theorem for whoever calls `evidence`, with its contract as the last premise.
 pub whole_output : (s : List ℕ) → Bytes s → {before after : List ℕ} {n : ℕ} → 103020 ≤ length before → Written before 0 (output_of s) after n
     → take n after ≡ output_of s
 whole_output s bytes h w = written_whole w (le_trans (output_length s bytes) h)

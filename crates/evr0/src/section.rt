@@ -243,7 +243,8 @@ pub fn decode_evr0_by(
 }
 
 // The same by the four.
-// Kept (2a): the decoder of the Rust, which has no rules and no marks; by `decode_evr0_by(Rules::Four, ..)` there would be the calls that D124 rules out.
+// Kept (2b): by `decode_evr0_by(Rules::Four, ..)`, which was proved, a section that is refused at its first field takes 1.6 of the time (D124): its answer
+// is copied once more.
 pub fn decode_evr0_unmarked(
     bytes: &[u8],
     cursor: usize,

@@ -31,19 +31,19 @@ pub fn operates(payload: &[u8], start: usize, mark: u8) -> bool
 
 // The same of a proof of the proposition.
 // Kept (1a): a mark is a byte of a table that C lends; an enum would be made of it here and held against one variant.
-fn authorises(payload: &[u8], start: usize, mark: u8, proposition: u32) -> bool
+fn authorises(payload: &[u8], start: usize, mark: u8, proposition: PropositionIndex) -> bool
     requires { after_name payload.now start + 24 ≤ length payload.now }
-    ensures { (rules : List Rule) → result ≡ own (proof_view rules payload.now start) mark proposition }
+    ensures { (rules : List Rule) → result ≡ own (proof_view rules payload.now start) mark proposition.0 }
 {
-    u32::le_at(payload, start + 4) == proposition && operates(payload, start, mark)
+    u32::le_at(payload, start + 4) == proposition.0 && operates(payload, start, mark)
 }
 
 // Of the proofs of these tables, whose marks the table begins with.
 // Kept (2d, 6a): starts and marks are two tables that C lends; `flag_proofs` writes for each, and by `any` the closure would state that its record is there.
-fn authorised_by(tables: Tables, marks: &[u8], proposition: u32) -> bool
+fn authorised_by(tables: Tables, marks: &[u8], proposition: PropositionIndex) -> bool
     requires { length tables.starts.now ≤ length marks.now }
     ensures { (rules : List Rule) → result
-        ≡ of.operates (map (proof_view rules tables.entry.payload.now) tables.entry.starts.now) marks.now proposition }
+        ≡ of.operates (map (proof_view rules tables.entry.payload.now) tables.entry.starts.now) marks.now proposition.0 }
 {
     for (start, mark) in tables.starts.iter().zip(marks) {
         if authorises(tables.payload, *start as usize, *mark, proposition) {
@@ -80,5 +80,5 @@ pub fn authorised(
         return Err(refuse(62, 0));
     }
     let tables = tables_of(bytes, cursor, end, accepted.schema, counts, proofs);
-    Ok(authorised_by(tables, marks, proposition.0))
+    Ok(authorised_by(tables, marks, proposition))
 }

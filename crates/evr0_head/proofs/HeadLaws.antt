@@ -1,6 +1,6 @@
 -- Laws of a payload's head and of the checks after its counts.
 use Prim.Native.Nat.{ℕ, ◌+◌, ◌-◌, ◌*◌, ◌/◌, ◌≤◌, ◌<◌}
-use mathlib.Core.Path.{◌≡◌, refl, ap, subst, ◌∙◌}
+use mathlib.Core.Path.{◌≡◌, ap, subst}
 use mathlib.Core.List.{List}
 use native.Mathlib.Omega.{arith}
 use lib.Dec.{eqb}
@@ -9,7 +9,7 @@ use Rattle.std.specs.Array.{IsFirstChunk}
 use borrow.Author.Tests.{leb-true}
 use Rattle.local_format.specs.Refusal.{Refusal}
 use Rattle.local_format.specs.Out.{Out, ok, refused, refuse, ◌>>=◌}
-use Rattle.local_format.specs.Field.{le}
+use Rattle.local_format.specs.Field.{Got, whole, field_at}
 use Rattle.local_format.specs.Text.{Span, section_field, text_at}
 use Rattle.local_format.proofs.OutLaws.{ok_same, bind_ok, checked_ok}
 use Rattle.local_format.proofs.FieldLaws.{field_ok}
@@ -18,7 +18,7 @@ use Rattle.evr0_section.specs.Head.{Counts, Counted, Head, Room, digest_at, coun
 use Rattle.evr0_section.specs.Head.{checked_head}
 use Rattle.evr0_head.specs.Checks.{Limited}
 use Rattle.evr0_fields.proofs.PlaceLaws.{digest_ok}
-use Rattle.evr0_fields.proofs.PartLaws.{by_field, in_part}
+use Rattle.evr0_fields.proofs.PartLaws.{by_field, field_in_whole}
 
 module _ (c : Counts) (at : ℕ) where
   pub limited : within_limits (listed c) count_limits at ≡ ok tt → Limited c
@@ -35,45 +35,29 @@ module _ (c : Counts) (at : ℕ) where
         parents = leb-true c.parents 262144 f.0;
       }
 
--- ---- The counts, by whether their 16 bytes are there; else the first that is cut is named
-module _ (p : List ℕ) (at : ℕ) where
-  pub by_counts : {x : Out Counted}
-      → (at + 16 ≤ length p
-      → x ≡ ok (record {
-        counts = record { propositions = le 4 p at; proofs = le 4 p (at + 4); witnesses = le 4 p (at + 8); parents = le 4 p (at + 12) };
-        next = at + 16;
-      })) → (length p < at + 16 → x ≡ refuse 5 (at + (length p - at) / 4 * 4)) → x ≡ counts_at p at
+-- ---- The counts: where their 16 bytes are not there, the first that is cut is named
+module _ (p : List ℕ) (at : ℕ) {rest : List ℕ} (e : rest ≡ drop at p) where
+  pub counts_cut : length rest < 16 → refuse 5 (at + length rest / 4 * 4) ≡ counts_at p at
   unfolding counts_at
-  by_counts {x} there short =
+  counts_cut h =
+      let l : length rest ≡ length p - at = rw (e, length-drop) in
       let e8 : at + 4 + 4 ≡ at + 8 = omega arith in
       let e12 : at + 8 + 4 ≡ at + 12 = omega arith in
-      let e16 : at + 12 + 4 ≡ at + 16 = omega arith in
-      by_field 4 p at _ (λ h0. by_field 4 p (at + 4) _ (λ h1. rw e8 (by_field 4 p (at + 8) _ (λ h2. rw e12 (by_field 4 p (at + 12) _ (λ h3.
-      rw e16 (there (omega arith))) (λ l. at_cut (at + 12) (omega arith) (omega arith)))) (λ l. at_cut (at + 8) (omega arith) (omega arith))))
-      (λ l. at_cut (at + 4) (omega arith) (omega arith))) (λ l. at_cut at (omega arith) (omega arith))
-    where
-      at_cut : (k : ℕ) → length p < at + 16 → at + (length p - at) / 4 * 4 ≡ k → x ≡ refuse 5 k
-      at_cut k h e = short h ∙ ap (refuse 5) e
+      by_field 4 p at _ (λ h0. by_field 4 p (at + 4) _ (λ h1. rw e8 (by_field 4 p (at + 8) _ (λ h2. rw e12 (by_field 4 p (at + 12) _
+      (λ h3. absurd (omega arith)) (λ k. ap (refuse 5) (omega arith)))) (λ k. ap (refuse 5) (omega arith))))
+      (λ k. ap (refuse 5) (omega arith))) (λ k. ap (refuse 5) (omega arith))
 
-  module _ {rest : List ℕ} (e : rest ≡ drop at p) where
-    pub counts_cut : length rest < 16 → refuse 5 (at + length rest / 4 * 4) ≡ counts_at p at
-    counts_cut h = let l : length rest ≡ length p - at = rw (e, length-drop) in by_counts (λ k. absurd (omega arith)) (λ k. rw l)
-
-    pub counts_there : {part : List ℕ} → IsFirstChunk rest part 16
-        → ok (record { counts = record { propositions = le 4 part 0; proofs = le 4 part 4; witnesses = le 4 part 8; parents = le 4 part 12 }; next = at + 16 })
-        ≡ counts_at p at
-    counts_there c =
-        let l : length rest ≡ length p - at = rw (e, length-drop) in
-        let m : at + 0 ≡ at = omega arith in
-        let h = c.enough in
-        rw (
-          in_part p at 16 0 e c (omega arith),
-          m,
-          in_part p at 16 4 e c (omega arith),
-          in_part p at 16 8 e c (omega arith),
-          in_part p at 16 12 e c (omega arith),
-        )
-        (by_counts (λ k. refl) (λ k. absurd (omega arith)))
+  -- where they are, each is read in the part that they are
+  pub counts_there : {part : List ℕ} {a b d f : Got} → IsFirstChunk rest part 16
+      → whole a ≡ field_at 4 part 0 → whole b ≡ field_at 4 part a.next → whole d ≡ field_at 4 part b.next → whole f ≡ field_at 4 part d.next
+      → ok (record {
+        counts = record { propositions = a.value; proofs = b.value; witnesses = d.value; parents = f.value };
+        next = at + f.next;
+      }) ≡ counts_at p at
+  unfolding counts_at
+  counts_there {part} {a} {b} {d} {f} c fa fb fd ff =
+      let m : at + 0 ≡ at = omega arith in
+      rw (rw m at (field_in_whole p at 0 e c fa), field_in_whole p at a.next e c fb, field_in_whole p at b.next e c fd, field_in_whole p at d.next e c ff)
 
 -- ---- Where a head that was read lies
 module _ (p : List ℕ) (at : ℕ) where

@@ -8,7 +8,8 @@ ghost use Rattle.derivation.specs.InOrder.{gathered};
 ghost use Rattle.derivation.specs.Mark as of;
 ghost use Rattle.evr0_pass.specs.Tables.{tables_by};
 
-use evr0_pass::pass::{Tables, after_name, witness_start};
+use evr0_fields::number::WitnessNumber;
+use evr0_pass::pass::{Tables, after_name};
 use evr0_read::table::entry_or;
 use lent_table::clear_from;
 use local_format::field::LittleEndian;
@@ -38,11 +39,12 @@ fn end_mark(polarity: u8) -> u8
 
 // The polarity of a witness; 0 where there is none with the number.
 // Kept (1a): a witness's byte of the payload; past the count the definition's witness has polarity 0, and the contract equates with it.
-fn polarity(tables: Tables, witness: usize) -> u8
-    ensures { (rules : List Rule) → result ≡ (witness_at (tables_by rules tables.entry) witness).polarity }
+fn polarity(tables: Tables, witness: WitnessNumber) -> u8
+    ensures { (rules : List Rule) → result ≡ (witness_at (tables_by rules tables.entry) witness.0).polarity }
 {
-    if witness < tables.layout.counts.witnesses {
-        tables.payload[witness_start(tables.payload.len(), tables.layout, witness) + 8]
+    let i = witness.place();
+    if i < tables.layout.counts.witnesses {
+        tables.payload[tables.witness_start(i) + 8]
     } else {
         0
     }
@@ -71,7 +73,7 @@ fn mark_after(tables: Tables, known: &[u8]) -> u8
     let (first, end) = tables.cells(known.len());
     if first == end {
         let rest = after_name(tables.payload, tables.starts[known.len()] as usize);
-        let witness = u32::le_at(tables.payload, rest + 4) as usize;
+        let witness = WitnessNumber(u32::le_at(tables.payload, rest + 4));
         return end_mark(polarity(tables, witness));
     }
     by_parents(tables, known, first, end)

@@ -1,12 +1,12 @@
 // The last pass, over a payload whose tables have been read: each parent 25 and 26, the depth 27, the witnesses 28 and 29.
-ghost use Rattle.std.specs.Prelude.{◌≡◌, ◌&&◌, ℕ, ◌+◌, ◌*◌, ◌≤◌, ◌<◌, List, eqb, length, get_or, take};
+ghost use Rattle.std.specs.Prelude.{◌≡◌, ◌&&◌, ◌+◌, ◌*◌, ◌≤◌, ◌<◌, List, eqb, length, get_or, take};
 ghost use Rattle.local_format.specs.Field.{le};
 ghost use Rattle.local_format.specs.Maps.{answer_out};
 ghost use Rattle.derivation.specs.Rule as derivation;
 ghost use Rattle.derivation.specs.Section.{proof_at, parent_at};
 ghost use Rattle.derivation.specs.Pass as of;
 ghost use Rattle.evr0_rules.specs.Maps.{asking};
-ghost use Rattle.evr0_pass.specs.View.{nameless, proof_by, after_name, WitnessesThere, TablesThere, PolaritiesThere};
+ghost use Rattle.evr0_pass.specs.View.{nameless, proof_by, after_name, TablesThere, PolaritiesThere};
 ghost use Rattle.evr0_pass.specs.Maps.{layout_out, tables_in, proof_out, suited, filled, Derives};
 
 use evr0_fields::number::{ProofNumber, PropositionIndex, WitnessNumber};
@@ -71,14 +71,6 @@ fn suits(
     check(polarity_fits(asked, polarity), 29, 0)
 }
 
-// Where a witness starts in a payload of this length.
-pub fn witness_start(len: usize, tables: Layout, witness: usize) -> usize
-    requires { WitnessesThere len (layout_out tables) × (witness < tables.counts.witnesses) }
-    ensures { (result ≡ tables.witnesses_at + tables.witness_size * witness) × (result + 76 ≤ len) }
-{
-    tables.witnesses_at + tables.witness_size * witness
-}
-
 impl<'a> Tables<'a> {
     ghost use Rattle.evr0_pass.specs.Tables.{tables_by, ProofOf};
 
@@ -126,17 +118,26 @@ impl<'a> Tables<'a> {
         u32::le_at(self.payload, self.layout.parents_at + 4 * cell) as usize
     }
 
+    // Where a witness starts.
+    pub fn witness_start(&self, witness: usize) -> usize
+        requires { witness < self.now.layout.counts.witnesses }
+        ensures { (result ≡ self.now.layout.witnesses_at + self.now.layout.witness_size * witness)
+            × (result + 76 ≤ length self.now.payload.now) }
+    {
+        self.layout.witnesses_at + self.layout.witness_size * witness
+    }
+
     // Whether the proof with this place has this proposition and this authority.
-    pub fn agrees(&self, i: usize, proposition: u32, authority: u32) -> bool
+    pub fn agrees(&self, i: usize, proposition: PropositionIndex, authority: u32) -> bool
         requires { i < length self.now.starts.now }
-        ensures { let start = get_or self.now.starts.now i 0 in result ≡ (eqb (le 4 self.now.payload.now (start + 4)) proposition && eqb
+        ensures { let start = get_or self.now.starts.now i 0 in result ≡ (eqb (le 4 self.now.payload.now (start + 4)) proposition.0 && eqb
             (le 4 self.now.payload.now (after_name self.now.payload.now start)) authority) }
     {
         let payload = self.payload;
         let start = self.starts[i] as usize;
         let found = u32::le_at(payload, start + 4);
         let granted = u32::le_at(payload, after_name(payload, start));
-        (found == proposition) & (granted == authority)
+        (found == proposition.0) & (granted == authority)
     }
 
     // The parents of `proof`: the greatest of their depths, 0 without parents.
@@ -157,7 +158,7 @@ impl<'a> Tables<'a> {
             let at = self.layout.parents_at + 4 * cell;
             let parent = self.parent(cell);
             check((parent < number) & (least <= parent), 25, at)?;
-            let agree = self.agrees(parent, proof.proposition_index.0, proof.authority_context);
+            let agree = self.agrees(parent, proof.proposition_index, proof.authority_context);
             check(agree, 26, at)?;
             deepest = deepest.max(depths[parent]);
             least = parent + 1;
@@ -176,7 +177,7 @@ impl<'a> Tables<'a> {
         let first = proof.witness_first.place();
         let end = first + proof.witness_count as usize;
         for witness in first..end {
-            let at = witness_start(payload.len(), self.layout, witness);
+            let at = self.witness_start(witness);
             let found = PropositionIndex(u32::le_at(payload, at + 4));
             suits(
                 proof.polarity,

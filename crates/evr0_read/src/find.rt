@@ -1,5 +1,4 @@
 // The place of a record by its number, in the payload of a section that is decoded anew first by the rules of a call.
-ghost use Rattle.std.specs.Prelude.{◌≡◌};
 ghost use Rattle.local_format.specs.Maps.{answer_out};
 ghost use Rattle.evr0.specs.Answer.{lent_of};
 ghost use Rattle.evr0_rules.specs.Maps.{given_out};

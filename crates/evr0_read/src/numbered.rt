@@ -1,6 +1,6 @@
 // The numbers of records, one kind for each of the four tables: how many records the table has, where the one with a number starts, and what is
 // read there.
-ghost use Rattle.std.specs.Prelude.{◌≡◌, ℕ, List, length};
+ghost use Rattle.std.specs.Prelude.{◌≡◌, ℕ, List};
 ghost use Rattle.local_format.specs.Maps.{answer_out};
 ghost use Rattle.evr0_section.specs.Rows.{Entry};
 ghost use Rattle.evr0_section.specs.Section.{Section};

@@ -9,10 +9,10 @@ use lib.ListN.{length, get_or, drop, length-drop}
 use Rattle.std.specs.Array.{IsFirstChunk}
 use borrow.Author.Tests.{le-leb, lt-leb, leb-true, leb-false, eq-eqb, ne_eqb}
 use Rattle.local_format.specs.Out.{Out, ok, refuse, check, ◌>>=◌, ◌>>◌}
-use Rattle.local_format.specs.Field.{le, field_at}
+use Rattle.local_format.specs.Field.{Got, whole, le, field_at}
 use Rattle.local_format.specs.Text.{Span}
 use Rattle.local_format.proofs.FieldLaws.{le_1}
-use Rattle.evr0_fields.proofs.PartLaws.{by_field, in_part}
+use Rattle.evr0_fields.proofs.PartLaws.{by_field, in_part, field_is, field_in_whole}
 use Rattle.evr0_section.specs.Rows.{Sized}
 use Rattle.evr0_section.specs.Proof.{ProofRecord, rest_of, zeros_at}
 
@@ -59,57 +59,75 @@ module _ (s : List ℕ) (number proposition : ℕ) (rule : Span) where
       at_cut : (at : ℕ) → length s ≤ rule.next + 20 → rule.next + (length s - rule.next) / 4 * 4 ≡ at → x ≡ refuse 5 at
       at_cut at h e = short h ∙ ap (refuse 5) e
 
-  module _ {rest : List ℕ} (e : rest ≡ drop rule.next s) where
-    left : length rest ≡ length s - rule.next
-    left = rw (e, length-drop)
+  pub first_cut : length s - rule.next ≤ 20 → refuse 5 (rule.next + (length s - rule.next) / 4 * 4) ≡ rest_of s number proposition rule
+  first_cut h = by_left (λ k. absurd (omega arith)) (λ k. refl)
 
-    pub first_cut : length rest ≤ 20 → refuse 5 (rule.next + length rest / 4 * 4) ≡ rest_of s number proposition rule
-    first_cut h = by_left (λ k. absurd (omega (arith, left))) (λ k. rw left)
+  pub zeros_cut : 20 < length s - rule.next → length s - rule.next < 24 → refuse 5 (rule.next + 21) ≡ rest_of s number proposition rule
+  unfolding zeros_at field_at
+  zeros_cut h k = by_left (λ l. simp (lt-leb (rule.next + 21 + 3) (length s) (omega arith))) (λ l. absurd (omega arith))
 
-    pub zeros_cut : 20 < length rest → length rest < 24 → refuse 5 (rule.next + 21) ≡ rest_of s number proposition rule
-    unfolding zeros_at field_at
-    zeros_cut h k = by_left (λ l. simp (lt-leb (rule.next + 21 + 3) (length s) (omega (arith, left)))) (λ l. absurd (omega (arith, left)))
-
-    -- ---- Where the 24 bytes are there: the operation and three zeros are one number of four bytes
-    module _ {part : List ℕ} (c : IsFirstChunk rest part 24) (fits : (i : ℕ) → get_or s i 0 < 256) where
+  -- ---- Where the 24 bytes are there, the fields are read in the part that they are: the operation and three zeros are one number of four bytes
+  module _ {rest part : List ℕ} (e : rest ≡ drop rule.next s) (c : IsFirstChunk rest part 24) (fits : (i : ℕ) → get_or s i 0 < 256)
+      {a b d f g o : Got}
+      (fa : whole a ≡ field_at 4 part 0) (fb : whole b ≡ field_at 4 part a.next) (fd : whole d ≡ field_at 4 part b.next)
+      (ff : whole f ≡ field_at 4 part d.next) (fg : whole g ≡ field_at 4 part f.next) (fo : whole o ≡ field_at 4 part g.next)
+    where
       all : rule.next + 24 ≤ length s
-      all = let h = c.enough in omega (arith, left)
+      all =
+          let l : length rest ≡ length s - rule.next = rw (e, length-drop) in
+          let h = c.enough in
+          omega arith
 
-      four : le 4 part 20 ≡ get_or s (rule.next + 20) 0 + 256 * le 3 s (rule.next + 21)
+      at_20 : g.next ≡ 20
+      at_20 =
+          omega (arith, (field_is 0 c fa).0, (field_is a.next c fb).0, (field_is b.next c fd).0, (field_is d.next c ff).0, (field_is f.next c fg).0)
+
+      at_24 : o.next ≡ 24
+      at_24 = omega (arith, at_20, (field_is g.next c fo).0)
+
+      four : o.value ≡ get_or s (rule.next + 20) 0 + 256 * le 3 s (rule.next + 21)
       unfolding le
-      four = let k : rule.next + 20 + 1 ≡ rule.next + 21 = omega arith in rw (in_part s rule.next 24 20 e c (omega arith), k)
+      four =
+          let k : rule.next + 20 + 1 ≡ rule.next + 21 = omega arith in
+          rw ((field_is g.next c fo).2, at_20, in_part s rule.next 20 e c (omega arith), k)
 
-      zeros : zeros_at s (rule.next + 21) ≡ (check (eqb (le 3 s (rule.next + 21)) 0) 9 (rule.next + 24) >> ok (rule.next + 24))
+      -- the zeros are what is left to read
+      by_zeros : {x : Out (Sized ProofRecord)}
+          → x ≡ ((check (eqb (le 3 s (rule.next + 21)) 0) 9 (rule.next + 24) >> ok (rule.next + 24))
+          >>= answer a.value b.value d.value f.value g.value (get_or s (rule.next + 20) 0)) → x ≡ rest_of s number proposition rule
       unfolding zeros_at field_at
-      zeros =
+      by_zeros h =
+          let m : rule.next + 0 ≡ rule.next = omega arith in
+          let y : rule.next + 20 + 1 ≡ rule.next + 21 = omega arith in
           let z : rule.next + 21 + 3 ≡ rule.next + 24 = omega arith in
-          rw (z, le-leb (rule.next + 24) (length s) all)
+          let i : rule.next + 21 ≤ length s = let w = all in omega arith in
+          rw (
+            rw m at (field_in_whole s rule.next 0 e c fa),
+            field_in_whole s rule.next a.next e c fb,
+            field_in_whole s rule.next b.next e c fd,
+            field_in_whole s rule.next d.next e c ff,
+            field_in_whole s rule.next f.next e c fg,
+            at_20,
+            y,
+            le-leb (rule.next + 21) (length s) i,
+            ← le_1 s (rule.next + 20),
+            z,
+            le-leb (rule.next + 24) (length s) all,
+          )
+          h
 
-      pub rest_there : (check (leb (le 4 part 20) 255) 9 (rule.next + 24)
-          >> answer (le 4 part 0) (le 4 part 4) (le 4 part 8) (le 4 part 12) (le 4 part 16) (le 4 part 20) (rule.next + 24))
-          ≡ rest_of s number proposition rule
-      rest_there = go (leb (le 4 part 20) 255) refl
+      pub rest_there : (check (leb o.value 255) 9 (rule.next + o.next)
+          >> answer a.value b.value d.value f.value g.value o.value (rule.next + o.next)) ≡ rest_of s number proposition rule
+      rest_there = rw at_24 (go (leb o.value 255) refl)
         where
-          go : (t : Bool) → leb (le 4 part 20) 255 ≡ t → (check t 9 (rule.next + 24)
-              >> answer (le 4 part 0) (le 4 part 4) (le 4 part 8) (le 4 part 12) (le 4 part 16) (le 4 part 20) (rule.next + 24))
-              ≡ rest_of s number proposition rule
+          go : (t : Bool) → leb o.value 255 ≡ t → (check t 9 (rule.next + 24)
+              >> answer a.value b.value d.value f.value g.value o.value (rule.next + 24)) ≡ rest_of s number proposition rule
           go true h =
-              let l : le 4 part 20 ≤ 255 = leb-true (le 4 part 20) 255 h in
+              let l : o.value ≤ 255 = leb-true o.value 255 h in
               let n : le 3 s (rule.next + 21) ≡ 0 = omega (arith, four) in
-              let o : le 4 part 20 ≡ get_or s (rule.next + 20) 0 = omega (arith, four) in
-              let m : rule.next + 0 ≡ rule.next = omega arith in
-              by_left (λ k. rw (
-                zeros,
-                eq-eqb (le 3 s (rule.next + 21)) 0 n,
-                o,
-                in_part s rule.next 24 0 e c (omega arith),
-                m,
-                in_part s rule.next 24 4 e c (omega arith),
-                in_part s rule.next 24 8 e c (omega arith),
-                in_part s rule.next 24 12 e c (omega arith),
-                in_part s rule.next 24 16 e c (omega arith),
-              )) (λ k. absurd (let w = all in omega arith))
+              let v : o.value ≡ get_or s (rule.next + 20) 0 = omega (arith, four) in
+              by_zeros (rw (eq-eqb (le 3 s (rule.next + 21)) 0 n, v))
           go false h =
-              let l : 255 < le 4 part 20 = leb-false (le 4 part 20) 255 h in
+              let l : 255 < o.value = leb-false o.value 255 h in
               let n : le 3 s (rule.next + 21) ≡ 0 → ⊥ = λ z. omega (arith, four, fits (rule.next + 20)) in
-              by_left (λ k. rw (zeros, ne_eqb (le 3 s (rule.next + 21)) 0 n)) (λ k. absurd (let w = all in omega arith))
+              by_zeros (rw (ne_eqb (le 3 s (rule.next + 21)) 0 n))

@@ -17,7 +17,7 @@ use evr0_fields::number::{ProofNumber, PropositionIndex, WitnessNumber};
 use evr0_head::counts::Counts;
 use evr0_rules::rule::Rule;
 use evr0_rules::settle::Rulebook;
-use local_format::field::{Field, LittleEndian, field_at};
+use local_format::field::{Field, field_at};
 use local_format::refusal::{Refusal, check, refuse};
 use local_format::text::{Span, text_at};
 
@@ -60,7 +60,7 @@ pub struct Unowned {
     pub parent: usize,
 }
 
-// What follows a proof's rule. Where its 24 bytes are there, the fields are read in a part that is just these; the operation and the
+// What follows a proof's rule. Where its 24 bytes are there, the fields are read in a part that is just these, where none is cut; the operation and the
 // three reserved bytes after it are one field. Else the first field that is cut is told by how many bytes are left.
 fn read_rest(
     tail: &[u8],
@@ -71,25 +71,77 @@ fn read_rest(
     ensures { answer_out (sized_out proof_record) result ≡ rest_of tail.now proof_id.0 proposition_index.0 (span_out rule_id) }
 {
     let at = rule_id.next;
-    let rest = local_format::part::tail(tail, at);
-    let Some(part) = rest.first_chunk::<24>() else {
-        let left = rest.len();
+    let Some(part) = local_format::part::tail(tail, at).first_chunk::<24>() else {
+        let left = tail.len().saturating_sub(at);
         let cut = if 20 < left { 21 } else { left / 4 * 4 };
         return Err(refuse(5, at + cut));
     };
-    let end = at + 24;
-    let operation = u32::le_at(part, 20);
+    let Some(
+        Field {
+            value: authority_context,
+            next: witness_first_at,
+        },
+    ) = field_at::<u32>(part, 0)
+    else {
+        return Err(refuse(5, at));
+    };
+    let Some(
+        Field {
+            value: witness_first,
+            next: witness_count_at,
+        },
+    ) = field_at::<u32>(part, witness_first_at)
+    else {
+        return Err(refuse(5, at + witness_first_at));
+    };
+    let Some(
+        Field {
+            value: witness_count,
+            next: parent_first_at,
+        },
+    ) = field_at::<u32>(part, witness_count_at)
+    else {
+        return Err(refuse(5, at + witness_count_at));
+    };
+    let Some(
+        Field {
+            value: parent_first,
+            next: parent_count_at,
+        },
+    ) = field_at::<u32>(part, parent_first_at)
+    else {
+        return Err(refuse(5, at + parent_first_at));
+    };
+    let Some(
+        Field {
+            value: parent_count,
+            next: operation_at,
+        },
+    ) = field_at::<u32>(part, parent_count_at)
+    else {
+        return Err(refuse(5, at + parent_count_at));
+    };
+    let Some(
+        Field {
+            value: operation,
+            next: part_end,
+        },
+    ) = field_at::<u32>(part, operation_at)
+    else {
+        return Err(refuse(5, at + operation_at));
+    };
+    let end = at + part_end;
     check(operation <= 255, 9, end)?;
     Ok(Sized {
         item: Proof {
             proof_id,
             proposition_index,
             rule_id,
-            authority_context: u32::le_at(part, 0),
-            witness_first: WitnessNumber(u32::le_at(part, 4)),
-            witness_count: u32::le_at(part, 8),
-            parent_first: u32::le_at(part, 12),
-            parent_count: u32::le_at(part, 16),
+            authority_context,
+            witness_first: WitnessNumber(witness_first),
+            witness_count,
+            parent_first,
+            parent_count,
             authorized_operation: operation as u8,
         },
         size: end,

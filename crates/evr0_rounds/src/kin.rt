@@ -6,6 +6,7 @@ ghost use Rattle.derivation.specs.Section.{proof_at};
 ghost use Rattle.rounds.specs.Rounds as of;
 ghost use Rattle.evr0_pass.specs.Tables.{tables_by};
 
+use evr0_fields::number::PropositionIndex;
 use evr0_pass::pass::{Tables, after_name};
 use local_format::field::LittleEndian;
 use local_format::refusal::{Refusal, check};
@@ -18,7 +19,7 @@ fn check_parents(tables: Tables, i: usize) -> Result<(), Refusal>
         ≡ of.kin_of tables.entry.layout.parents_at (tables_by rules tables.entry) (proof_at (tables_by rules tables.entry) i) }
 {
     let start = tables.starts[i] as usize;
-    let proposition = u32::le_at(tables.payload, start + 4);
+    let proposition = PropositionIndex(u32::le_at(tables.payload, start + 4));
     let authority = u32::le_at(tables.payload, after_name(tables.payload, start));
     let (first, end) = tables.cells(i);
     let mut least = 0;

@@ -7,7 +7,7 @@ use crate::rule::Rule;
 use local_format::tag::same;
 
 // The one of the four whose name has these bytes.
-// Kept (6b): a loop over a table of the four finds a name in 53 instructions, so it takes 29; a `match` on the names has 51 ways to its last arm.
+// Kept (6b): a loop over a table of the four finds a name in 53 instructions, this in 29; a `match` on the names has 51 ways to its last arm.
 pub fn rule_named(name: &[u8]) -> Option<Rule>
     ensures { named_out name.now result ≡ rule_named four_rules name.now }
 {

@@ -47,7 +47,7 @@ fn down_from(payload: &[u8], starts: &[u64], cells: usize, from: ProofNumber, li
     let mut moves = 0;
     // Kept (3d): what is read ends the walk; after a `for` over the moves an answer would be written that is never reached.
     loop {
-        let read = proof_in(payload, starts, reached.place());
+        let read = proof_in(payload, starts, reached);
         let Ok(Sized { item: proof, .. }) = read else {
             return Down::Spent(from);
         };

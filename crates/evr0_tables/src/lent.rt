@@ -1,5 +1,4 @@
 // Tables that a caller lends.
-ghost use Rattle.lent_table.specs.Lent.{lent};
 ghost use Rattle.evr0_tables.specs.LentMaps.{SameTables, tables_out, Cleared};
 
 // Where a section's propositions and proofs start, and a number for each proof: the polarity that its rule asks, and then its depth.

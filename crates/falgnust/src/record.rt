@@ -128,7 +128,7 @@ pub extern "C" fn falgnust_read_path(code: &[u8], at: usize, header_rev: u16) ->
 
 // The kind is the byte of the format; a variant's index is the second number.
 // Kept (1a): callers in C read a kind as a number.
-// Kept (2d): lock_words' Part has the same three; `repr(C)` is for a type that C lends, as DecodedDebugSymbol: C never lends a Part, it is answered in this.
+// Kept (2d): lock_words' Part has the same three; outside falgnust `repr(C)` stands only on what C lends, as DecodedDebugSymbol, and a Part is answered.
 #[repr(C)]
 #[derive(Clone, Copy, Debug, Default, PartialEq, Eq)]
 pub struct Parts {

@@ -5,7 +5,7 @@ ghost use Rattle.local_format.specs.Tag.{equal, tag_at};
 use crate::field::LittleEndian;
 
 // Whether two slices hold the same bytes: by their lengths, then by their last eight bytes, then eight at a time from the first on.
-// Kept (4b): by `a == b` a rule's name is found among the four in 71 instructions and by `starts_with` in 66, since they are calls; so in 29.
+// Kept (4b): by `a == b` a rule's name is found among the four in 71 instructions and by `starts_with` in 66, since they are calls; by words in 29.
 pub fn same(a: &[u8], b: &[u8]) -> bool
     ensures { result ≡ equal a.now b.now }
 {

@@ -2,3 +2,4 @@ pub mod LockLaws
 pub mod ReadLaws
 pub mod RootLaws
 pub mod MeetLaws
+pub mod EightLaws

@@ -189,6 +189,6 @@ module _ (words : List ℕ) (held : List (List ℕ)) (e : map lock_in held ≡ l
   pub any_held : (f : Lock Root → Bool) → list_any (λ ws. f (lock_in ws)) held ≡ any f (locks_in words)
   any_held f = any_map f held ∙ ap (any f) e
 
-  pub symbol_among : (symbol : ℕ) → list_any (λ ws. eqb (symbol_in ws) symbol) held ≡ any (λ l. eqb l.root.symbol symbol) (locks_in words)
+  pub any_symbol : (symbol : ℕ) → list_any (λ ws. eqb (symbol_in ws) symbol) held ≡ any (λ l. eqb l.root.symbol symbol) (locks_in words)
   unfolding lock_in root_in
-  symbol_among symbol = any_held (λ l. eqb l.root.symbol symbol)
+  any_symbol symbol = any_held (λ l. eqb l.root.symbol symbol)

@@ -1,10 +1,11 @@
 // Whether a lock that is held stands against one that is asked for: a key. A lock and a key have 24 words each.
 ghost use Rattle.std.specs.Prelude.{◌≡◌, eqb};
+ghost use Rattle.std.specs.List.{list_any};
 ghost use Rattle.local_format.specs.Tag.{equal};
 ghost use Rattle.lock_rules.specs.Lock.{hinders};
 ghost use Rattle.lock_rules.specs.Register.{any};
 ghost use Rattle.lock_rules.specs.Source.{same_root};
-ghost use Rattle.lock_words.specs.Words.{source_in, lock_in, locks_in};
+ghost use Rattle.lock_words.specs.Words.{symbol_in, source_in, lock_in, locks_in};
 ghost use Rattle.lock_register.specs.Meet.{either_begins, met_by};
 
 use lock_words::words::{held_locks, parts};
@@ -55,12 +56,19 @@ pub fn hindered(register: &[u64; 6145], key: &[u64; 24]) -> bool
     held_locks(register).iter().any(|lock| meets(lock, key))
 }
 
-// Some lock that is held has this symbol. Compiled apart: within a claim, whose values fill the registers, its loop reads its place from the stack.
-#[inline(never)]
+// Some of these locks has the symbol.
+fn symbol_among(locks: &[[u64; 24]], symbol: u32) -> bool
+    ensures { result ≡ list_any (λ ws. eqb (symbol_in ws) symbol) locks.now }
+{
+    locks
+        .iter()
+        .any(|lock| lock[2] % 4294967296 == symbol as u64)
+}
+
+// Some lock that is held has this symbol. They are looked at by eights, whose tests are compiled one behind the other, without a loop of their own.
 pub fn symbol_held(register: &[u64; 6145], symbol: u32) -> bool
     ensures { result ≡ any (λ l. eqb l.root.symbol symbol) (locks_in register.now) }
 {
-    held_locks(register)
-        .iter()
-        .any(|lock| lock[2] % 4294967296 == symbol as u64)
+    let mut eights = held_locks(register).chunks_exact(8);
+    eights.any(|eight| symbol_among(eight, symbol)) || symbol_among(eights.remainder(), symbol)
 }

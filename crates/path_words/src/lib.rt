@@ -46,7 +46,7 @@ fn sized_word(component_kind: u8, first: u32, second: u16, size: usize) -> u64
 }
 
 // How the components of a path are read.
-// Kept (1a): the kind is the byte of the path's event, which may be of no known kind.
+// Kept (1d): the openings give a byte, and `read_component` and `component_sizes` take one: an enum would be made and turned back at each component.
 #[derive(Clone, Copy)]
 struct Steps<'a> {
     code: &'a [u8],

@@ -168,9 +168,12 @@ module _ (width : ℕ) (s : List ℕ) (at origin m : ℕ) (xs ys zs : List ℕ) 
       (take-put_mid 4 2 u zs 6 (omega arith) (omega arith) ∙ ap (λ (w : List ℕ). w ++ zs) (front_one 3 xs ys l (at + 12) (omega arith)))
       ∙ rw (p, e, q, h)
 
-pub wide_span : (s : List ℕ) (at : ℕ) {v w : ℕ} → v ≡ le 8 s at → w ≡ le 8 s (at + 8) → (v ∷ w ∷ []) ≡ span_words 8 s at
+pub wide_span : (s : List ℕ) (at : ℕ) (xs : List ℕ) {v w : ℕ} → length xs ≡ 2 → v ≡ le 8 s at → w ≡ le 8 s (at + 8)
+    → set (set xs 0 v) 1 w ≡ span_words 8 s at
 unfolding span_words
-wide_span s at e f = rw (e, f)
+wide_span s at xs {v} {w} l e f =
+    let n = two_size 0 xs [] refl v w (omega arith) in
+    sym (take_all 2 (set (set xs 0 v) 1 w) (omega arith)) ∙ front_two 0 xs [] refl v w (omega arith) ∙ rw (e, f)
 
 -- fields of 4 bytes are a span's ends
 pub narrow_span : (s : List ℕ) (at : ℕ) → fields 2 s at ≡ span_words 4 s at

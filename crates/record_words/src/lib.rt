@@ -2,7 +2,7 @@
 // nothing is checked but that it is there.
 #![tactic(auto)]
 
-ghost use Rattle.std.specs.Prelude.{◌≡◌, ℕ, Bool, true, List, cond, [], ◌∷◌, ◌+◌, ◌-◌, ◌*◌, ◌≤◌, ◌<◌, length};
+ghost use Rattle.std.specs.Prelude.{◌≡◌, ℕ, Bool, true, List, cond, ◌+◌, ◌-◌, ◌*◌, ◌≤◌, ◌<◌, length};
 ghost use Rattle.record_words.specs.Words.{
   fields,
   after_text,
@@ -77,59 +77,58 @@ fn put_fields(bytes: &[u8], at: usize, words: &mut [u64])
 
 // ---- Records with a text
 
-// Records of so many fields, a text, and so many fields.
+// Records of so many fields, a text, and so many fields. The numbers are const parameters, by which the fields are read without a loop: a proof
+// takes 31 instructions, and 121 where they are fields of the struct.
 #[derive(Clone, Copy)]
-struct Texts {
-    front: usize,
-    back: usize,
-    ghost few: { (front ≤ 8) × (back ≤ 8) },
+struct Texts<const FRONT: usize, const BACK: usize> {
+    ghost few: { (FRONT ≤ 8) × (BACK ≤ 8) },
 }
 
-impl Texts {
+impl<const FRONT: usize, const BACK: usize> Texts<FRONT, BACK> {
     // The place after the text of the record at `at`, where it is whole.
     fn after_text(&self, bytes: &[u8], at: usize) -> Option<usize>
-        ensures { result ≡ cond (text_whole self.now.front self.now.back bytes.now at)
-            (Some (after_text self.now.front bytes.now at)) None }
+        ensures { result ≡ cond (text_whole FRONT BACK bytes.now at)
+            (Some (after_text FRONT bytes.now at)) None }
     {
-        let head = 4 * self.front + 2;
+        let head = 4 * FRONT + 2;
         if bytes.len() < head {
             return None;
         }
         if bytes.len() - head < at {
             return None;
         }
-        let rest = at + head + (u16::le_at(bytes, at + 4 * self.front) as usize);
-        if bytes.len() < rest + 4 * self.back {
+        let rest = at + head + (u16::le_at(bytes, at + 4 * FRONT) as usize);
+        if bytes.len() < rest + 4 * BACK {
             return None;
         }
         Some(rest)
     }
 }
 
-impl Record for Texts {
-    ghost is_whole = { λ r s. text_whole r.front r.back s };
+impl<const FRONT: usize, const BACK: usize> Record for Texts<FRONT, BACK> {
+    ghost is_whole = { λ r s. text_whole FRONT BACK s };
 
-    ghost words_of = { λ r s. text_words r.front r.back s };
+    ghost words_of = { λ r s. text_words FRONT BACK s };
 
-    ghost size = { λ r. r.front + 2 + r.back };
+    ghost size = { λ r. FRONT + 2 + BACK };
 
     fn count(&self) -> usize {
-        self.front + 2 + self.back
+        FRONT + 2 + BACK
     }
 
     fn put(&self, bytes: &[u8], at: usize, words: &mut [u64]) -> bool {
         let Some(rest) = self.after_text(bytes, at) else {
             return false;
         };
-        let text = at + 4 * self.front + 2;
-        put_fields(bytes, at, &mut words[..self.front]);
-        words[self.front] = text as u64;
-        words[self.front + 1] = (rest - text) as u64;
-        put_fields(bytes, rest, &mut words[self.front + 2..]);
+        let text = at + 4 * FRONT + 2;
+        put_fields(bytes, at, &mut words[..FRONT]);
+        words[FRONT] = text as u64;
+        words[FRONT + 1] = (rest - text) as u64;
+        put_fields(bytes, rest, &mut words[FRONT + 2..]);
         true
     }
 
-    ghost sized = { λ r s at. text_size r.front r.back s at };
+    ghost sized = { λ r s at. text_size FRONT BACK s at };
 }
 
 // Propositions: the place and the length of the kind, owner, scope, type.
@@ -138,7 +137,7 @@ pub fn read_propositions(payload: &[u8], starts: &[u64], words: &mut [u64]) -> b
     ensures { Fills (text_whole 0 3 payload.now) (text_words 0 3 payload.now) starts.now
         words.old words.new result }
 {
-    read_all(&Texts { front: 0, back: 3 }, payload, starts, words)
+    read_all(&Texts::<0, 3> {}, payload, starts, words)
 }
 
 // Proofs: number, proposition, the place and the length of the rule's name, authority, first witness, witnesses, first parent, parents,
@@ -148,7 +147,7 @@ pub fn read_proofs(payload: &[u8], starts: &[u64], words: &mut [u64]) -> bool
     ensures { Fills (text_whole 2 6 payload.now) (text_words 2 6 payload.now) starts.now
         words.old words.new result }
 {
-    read_all(&Texts { front: 2, back: 6 }, payload, starts, words)
+    read_all(&Texts::<2, 6> {}, payload, starts, words)
 }
 
 // Texts of a section and strings of a block: the place and the length of each.
@@ -157,7 +156,7 @@ pub fn read_strings(bytes: &[u8], starts: &[u64], words: &mut [u64]) -> bool
     ensures { Fills (text_whole 0 0 bytes.now) (text_words 0 0 bytes.now) starts.now
         words.old words.new result }
 {
-    read_all(&Texts { front: 0, back: 0 }, bytes, starts, words)
+    read_all(&Texts::<0, 0> {}, bytes, starts, words)
 }
 
 // ---- Witnesses and parents
@@ -171,7 +170,8 @@ fn put_span(bytes: &[u8], at: usize, schema: u16, words: &mut [u64])
     ensures { words.new ≡ span_words (span_width schema) bytes.now at }
 {
     if schema == 2 {
-        words.copy_from_slice(&[u64::le_at(bytes, at), u64::le_at(bytes, at + 8)]);
+        words[0] = u64::le_at(bytes, at);
+        words[1] = u64::le_at(bytes, at + 8);
     } else {
         put_fields(bytes, at, words);
     }

@@ -4,7 +4,7 @@ use mathlib.Core.Path.{◌≡◌, refl, sym, ap, ◌∙◌, subst}
 use mathlib.Core.Logic.{◌⊎◌, inl, inr, ⊎_elim}
 use mathlib.Core.List.{List, Memᴰ}
 use native.Mathlib.Omega.{arith}
-use Rattle.local_format.specs.Refusal.{Refusal, refusal}
+use Rattle.local_format.specs.Refusal.{Refusal}
 use Rattle.local_format.specs.Out.{Out, ok, refused, moved, at_offset, ◌>>=◌}
 use Rattle.local_format.specs.Text.{bytes_at}
 use Rattle.local_format.proofs.OutLaws.{never, ok_same, refused_same, on_ok, on_refused}

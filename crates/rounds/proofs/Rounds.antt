@@ -3,19 +3,18 @@
 use Prim.Native.Nat.{ℕ, zero, suc, ◌+◌, ◌≤◌, ◌<◌, max}
 use mathlib.Core.Path.{◌≡◌, refl, sym, ap, ◌∙◌}
 use mathlib.Core.Logic.{◌↔◌, ◌⊎◌, inl, inr, ⊎_elim}
-use mathlib.Core.Bool.{Bool, true, false, cond, not, ◌&&◌}
+use mathlib.Core.Bool.{Bool, true, false, cond, not}
 use mathlib.Core.List.{List, []}
 use native.Mathlib.Nat.{le_refl}
 use native.Mathlib.Omega.{arith}
 use lib.ListN.{length, get_or, replicate, length-replicate, get_or-replicate, get_or-eq_default}
-use lib.Dec.{ltb, leb}
+use lib.Dec.{leb}
 use borrow.Author.Tests.{eq-eqb, eqb-false, le-leb, lt-leb, ne_eqb, not-true}
 use Rattle.local_format.specs.Out.{ok}
 use Rattle.local_format.proofs.OutLaws.{then_ok}
 use Rattle.derivation.specs.Section.{Proof, Section, Checked, Within, proof_at, parent_at, proof_total, OwnsParent}
 use Rattle.derivation.specs.Pass.{parents_from}
 use Rattle.derivation.specs.Walk.{AtEnd}
-use Rattle.derivation.specs.InOrder.{gathered}
 use Rattle.rounds.specs.Rounds.{is_marked, all_marked, parents_marked, turn, turns, after_rounds, kin}
 use Rattle.rounds.specs.Height.{greatest, height_of, heights, height, Height}
 use Rattle.derivation.proofs.Tests.{both, both_true, order, at_or_after}

@@ -1,5 +1,5 @@
 // The whole block.
-ghost use Rattle.std.specs.Prelude.{◌≡◌, length};
+ghost use Rattle.std.specs.Prelude.{length};
 ghost use Rattle.local_format.specs.Maps.{answer_out};
 ghost use Rattle.semcode_decode.specs.Block.{block_of};
 ghost use Rattle.semcode_decode.specs.Layout.{layout, tables, rooms, Decodes};
@@ -77,7 +77,7 @@ fn read_block(
 }
 
 // The same, where a refusal leaves zeros in the lent tables.
-// Kept (2b): `parse_block` over this function took 1.01 to 1.03 of the instructions (D52); both call `read_block`.
+// Kept (2b): `parse_block` over this function took up to 1.03 of the instructions (D52), where 1.02 is the bar; both call `read_block`.
 pub fn parse_tables(
     code: &[u8],
     header_rev: u16,

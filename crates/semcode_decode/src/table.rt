@@ -1,5 +1,5 @@
 // The tables of a block, each with its count in front.
-ghost use Rattle.std.specs.Prelude.{◌≡◌, ◌≤◌, ℕ, length};
+ghost use Rattle.std.specs.Prelude.{◌≡◌, ℕ, length};
 ghost use Rattle.local_format.specs.Out.{Out, ok};
 ghost use Rattle.local_format.specs.Maps.{answer_out};
 ghost use Rattle.local_format.specs.Tag.{dbg0, own0};

@@ -131,7 +131,8 @@ pub fn path_number(
 
 // The component after so many others.
 // Kept (1a): the byte of the path's event, as `read_component` takes it.
-// Kept (5a): `read_component` takes the four as C hands them on, and the others are its steps; a struct would be taken apart there.
+// Kept (5d): C, locks, path_words and path_end would each make the struct, and each step take it apart; `Steps` of path_words, without the place, serves
+// its own walk.
 fn component_after(
     bytes: &[u8],
     at: usize,

@@ -2,7 +2,7 @@
 // written, or the refusal, and the whole output. tools/columns/make.py writes the list, and what is to be printed by plain lines of its own.
 #![tactic(auto)]
 
-ghost use Rattle.std.specs.Prelude.{ℕ, Some, ◌≡◌, ◌<◌, length};
+ghost use Rattle.std.specs.Prelude.{Some, ◌≡◌, ◌<◌, length};
 
 use columns_take::take::take_columns;
 use columns_write::write::write_columns;

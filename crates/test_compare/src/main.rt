@@ -3,7 +3,7 @@
 // tools/sections/pairs.py writes the list, and what is to be printed by plain lines of its own.
 #![tactic(auto)]
 
-ghost use Rattle.std.specs.Prelude.{ℕ, Some, ◌≡◌, ◌<◌, length};
+ghost use Rattle.std.specs.Prelude.{Some, ◌≡◌, ◌<◌, length};
 
 use compare_sections::compare::{Fault, compare_sections};
 use evr0_rules::settle::Rules;

@@ -1,6 +1,59 @@
 // An answer held against the front of a list: what is left of the list where it is the same, else none.
 use local_format::field::{Field, field_at};
 use local_format::refusal::Refusal;
+use semcode_records::symbol::DecodedDebugSymbol;
+
+// A field of an answer, or an entry of a lent table.
+pub trait Entry: Copy {
+    // What is left of a list that has the entry at its front.
+    fn held<'a>(self, list: &'a [u8]) -> Option<&'a [u8]>;
+
+    // As every entry past the count is.
+    fn is_zero(self) -> bool;
+}
+
+// A field of an answer.
+impl Entry for usize {
+    fn held<'a>(self, list: &'a [u8]) -> Option<&'a [u8]> {
+        number(list, self)
+    }
+
+    fn is_zero(self) -> bool {
+        self == 0
+    }
+}
+
+// A start or a depth.
+impl Entry for u64 {
+    fn held<'a>(self, list: &'a [u8]) -> Option<&'a [u8]> {
+        number(list, self as usize)
+    }
+
+    fn is_zero(self) -> bool {
+        self == 0
+    }
+}
+
+// A family, as it is.
+impl Entry for u8 {
+    fn held<'a>(self, list: &'a [u8]) -> Option<&'a [u8]> {
+        bytes(list, &[self])
+    }
+
+    fn is_zero(self) -> bool {
+        self == 0
+    }
+}
+
+impl Entry for DecodedDebugSymbol {
+    fn held<'a>(self, list: &'a [u8]) -> Option<&'a [u8]> {
+        numbers(list, &[self.pc, self.line as usize, self.col as usize])
+    }
+
+    fn is_zero(self) -> bool {
+        self.pc == 0 && self.line == 0 && self.col == 0
+    }
+}
 
 // A number, which has 4 bytes in the list.
 fn number(list: &[u8], value: usize) -> Option<&[u8]> {
@@ -15,12 +68,11 @@ fn number(list: &[u8], value: usize) -> Option<&[u8]> {
     }
 }
 
-// Kept (2d): this takes fields as `usize`, `table` entries of a lent table as `u64`: one function for both would take either by a cast.
 // Kept (6d): the list is read from the front and answered as what is left of it: `?` after each field is the cursor.
-pub fn numbers<'a>(list: &'a [u8], values: &[usize]) -> Option<&'a [u8]> {
+pub fn numbers<'a, T: Entry>(list: &'a [u8], values: &[T]) -> Option<&'a [u8]> {
     let mut rest = list;
     for value in values {
-        rest = number(rest, *value)?;
+        rest = value.held(rest)?;
     }
     Some(rest)
 }
@@ -30,24 +82,12 @@ pub fn bytes<'a>(list: &'a [u8], value: &[u8]) -> Option<&'a [u8]> {
     list.strip_prefix(value)
 }
 
-// A lent table, whole: numbers of the list below the count, 0 from there on.
-// Kept (2d): as numbers, which takes no lent table.
+// A lent table, whole: the list's entries below the count, zeros from there on.
 // Kept (6d): a lent table has zeros past its count, which are compared too: a slice of the counted part would drop them.
-pub fn table<'a>(list: &'a [u8], table: &[u64], count: usize) -> Option<&'a [u8]> {
+pub fn table<'a, T: Entry>(list: &'a [u8], table: &[T], count: usize) -> Option<&'a [u8]> {
     let (front, past) = table.split_at(count.min(table.len()));
-    let mut rest = list;
-    for value in front {
-        rest = number(rest, *value as usize)?;
-    }
-    past.iter().all(|value| *value == 0).then_some(rest)
-}
-
-// A lent table of bytes, whole: bytes of the list below the count, 0 from there on.
-// Kept (2d, 6d): as table; its bytes stand in the list as they are, where numbers have four bytes each.
-pub fn byte_table<'a>(list: &'a [u8], table: &[u8], count: usize) -> Option<&'a [u8]> {
-    let (front, past) = table.split_at(count.min(table.len()));
-    let rest = bytes(list, front)?;
-    past.iter().all(|value| *value == 0).then_some(rest)
+    let rest = numbers(list, front)?;
+    past.iter().all(|entry| entry.is_zero()).then_some(rest)
 }
 
 // A refusal's number, kind and offset.

@@ -13,6 +13,8 @@ const STDIN: i32 = 0;
 
 const PAGE: usize = 262144;
 
+const PAGES: usize = 24;
+
 // The next page of the list.
 fn page() -> Result<usize, usize> {
     let mut list = [0u8; PAGE];
@@ -20,10 +22,10 @@ fn page() -> Result<usize, usize> {
     crate::list::replay(&list[..n])
 }
 
-// Up to 20 pages; those past the end of the list are empty.
+// Up to so many pages; those past the end of the list are empty.
 fn pages() -> Result<usize, usize> {
     let mut same: usize = 0;
-    for _ in 0..20 {
+    for _ in 0..PAGES {
         match page() {
             Ok(more) => same = same.saturating_add(more),
             Err(more) => return Err(same.saturating_add(more)),

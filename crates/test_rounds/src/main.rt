@@ -3,7 +3,7 @@
 // says, and its table of depths. tools/rounds/make.py writes the list, and what is to be printed by plain lines of its own.
 #![tactic(auto)]
 
-ghost use Rattle.std.specs.Prelude.{ℕ, Some, ◌≡◌, ◌<◌, length};
+ghost use Rattle.std.specs.Prelude.{Some, ◌≡◌, ◌<◌, length};
 
 use evr0::section::decode_evr0_by;
 use evr0_rounds::section::depth_by_rounds;

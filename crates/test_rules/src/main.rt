@@ -3,7 +3,7 @@
 // own.
 #![tactic(auto)]
 
-ghost use Rattle.std.specs.Prelude.{ℕ, Some, ◌≡◌, ◌<◌, length};
+ghost use Rattle.std.specs.Prelude.{Some, ◌≡◌, ◌<◌, length};
 
 use evr0::section::decode_evr0_by;
 use evr0_rules::settle::Rules;

@@ -3,7 +3,7 @@
 // writes the list, and what is to be printed by plain lines of its own.
 #![tactic(auto)]
 
-ghost use Rattle.std.specs.Prelude.{ℕ, Some, ◌≡◌, ◌<◌, length};
+ghost use Rattle.std.specs.Prelude.{Some, ◌≡◌, ◌<◌, length};
 
 use evr0_authorised::authorised::authorised;
 use evr0_fields::number::PropositionIndex;

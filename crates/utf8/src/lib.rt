@@ -103,31 +103,6 @@ pub struct Scanned {
     pub control: bool,
 }
 
-// The bytes as text, one character after the other: none where they are not UTF-8.
-#[tactic(auto, using(crate::proofs::ScanLaws::turns))]
-fn scan_chars(bytes: &[u8]) -> Option<Scanned>
-    ensures { scanned_out result ≡ scan_of (decode bytes.now) }
-{
-    let mut chars: usize = 0;
-    let mut control = false;
-    let mut i: usize = 0;
-    // Kept (3d): a character has one to four bytes and `char_at` says where the next starts; a `for` would go byte by byte.
-    while i < bytes.len() {
-        if is_printable(bytes[i]) {
-            i += 1;
-        } else {
-            // Kept (1b): by `?` each text takes three instructions more, in the rows of CJK texts of docs/PERFORMANCE.md; no row may take more.
-            let Some(c) = char_at(bytes, i) else {
-                return None;
-            };
-            i = c.next;
-            control |= c.control;
-        }
-        chars += 1;
-    }
-    Some(Scanned { chars, control })
-}
-
 // How far a byte is above the space, modulo 256: at most 0x5e for the printable characters of ASCII alone.
 #[tactic(auto, using(crate::proofs::ScanLaws::above_space_lem))]
 fn above_space(b: u8) -> u8
@@ -154,8 +129,8 @@ fn ascii_at_both_ends(bytes: &[u8]) -> bool {
     bytes.first().is_none_or(u8::is_ascii) && bytes.last().is_none_or(u8::is_ascii)
 }
 
-// The bytes as text: none where they are not UTF-8. Printable ASCII, as most are, is its own code points.
-#[tactic(auto, using(crate::proofs::ScanLaws::all_printable_lem))]
+// The bytes as text: none where they are not UTF-8. Printable ASCII, as most are, is its own code points; else one character after the other.
+#[tactic(auto, using(crate::proofs::ScanLaws::all_printable_lem, crate::proofs::ScanLaws::turns))]
 pub fn scan(bytes: &[u8]) -> Option<Scanned>
     ensures { scanned_out result ≡ scan_of (decode bytes.now) }
 {
@@ -165,7 +140,22 @@ pub fn scan(bytes: &[u8]) -> Option<Scanned>
             control: false,
         });
     }
-    scan_chars(bytes)
+    let mut chars: usize = 0;
+    let mut control = false;
+    let mut i: usize = 0;
+    // Kept (3d): a character has one to four bytes and `char_at` says where the next starts; a `for` would go byte by byte.
+    while i < bytes.len() {
+        if is_printable(bytes[i]) {
+            i += 1;
+        } else {
+            // Kept (1b): by `?` each text takes three instructions more, in the rows of CJK texts of docs/PERFORMANCE.md; no row may take more.
+            let c = char_at(bytes, i)?;
+            i = c.next;
+            control |= c.control;
+        }
+        chars += 1;
+    }
+    Some(Scanned { chars, control })
 }
 
 // A text at a place, and the place after it.

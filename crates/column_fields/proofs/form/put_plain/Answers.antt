@@ -1,16 +1,15 @@
--- The invariant: the bytes before this one are written.
-use native.Mathlib.Omega.{arith}
-use Rattle.column_fields.proofs.BackLaws.{plainly_first, plainly_more, plainly_all}
+-- Each width's bytes are the number's.
+use Rattle.column_fields.proofs.BytesLaws.{two_bytes, four_bytes, eight_bytes}
 use Rattle.column_fields.proofs.form.put_plain.Goals as goal
 
-pub loop-place-init : goal.loop-place-init
-loop-place-init c =
-    plainly_first _ _ _ (omega arith) (omega arith)
+pub returns-in-Two : goal.returns-in-Two
+returns-in-Two c =
+    rw (c.in-Two.is, ← two_bytes c.args.n, ← c.to_le_bytes.ensures) c.put_array.ensures
 
-pub loop-place-preserved : goal.loop-place-preserved
-loop-place-preserved c =
-    plainly_more c.loop-place.invariant (omega (arith, c.size-place-end.ensures, c.loop-place-test.true)) c.put.ensures
+pub returns-in-Four : goal.returns-in-Four
+returns-in-Four c =
+    rw (c.in-Four.is, ← four_bytes c.args.n, ← c.to_le_bytes-in-Four.ensures) c.put_array-in-Four.ensures
 
-pub returns : goal.returns
-returns c =
-    plainly_all c.loop-place.invariant (omega (arith, c.size-place-end.ensures, c.loop-place-test.false))
+pub returns-in-Eight : goal.returns-in-Eight
+returns-in-Eight c =
+    rw (c.in-Eight.is, ← eight_bytes c.args.n, ← c.to_le_bytes-in-Eight.ensures) c.put_array-in-Eight.ensures

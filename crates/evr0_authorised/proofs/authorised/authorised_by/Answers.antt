@@ -36,9 +36,9 @@ returns-then-authorises c more =
     c.next.result first second c.loop-start.yielded_by (c.in-Some.start, c.in-Some.mark) c.in-Some.is c.next.ensures.steps
     in
     let view = proof_view more a.tables.payload.now in
-    let is : own (view (get_or a.tables.starts.now (length xs) 0)) (get_or a.marks.now (length xs) 0) a.proposition ≡ true =
+    let is : own (view (get_or a.tables.starts.now (length xs) 0)) (get_or a.marks.now (length xs) 0) a.proposition.0 ≡ true =
     rw (← turn.2 0, ← turn.3 0) (sym (c.authorises.ensures more) ∙ c.if-authorises.true) in
-    found_here view a.tables.starts.now a.marks.now a.proposition (length xs) (c.loop-start.invariant more) turn.0 c.requires is
+    found_here view a.tables.starts.now a.marks.now a.proposition.0 (length xs) (c.loop-start.invariant more) turn.0 c.requires is
 
 pub loop-start-preserved : goal.loop-start-preserved
 loop-start-preserved c more =
@@ -50,10 +50,10 @@ loop-start-preserved c more =
     c.next.result first second c.loop-start.yielded_by (c.in-Some.start, c.in-Some.mark) c.in-Some.is c.next.ensures.steps
     in
     let view = proof_view more a.tables.payload.now in
-    let is : own (view (get_or a.tables.starts.now (length xs) 0)) (get_or a.marks.now (length xs) 0) a.proposition ≡ false =
+    let is : own (view (get_or a.tables.starts.now (length xs) 0)) (get_or a.marks.now (length xs) 0) a.proposition.0 ≡ false =
     rw (← turn.2 0, ← turn.3 0) (sym (c.authorises.ensures more) ∙ c.if-authorises.false) in
     rw (length-append xs ((c.in-Some.start, c.in-Some.mark) ∷ []))
-    (goes_on view a.tables.starts.now a.marks.now a.proposition (length xs) (c.loop-start.invariant more) turn.0 c.requires is)
+    (goes_on view a.tables.starts.now a.marks.now a.proposition.0 (length xs) (c.loop-start.invariant more) turn.0 c.requires is)
 
 pub returns : goal.returns
 returns c more =
@@ -64,5 +64,5 @@ returns c more =
     let n = zip_end a.tables.starts.now a.marks.now xs c.into_iter-start-iterator.result c.loop-start.start-iterator c.next.new.self
     c.next.result first second c.loop-start.yielded_by c.in-None.is c.next.ensures.steps
     in
-    none_left_lem (proof_view more a.tables.payload.now) a.tables.starts.now a.marks.now a.proposition (length xs) (c.loop-start.invariant more)
+    none_left_lem (proof_view more a.tables.payload.now) a.tables.starts.now a.marks.now a.proposition.0 (length xs) (c.loop-start.invariant more)
     (omega (arith, n, c.requires))

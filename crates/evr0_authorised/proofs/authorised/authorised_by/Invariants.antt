@@ -8,4 +8,4 @@ use Rattle.evr0_authorised.proofs.authorised.authorised_by.Given as goal
 
 abbrev pub invariant-loop-start : goal.invariant-loop-start
 invariant-loop-start l =
-    (rules : List Rule) → LeftFrom (proof_view rules l.tables.payload.now) l.tables.starts.now l.marks l.proposition (length l.yielded)
+    (rules : List Rule) → LeftFrom (proof_view rules l.tables.payload.now) l.tables.starts.now l.marks l.proposition.0 (length l.yielded)

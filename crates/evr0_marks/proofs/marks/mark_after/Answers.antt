@@ -9,7 +9,7 @@ pub returns-then-first-end : goal.returns-then-first-end
 returns-then-first-end c rs =
     let t = c.args.tables in
     marked_end rs t.payload.now t.starts.now (layout_out t.layout) c.args.known.now c.requires (c.cells-first.ensures.numbers rs) c.if-first-end.true
-    c.after_name-rest.ensures c.le_at-witness.ensures (c.polarity.ensures rs) c.end_mark.ensures
+    c.after_name-rest.ensures c.le_at.ensures (c.polarity.ensures rs) c.end_mark.ensures
 
 pub by_parents-requires : goal.by_parents-requires
 by_parents-requires c =

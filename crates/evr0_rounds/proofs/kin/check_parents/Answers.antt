@@ -40,7 +40,7 @@ returns-in_err-check-2 c rs =
     let e : answer_out (λ done. done) c.from_residual-in_err-check-2.result ≡ refused (refusal_out c.in_err-check-2.field-0.0) = search rules in
     let number = number_is rs t.payload.now t.starts.now (layout_out t.layout) c.args.i c.requires (t.there.proofs c.args.i c.requires) in
     let agree = agree_is rs t.payload.now t.starts.now (layout_out t.layout) c.args.i c.requires c.parent-found.result (search rules)
-    c.le_at-proposition.ensures c.after_name.ensures c.le_at-authority.ensures c.agrees.ensures in
+    c.le_at.ensures c.after_name.ensures c.le_at-authority.ensures c.agrees.ensures in
     rw e
     (ap pass (sym (step_26 t.layout.parents_at (tables_by rs t) (proof_at (tables_by rs t) c.args.i) number _ c.loop-cell.cell c.loop-cell.least
     (omega arith) (c.parent-found.ensures rs) c.in_ok-check.ensures agree c.in_err-check-2.ensures)
@@ -52,7 +52,7 @@ loop-cell-preserved c rs =
     let l = c.loop-cell in
     let number = number_is rs t.payload.now t.starts.now (layout_out t.layout) c.args.i c.requires (t.there.proofs c.args.i c.requires) in
     let agree = agree_is rs t.payload.now t.starts.now (layout_out t.layout) c.args.i c.requires c.parent-found.result (search rules)
-    c.le_at-proposition.ensures c.after_name.ensures c.le_at-authority.ensures c.agrees.ensures in
+    c.le_at.ensures c.after_name.ensures c.le_at-authority.ensures c.agrees.ensures in
     let left : c.cells-first.result.1 - (l.cell + 1) ≡ c.cells-first.result.1 - l.cell - 1 = omega arith in
     rw left
     (sym (step_on t.layout.parents_at (tables_by rs t) (proof_at (tables_by rs t) c.args.i) number (c.cells-first.result.1 - l.cell) l.cell l.least

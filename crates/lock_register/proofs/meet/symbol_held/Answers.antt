@@ -1,17 +1,24 @@
--- Meets its contract: the chain gives the locks that are held, and the closure computes the test.
+-- Meets its contract: the eights and those behind them are the locks that are held.
 use borrow.Author.Rules.{rules}
-use borrow.Author.Tests.{tests}
 use mathlib.Core.Path.{◌∙◌}
 use lib.Dec.{eqb}
-use Rattle.std.proofs.lemmas.Iterator.{YieldsList-from_slice}
-use Rattle.std.proofs.lemmas.Iterator.Search.{any_from_yields_List}
 use Rattle.lock_words.specs.Words.{symbol_in}
-use Rattle.lock_register.proofs.MeetLaws.{symbol_among}
+use Rattle.lock_register.proofs.MeetLaws.{any_symbol}
+use Rattle.lock_register.proofs.EightLaws.{found, not_found}
 use Rattle.lock_register.proofs.meet.symbol_held.Goals as goal
 
-pub returns : goal.returns
-returns c =
+pub returns-then-any : goal.returns-then-any
+returns-then-any c =
     let held = c.held_locks.result.now in
-    any_from_yields_List (λ ws. eqb (symbol_in ws) c.args.symbol) _ _ c.any.result c.any.ensures.ran (YieldsList-from_slice held (cc))
-    (λ x b q k. search (rules, tests))
-    ∙ symbol_among c.args.register.now held c.held_locks.ensures c.args.symbol
+    let given = c.chunks_exact-eights.ensures in
+    found (λ ws. eqb (symbol_in ws) c.args.symbol) held _ _ _ c.any.result c.any.ensures.ran given.size given.rest (λ x b q k. search rules) c.if-any.true
+    ∙ any_symbol c.args.register.now held c.held_locks.ensures c.args.symbol
+
+pub returns-else-any : goal.returns-else-any
+returns-else-any c =
+    let held = c.held_locks.result.now in
+    let given = c.chunks_exact-eights.ensures in
+    c.symbol_among.ensures
+    ∙ not_found (λ ws. eqb (symbol_in ws) c.args.symbol) held _ _ _ c.any.result c.any.ensures.ran given.size given.rest (λ x b q k. search rules)
+    c.if-any.false c.remainder.result.now c.remainder.ensures given.remainder
+    ∙ any_symbol c.args.register.now held c.held_locks.ensures c.args.symbol
