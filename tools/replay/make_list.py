@@ -11,7 +11,8 @@ and for 61, which neither has: short_section, short_block and short_functions sa
 Writes crates/test_replay/stdin and crates/test_replay/stdout. An entry of the list is what crates/test_replay/src/asked.rt reads, and then
 the answer in the order in which crates/test_replay/src/section.rt, block.rt and functions.rt hold it against theirs: numbers of 4 bytes (offsets and
 cursors of 8), digests as they are, and the entries of the lent tables, which are lent a few entries longer than they need to be where the
-input does not say. The list is one of pages of 262,144 bytes, each of whole entries, filled up with bytes 255.
+input does not say. The list is one of pages of 262,144 bytes, each of whole entries, filled up with bytes 255;
+crates/test_replay/src/main.rt reads as many pages as PAGES.
 """
 import os
 import re
@@ -30,7 +31,7 @@ import sections
 SAMPLES = ("section 1 5 480 120", "wide 1 3 480 40", "block 1 12 300 120", "functions 1 3 400 30", "fixed")
 KINDS = ("Invalid", "Limit", "Strings", "Debug", "Ownership", "Added", "Truncated", "Name", "Signature")
 SECTION, BLOCK, FUNCTIONS = 0, 1, 2
-PAGE, PAGES, END = 262144, 21, b"\xff"
+PAGE, PAGES, END = 262144, 24, b"\xff"
 LARGEST = 2**64 - 1
 
 

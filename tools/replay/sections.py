@@ -185,6 +185,7 @@ HEAD = [
     put("issuer", text(b"")),
     put("issuer", text(b"\xff")),
     put("issuer", text(b"\x7f")),
+    put("issuer", text(b"b", 4096)),
     count(0, 65537),
     count(1, 65537),
     count(2, 262145),
@@ -224,7 +225,22 @@ RECORDS = (
     + [more("parents", 0), more("witnesses", UNOWNED), put("more", b"\0")]
     + [cell(0, 1), cell(0, 2), cell(1, 0), cell(1, 2), cell(0, 2**32 - 1), cell(2, 3), cell(2, 4), cell(2, 2**31)]
 )
-SOME = [field("propositions", 1, 0, text(b"k")), field("proofs", 1, "rule", text(b"X")), field("witnesses", 0, "polarity", 2), cell(0, 2)]
+SOME = [  # of 9 and of each number from 16 to 29 but 27
+    field("proofs", 0, "zeros", b"\1\0\0"),
+    field("propositions", 1, 0, text(b"k")),
+    field("proofs", 1, "number", 9),
+    field("proofs", 1, "witness", 9),
+    field("proofs", 1, "witnesses", 3),
+    field("proofs", 1, "rule", text(b"X")),
+    field("proofs", 1, "operation", 2),
+    more("witnesses", UNOWNED),
+    field("witnesses", 0, "polarity", 2),
+    put("more", b"\0"),
+    cell(0, 2),
+    field("proofs", 1, "authority", 8),
+    field("witnesses", 0, "proposition", 1),
+    field("witnesses", 0, "polarity", 0),
+]
 
 
 def faulty(start, *faults):
@@ -257,24 +273,40 @@ def kin():
             yield s
 
 
+def cells():
+    """Every two parents of a join, where one proof is of another proposition or authority: 25 and 26 in one cell, or in two, either first."""
+    for name, other in (("proposition", 1), ("authority", 8)):
+        for one, two, proof in itertools.product(range(4), repeat=3):
+            s = faulty(base(), cell(0, one), cell(1, two), field("proofs", proof, name, other))
+            if name == "proposition" and proof < 2:
+                s.witnesses[proof]["proposition"] = other
+            yield s
+
+
 def deep_pairs():
-    """Depth 257 at the last proof but one, and another fault before it, of it, or after it."""
+    """Depth 257, and another fault before it, of it, or after it: in the head, in the records, or of a proof on the chain or beside it."""
     start = with_propositions(b"k", b"l")
-    early, last = start.proof(POS), start.proof(NEG)
-    for _ in range(256):
+    early, first = start.proof(POS), start.proof(NEG)
+    before = start.proof(OP, (early,))
+    last = start.proof(OP, (first,))
+    for _ in range(255):
         last = start.proof(OP, (last,))
-    late = start.proof(POS)
+    after, late = start.proof(OP, (early,)), start.proof(POS)
     end = start.proof(JOIN, (early, late))
     yield start
-    for proof in (2, last, end):
+    for proof in (before, before + 1, last, after, end):
+        at = start.proofs[proof]["parent"]
         yield faulty(start, field("proofs", proof, "authority", 8))
-    for at in (0, last - 2, len(start.parents) - 1):
+        yield faulty(start, cell(at, proof))
         yield faulty(start, cell(at, 2**32 - 1))
+    yield faulty(start, cell(len(start.parents) - 1, early))
     for witness in (0, 1, 2):
         yield faulty(start, field("witnesses", witness, "proposition", 1))
         yield faulty(start, field("witnesses", witness, "polarity", start.witnesses[witness]["polarity"] ^ 1))
-    yield faulty(start, put("more", b"\0"))
     yield faulty(start, field("proofs", end, "operation", 1))
+    yield faulty(start, field("proofs", end, "rule", text(JOIN, 4096)))
+    for fault in HEAD + SOME:
+        yield faulty(start, fault)
 
 
 # ---- Limits and texts
@@ -452,7 +484,7 @@ def rooms():
 
 
 def inputs():
-    for make in (shapes, chains, pairs, kin, deep_pairs, texts, numbers, schemas):
+    for make in (shapes, chains, pairs, kin, cells, deep_pairs, texts, numbers, schemas):
         for s in make():
             yield s.bytes(), 0, None
     yield from payloads()

@@ -1,5 +1,6 @@
 //! Each C function of [`raw`](crate::raw) on slices: a slice is a pointer that is valid for its length, and tables that are lent as `&mut` overlap
-//! nothing. The only other unsafe code of this crate is the copy of a text that a contract says is UTF-8.
+//! nothing. The contracts of these functions, in crates/falgnust/src, have no `requires`: any slices and any numbers do. Other unsafe code of this
+//! crate takes room as written (calls/room.rs) and bytes as UTF-8 (`read::text`), where a contract that is named there says so.
 
 use crate::raw::*;
 
@@ -10,6 +11,7 @@ macro_rules! call {
         call!(@ $function [] $($arguments)*)
     };
     (@ $function:ident [$($c:expr),*]) => {
+        // SAFETY: the pointers are of slices and references; the function's contract in crates/falgnust/src asks nothing of its arguments.
         unsafe { $function($($c),*) }
     };
     (@ $function:ident [$($c:expr),*] in $slice:ident $(, $($rest:tt)*)?) => {

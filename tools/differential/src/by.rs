@@ -250,6 +250,17 @@ impl<'a> By<'a> {
         )
     }
 
+    pub fn depth_by_rounds(&self, file: &[u8], cursor: usize, lent: SectionTables) -> raw::Rounds {
+        call!(
+            self,
+            depth_by_rounds,
+            depth_by_rounds_by_rules,
+            file,
+            cursor,
+            lent
+        )
+    }
+
     pub fn authorised_table(&self, lent: Lent) -> raw::Section {
         call!(self, authorised_table, authorised_table_by_rules, lent)
     }
@@ -345,6 +356,14 @@ impl<'a> By<'a> {
         limit: u64,
     ) -> Found<evr0::WayDown> {
         crate_call!(self, way_down, file, cursor, from, limit)
+    }
+
+    pub fn crate_depth_by_rounds(
+        &self,
+        file: &[u8],
+        cursor: usize,
+    ) -> Result<Vec<u64>, evr0::Evr0Error> {
+        crate_call!(self, depth_by_rounds, file, cursor)
     }
 
     pub fn crate_authorised_table(

@@ -120,14 +120,8 @@ fn sequence(tally: &mut Tally, r: &mut Random) {
         register.one_set = Some(vec![]);
     }
     for _ in 0..STEPS {
-        match step(r, owners, sets.len()) {
-            Step::Claim(owner, set, case) => claim(tally, &mut register, owner, &sets[set], &case),
-            Step::Release(owner) => release(tally, &mut register, owner),
-        }
-        let safe = plain::safe(&plain::locks_in(&register.words.words));
-        tally.same(&true, &safe, || {
-            "a write touches a lock of another owner".into()
-        });
+        let step = step(r, owners, sets.len());
+        take(tally, &mut register, &step, &sets);
     }
     let (first, second) = (r.pick(&owners), r.pick(&owners));
     let mut other = register.clone();
@@ -141,6 +135,34 @@ fn sequence(tally: &mut Tally, r: &mut Random) {
     let after = |sides: &Sides| plain::locks_in(&sides.words.words);
     tally.same(&after(&register), &after(&other), || {
         format!("releases by {first} and {second}")
+    });
+}
+
+/// Steps in a register of these words and zeros after them, or in an empty one where there are none.
+pub fn compare(tally: &mut Tally, words: &[u64], steps: &[Step], sets: &[Source]) {
+    let mut register = match words {
+        [] => Sides::empty(),
+        _ => {
+            let mut given = words.iter().copied();
+            Sides::of(std::array::from_fn(|_| given.next().unwrap_or(0)))
+        }
+    };
+    register.read(tally, || "before all steps".into());
+    for step in steps {
+        take(tally, &mut register, step, sets);
+    }
+}
+
+/// A claim or a release. Where no write touched a lock of another owner, none does after it.
+fn take(tally: &mut Tally, register: &mut Sides, step: &Step, sets: &[Source]) {
+    let was_safe = plain::safe(&register.plain);
+    match step {
+        Step::Claim(owner, set, case) => claim(tally, register, *owner, &sets[*set], case),
+        Step::Release(owner) => release(tally, register, *owner),
+    }
+    let safe = plain::safe(&plain::locks_in(&register.words.words));
+    tally.same(&true, &(safe || !was_safe), || {
+        "a write touches a lock of another owner".into()
     });
 }
 

@@ -1,8 +1,10 @@
 //! Depth by rounds, which the Rust does not have: held to plain lines (tools/oracle/plain/rounds.rs), to the Rust's depths of every section that
-//! it accepts, and to its refusals but for 27 to 29; of schema 2 to those of its model. Each section is lent a table of rounds that is exact, longer, one short and empty, with the
-//! other tables long enough; what the call answers and leaves in all three is compared. Every second one goes by the four loaded as a table.
+//! it accepts, and to its refusals but for 27 to 29; of schema 2, and by a table of other rules, to those of its model. Each section is lent a table
+//! of rounds that is exact, longer, one short and empty, with the other tables long enough; what the call answers and leaves in all three is
+//! compared. Every second call by the four is by those loaded as a table.
 
 use crate::block_compare::OLD;
+use crate::by::By;
 use crate::section_binding::told;
 use crate::section_compare::{rooms, what};
 use crate::tally::{Outcome, Tally};
@@ -10,7 +12,7 @@ use answers::Answer;
 use answers::refusal::{Kind, Refusal};
 use answers::section::Section as Decoded;
 use falgnust::calls::{self, SectionTables};
-use falgnust::evr0::{self, RuleTable};
+use falgnust::evr0::RuleTable;
 use inputs::cases::{self, SectionCase};
 use inputs::marked::{self, with_a_second_proposition};
 use inputs::random::Random;
@@ -18,7 +20,7 @@ use inputs::section::Section;
 use inputs::section_conditions::counts_passed;
 use inputs::shapes;
 use oracle::rounds::{self, Records};
-use oracle::section::Judge;
+use oracle::rules;
 
 /// One section for so many of the count.
 const SHARE: usize = 5;
@@ -90,7 +92,7 @@ pub fn run(r: &mut Random, count: usize) -> Tally {
             0 => at_start(forced(r)),
             _ => any(r),
         };
-        let due = Due::of(&case);
+        let due = Due::of(&case, By::FOUR);
         if tally.lacks(due.outcome) {
             due.compare(&mut tally, &case);
         }
@@ -191,22 +193,29 @@ fn large(tally: &mut Tally, r: &mut Random) {
 }
 
 pub fn compare(tally: &mut Tally, case: &SectionCase) {
-    Due::of(case).compare(tally, case);
+    Due::of(case, By::FOUR).compare(tally, case);
 }
 
-/// What is due of a case: the rounds with the starts and the cursor, or the refusal.
-struct Due {
+/// By the rules of a table, where it loads.
+pub fn compare_by_table(tally: &mut Tally, table: &[u8], case: &SectionCase) {
+    if let (Ok(rules), Ok(loaded)) = (rules::load(table), RuleTable::load(table)) {
+        Due::of(case, By::table(&loaded, &rules)).compare(tally, case);
+    }
+}
+
+/// What is due of a case by some rules: the rounds with the starts and the cursor, or the refusal.
+struct Due<'a> {
+    by: By<'a>,
     rust: Answer<Decoded>,
     answer: Answer<(Records, Vec<u64>)>,
     outcome: Outcome,
 }
 
-impl Due {
-    fn of(case: &SectionCase) -> Due {
-        let judge = Judge::Rust.of(&case.file, case.cursor);
-        let rust = judge
-            .section(&case.file, case.cursor)
-            .map(|(section, _)| section);
+impl<'a> Due<'a> {
+    fn of(case: &SectionCase, by: By<'a>) -> Self {
+        let by = by.of(&case.file, case.cursor);
+        let rust = by.expected(&case.file, case.cursor);
+        let rust = rust.map(|(section, _)| section);
         let before = rust.as_ref().err().map(|refusal| refusal.number);
         let (answer, outcome) = match &rust {
             Err(refusal) if !(25..=29).contains(&refusal.number) => {
@@ -236,6 +245,7 @@ impl Due {
             }
         };
         Due {
+            by,
             rust,
             answer,
             outcome,
@@ -305,8 +315,9 @@ impl Due {
             }
         };
         let loaded = tally.inputs().is_multiple_of(2);
-        tally.same(&due, &call(case, rooms, loaded), || {
-            format!("room {rooms:?}, loaded {loaded}, {}", what(case))
+        tally.same(&due, &call(case, self.by, rooms, loaded), || {
+            let rules = self.by.told();
+            format!("{rules}room {rooms:?}, loaded {loaded}, {}", what(case))
         });
     }
 
@@ -316,15 +327,18 @@ impl Due {
             Ok((_, numbers)) => Ok(numbers.clone()),
             Err(refusal) => Err((refusal.offset, Some(refusal.number))),
         };
-        let found = told(evr0::depth_by_rounds(&case.file, case.cursor));
+        let found = told(self.by.crate_depth_by_rounds(&case.file, case.cursor));
         let found = found.map_err(|(error, number)| (error.offset, number));
-        tally.same(&due, &found, || format!("the binding, {}", what(case)));
+        tally.same(&due, &found, || {
+            format!("the binding, {}{}", self.by.told(), what(case))
+        });
     }
 }
 
 type Called = (Answer<usize>, usize, [Vec<u64>; 3]);
 
-fn call(case: &SectionCase, rooms: [usize; 3], loaded: bool) -> Called {
+/// By these rules; where they are the four, those loaded as a table or not.
+fn call(case: &SectionCase, by: By, rooms: [usize; 3], loaded: bool) -> Called {
     let mut tables = rooms.map(|room| vec![OLD; room]);
     let [propositions, proofs, depths] = &mut tables;
     let lent = SectionTables {
@@ -332,9 +346,9 @@ fn call(case: &SectionCase, rooms: [usize; 3], loaded: bool) -> Called {
         proofs,
         depths,
     };
-    let found = match loaded {
+    let found = match loaded && by.is_four() {
         true => calls::depth_by_rounds_by_rules(RuleTable::FOUR, &case.file, case.cursor, lent),
-        false => calls::depth_by_rounds(&case.file, case.cursor, lent),
+        false => by.depth_by_rounds(&case.file, case.cursor, lent),
     };
     let answer = match found.accepted {
         true => Ok(found.proofs),

@@ -3,11 +3,11 @@
 mod input;
 mod mutate;
 
-pub use input::{Case, by_rules, bytes, case, of_one_pool};
+pub use input::{Case, by_rules, bytes, case, of_one_pool, of_owners};
 
 use differential::by::By;
 use differential::tally::Tally;
-use differential::{block_compare, block_numbers, columns, marks, rules};
+use differential::{block_compare, block_numbers, columns, locks, marks, rounds, rules};
 use differential::{compare as pairs, function_compare, function_numbers};
 use differential::{section_compare, section_numbers};
 
@@ -38,6 +38,7 @@ fn compare(case: &Case) {
             section_numbers::compare_by(&mut tally, case, &rust, by);
             marks::compare(&mut tally, case, by, &rust);
             columns::write(&mut tally, By::FOUR, case);
+            rounds::compare(&mut tally, case);
         }
         Case::Block(case) => {
             let rust = oracle::block::block(&case.code, case.base, case.revision);
@@ -49,9 +50,13 @@ fn compare(case: &Case) {
             function_compare::compare(&mut tally, case);
             function_numbers::compare(&mut tally, case, &rust, function_compare::rooms(case));
         }
-        Case::Ruled(table, case) => rules::compare(&mut tally, table, case),
+        Case::Ruled(table, case) => {
+            rules::compare(&mut tally, table, case);
+            rounds::compare_by_table(&mut tally, table, case);
+        }
         Case::Compared(pair) => pairs::compare(&mut tally, pair, By::FOUR),
         Case::Columns(file) => columns::take(&mut tally, By::FOUR, file),
+        Case::Locks(words, steps) => locks::compare(&mut tally, words, steps, &input::sets()),
     }
     assert_eq!(tally.differences(), 0, "differences from the Rust");
 }

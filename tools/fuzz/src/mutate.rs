@@ -1,7 +1,7 @@
-//! Mutation: libFuzzer's own, and now and then a new section, block, file of functions, table of rules or column file with a fault or two, or a new
-//! pair of sections, which changes of bytes would not find.
+//! Mutation: libFuzzer's own, and now and then a new section, block, file of functions, table of rules or column file with a fault or two, a new
+//! pair of sections, or new claims and releases, which changes of bytes would not find.
 
-use crate::input::{Case, by_rules, bytes, of_one_pool};
+use crate::input::{Case, by_rules, bytes, of_one_pool, of_owners};
 use inputs::cases;
 use inputs::columns;
 use inputs::random::Random;
@@ -28,13 +28,14 @@ pub unsafe extern "C" fn LLVMFuzzerCustomMutator(
 ) -> usize {
     let mut r = Random::new(seed.into());
     if r.one_in(NEW) {
-        let case = match r.below(7) {
+        let case = match r.below(8) {
             0 => Case::Section(cases::section(&mut r)),
             1 => Case::Section(cases::section_in(&mut r, wide)),
             2 => Case::Block(cases::block(&mut r)),
             3 => Case::Functions(cases::functions(&mut r)),
             4 => by_rules(&mut r),
             5 => of_one_pool(&mut r),
+            6 => of_owners(&mut r),
             _ => Case::Columns(columns::small(&mut r)),
         };
         let new = bytes(&case);

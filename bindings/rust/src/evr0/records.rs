@@ -151,7 +151,8 @@ fn parents(payload: &[u8], section: &Section) -> Vec<u32> {
 #[inline]
 #[allow(unsafe_code)]
 fn accepted_text(payload: &[u8], start: u64, len: u64) -> String {
-    // SAFETY: these are the words of a text of a section that `falgnust_decode_evr0_section` accepted.
+    // SAFETY: these are the words of a text of a section that the decoder (`falgnust_decode_evr0_unmarked`, the same by rules, or the comparison of two)
+    // accepted, which is UTF-8 (`text_at` in crates/local_format/specs/Text.antt, refusal 7).
     unsafe { text(payload, start as usize, len as usize) }
 }
 

@@ -261,6 +261,7 @@ impl<'a> File<'a> {
 #[inline]
 #[allow(unsafe_code)]
 fn name(bytes: &[u8], head: raw::Function) -> String {
-    // SAFETY: this is the span of a name that `falgnust_read_function` accepted.
+    // SAFETY: this is the span of a name that `falgnust_read_function` or `falgnust_function_number` accepted, which is UTF-8 (`name_at` in
+    // crates/semcode_functions/specs/Function.antt, refusal 64).
     unsafe { read::text(bytes, head.name.start, head.name.len) }
 }

@@ -240,6 +240,7 @@ pub(crate) fn of_parts(parts: raw::Parts) -> DecodedAccessPathComponent {
 #[inline]
 #[allow(unsafe_code)]
 fn accepted_text(code: &[u8], start: usize, len: usize) -> String {
-    // SAFETY: place and length of a string that `falgnust_parse_string_table_debug_and_ownership` or `falgnust_string_number` accepted.
+    // SAFETY: place and length of a string that `falgnust_parse_string_table_debug_and_ownership` or `falgnust_string_number` accepted, which is UTF-8
+    // (`string_at` in crates/local_format/specs/Text.antt, refusal 34).
     unsafe { text(code, start, len) }
 }

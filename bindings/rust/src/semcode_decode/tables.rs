@@ -51,6 +51,40 @@ impl Few {
     }
 }
 
+/// Room on the stack where a few were too few: for all strings and families that a block can have, and for some symbols and paths.
+struct Near {
+    symbols: [MaybeUninit<DebugSymbol>; 64],
+    strings: [MaybeUninit<u64>; MAX_STRINGS_PER_FUNCTION],
+    paths: [MaybeUninit<u64>; 64],
+    families: [MaybeUninit<u8>; MAX_SIGNATURE_PARAMETERS_PER_FUNCTION],
+}
+
+impl Near {
+    #[inline]
+    fn new() -> Self {
+        Near {
+            symbols: [MaybeUninit::uninit(); 64],
+            strings: [MaybeUninit::uninit(); MAX_STRINGS_PER_FUNCTION],
+            paths: [MaybeUninit::uninit(); 64],
+            families: [MaybeUninit::uninit(); MAX_SIGNATURE_PARAMETERS_PER_FUNCTION],
+        }
+    }
+}
+
+/// So much room, on the stack where there is as much.
+#[inline]
+fn near_or_far<'a, T>(
+    near: &'a mut [MaybeUninit<T>],
+    far: &'a mut Vec<T>,
+    count: usize,
+) -> &'a mut [MaybeUninit<T>] {
+    if count <= near.len() {
+        return &mut near[..count];
+    }
+    far.reserve_exact(count);
+    &mut far.spare_capacity_mut()[..count]
+}
+
 /// How many of each there is room for, where a few were too few.
 struct Rooms {
     symbols: usize,
@@ -138,17 +172,15 @@ impl Block<'_> {
     #[inline(never)]
     pub fn parse_more(&self, refused: Refusal) -> Read<StringTableDebugOwnershipParse> {
         let (mut refused, mut rooms) = (refused, Rooms::few());
+        let mut near = Near::new();
+        let (mut symbols, mut paths) = (Vec::new(), Vec::new());
         while refused.number == 61 {
             rooms.widen(self, refused);
-            let mut symbols = Vec::with_capacity(rooms.symbols);
-            let mut strings = Vec::with_capacity(rooms.strings);
-            let mut paths = Vec::with_capacity(rooms.paths);
-            let mut families = Vec::with_capacity(rooms.families);
             let room = BlockRoom {
-                symbols: &mut symbols.spare_capacity_mut()[..rooms.symbols],
-                strings: &mut strings.spare_capacity_mut()[..rooms.strings],
-                paths: &mut paths.spare_capacity_mut()[..rooms.paths],
-                families: &mut families.spare_capacity_mut()[..rooms.families],
+                symbols: near_or_far(&mut near.symbols, &mut symbols, rooms.symbols),
+                strings: &mut near.strings[..rooms.strings],
+                paths: near_or_far(&mut near.paths, &mut paths, rooms.paths),
+                families: &mut near.families[..rooms.families],
             };
             match self.parse_in(room, Err) {
                 Err(refusal) => refused = refusal,

@@ -1,5 +1,5 @@
 //! Numbers in groups, at each width: every string of up to two bytes behind up to as many groups as the width has, and every string of three
-//! bytes at a text's length.
+//! bytes at a text's length, but for most bytes behind one that ends a number.
 
 use super::same::take_once;
 use crate::tally::Tally;
@@ -36,7 +36,7 @@ pub fn each(tally: &mut Tally, r: &mut Random) {
         by_value(tally, r, &before, &after, width);
     }
     let (before, after) = around(Columns::of(&section), 1);
-    for first in [0x00, 0x01, 0x7F, 0x80, 0x81, 0xA0, 0xFE, 0xFF] {
+    for first in (0x80..=0xFF).chain([0x00, 0x01, 0x7F]) {
         every_two(tally, &[&before[..], &[first]].concat(), &after);
     }
 }

@@ -43,6 +43,14 @@ pub fn compare(tally: &mut Tally, table: &[u8], case: &SectionCase, refusal: raw
     given.same(tally, "way down", way, |lent, _| {
         calls::way_down_by_rules(table, file, cursor, number, 255, lent)
     });
+    let rounds = raw::Rounds {
+        refusal,
+        cursor,
+        ..Default::default()
+    };
+    given.same(tally, "rounds", rounds, |lent, _| {
+        calls::depth_by_rounds_by_rules(table, file, cursor, lent)
+    });
     let proposition = raw::Proposition {
         refusal,
         ..Default::default()

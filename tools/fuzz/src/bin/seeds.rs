@@ -1,7 +1,7 @@
 //! Writes a corpus to start from: the specimens' shapes, and small sections, blocks, files of functions, tables of rules and column
-//! files, of which most have a fault, and pairs of sections.
+//! files, of which most have a fault, pairs of sections, and claims and releases.
 
-use fuzz::{Case, by_rules, bytes, of_one_pool};
+use fuzz::{Case, by_rules, bytes, of_one_pool, of_owners};
 use inputs::block::{self, REVISIONS};
 use inputs::cases::{self, BlockCase, SectionCase};
 use inputs::columns;
@@ -10,7 +10,7 @@ use inputs::shapes;
 use inputs::wide::wide;
 use std::path::Path;
 
-/// So many random sections of each schema, and as many blocks, files of functions, tables of rules and column files.
+/// So many random sections of each schema, and as many of each other kind.
 const EACH: usize = 300;
 
 fn main() -> std::io::Result<()> {
@@ -43,6 +43,7 @@ fn main() -> std::io::Result<()> {
         all.push(Case::Functions(cases::functions(r)));
         all.push(by_rules(r));
         all.push(of_one_pool(r));
+        all.push(of_owners(r));
         all.push(Case::Columns(columns::small(r)));
     }
     for (number, case) in all.iter().enumerate() {
