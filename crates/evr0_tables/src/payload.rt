@@ -87,8 +87,8 @@ fn read_four(
 
 // The same, with zeros past the starts, and past the polarities what stood there; a refusal leaves zeros in all three tables.
 // Kept (5a): a caller brings a schema, counts and a place of its own; a `Head` would ask it for eight fields more, which are read by none of these.
-// Kept (5d): `at ≤ length payload.now`: of a struct of both with this fact each of the seven takes both out again, and for each later table one is made,
-// with its proof.
+// Kept (5d): `at ≤ length payload.now`: a struct of payload and place with this fact would be taken apart by each of seven readers, and made anew, with its
+// proof, for each later table.
 pub fn read_tables(
     rules: &Rulebook,
     payload: &[u8],

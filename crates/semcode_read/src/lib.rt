@@ -131,8 +131,8 @@ pub fn path_number(
 
 // The component after so many others.
 // Kept (1a): the byte of the path's event, as `read_component` takes it.
-// Kept (5d): C, locks, path_words and path_end would each make the struct, and each step take it apart; `Steps` of path_words, without the place, serves
-// its own walk.
+// Kept (5d): C, locks, path_words and path_end would each make a struct of bytes, place, revision and kind, and each step take it apart; `Steps` of
+// path_words, without the place, serves its own walk.
 fn component_after(
     bytes: &[u8],
     at: usize,

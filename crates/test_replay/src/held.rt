@@ -68,6 +68,7 @@ fn number(list: &[u8], value: usize) -> Option<&[u8]> {
     }
 }
 
+// What is left of a list that has these entries at its front.
 // Kept (6d): the list is read from the front and answered as what is left of it: `?` after each field is the cursor.
 pub fn numbers<'a, T: Entry>(list: &'a [u8], values: &[T]) -> Option<&'a [u8]> {
     let mut rest = list;

@@ -148,7 +148,6 @@ pub fn scan(bytes: &[u8]) -> Option<Scanned>
         if is_printable(bytes[i]) {
             i += 1;
         } else {
-            // Kept (1b): by `?` each text takes three instructions more, in the rows of CJK texts of docs/PERFORMANCE.md; no row may take more.
             let c = char_at(bytes, i)?;
             i = c.next;
             control |= c.control;
