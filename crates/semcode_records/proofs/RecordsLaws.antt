@@ -77,7 +77,7 @@ places read at = do
   next ← next_of (read at)
   taken tt next
 
-next_places : {A : Type 0} (x : Out (Taken A)) → next_of (next_of x >>= λ next. taken {A = Unit {0}} tt next) ≡ next_of x
+pub next_places : {A : Type 0} (x : Out (Taken A)) → next_of (next_of x >>= λ next. taken {A = Unit {0}} tt next) ≡ next_of x
 next_places (ok t) = refl
 next_places (refused r) = refl
 

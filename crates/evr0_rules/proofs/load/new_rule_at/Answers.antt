@@ -12,8 +12,8 @@ invariant_of-name c =
 
 pub returns-in_err-check : goal.returns-in_err-check
 returns-in_err-check c =
-    rw (← turn _ _ _ _ _ c.in_ok-next.ensures (rw c.name-name.ensures at c.rule_named.ensures) c.is_none.ensures) (search rules)
+    rw (← turn _ _ _ _ _ c.in_ok-next.ensures (rw c.name-name.ensures at c.rule_named.ensures) c.is_none.ensures, ← c.in_err-check.ensures) (search rules)
 
 pub returns : goal.returns
 returns c =
-    rw (← turn _ _ _ _ _ c.in_ok-next.ensures (rw c.name-name.ensures at c.rule_named.ensures) c.is_none.ensures) (search rules)
+    rw (← turn _ _ _ _ _ c.in_ok-next.ensures (rw c.name-name.ensures at c.rule_named.ensures) c.is_none.ensures, ← c.in_ok-check.ensures)

@@ -1,11 +1,16 @@
 -- Each component moves the cursor to its end.
 use Rattle.std.proofs.Common.{◌≡◌, ◌-◌, ◌∙◌, arith, ap, sym, rules}
+use native.Mathlib.Nat.{sub-zero}
 use Rattle.local_format.specs.Out.{refused}
 use Rattle.local_format.specs.Maps.{refusal_out}
 use Rattle.semcode_records.specs.Records.{next_of, records, ends}
 use Rattle.semcode_records.specs.Component.{component_at}
 use Rattle.semcode_records.proofs.RecordsLaws.{none_left_lem, ends_refused, ends_on}
 use Rattle.semcode_records.proofs.component.skip_components.Goals as goal
+
+pub loop-init : goal.loop-init
+loop-init c =
+    rw sub-zero
 
 pub returns-in_err-cursor : goal.returns-in_err-cursor
 returns-in_err-cursor c =
