@@ -27,7 +27,7 @@ extern "C" {
 
 /* The version of this header: ten thousand times the first number, a hundred times the second, and the third. The first rises where a
  * struct, an argument or an answer changes, and the second where something is added. */
-#define FALGNUST_VERSION 70300
+#define FALGNUST_VERSION 70400
 
 /* Layouts: the size of each struct below is that of the struct in crates/falgnust/src. */
 #define FALGNUST_SIZE(type, size) FALGNUST_ASSERT(sizeof(type) == (size), #type " has another layout")
@@ -653,6 +653,20 @@ FalgnustBlock falgnust_parse_string_table_debug_and_ownership(
     uint64_t *strings, size_t strings_len,
     uint64_t *paths, size_t paths_len,
     uint8_t *families, size_t families_len);
+
+typedef struct FalgnustBlockWords {
+    FalgnustBlock block;
+    size_t words; /* how many words the block has; 0 where it is refused */
+} FalgnustBlockWords;
+FALGNUST_SIZE(FalgnustBlockWords, 104);
+
+/* Decodes a block and writes the words of its records to the front of one lent table, each record read once: of a string 2 words, the place and
+ * the length of its bytes; of a symbol 3, pc, line and column; of a path those of falgnust_path_words. They stand in the order of the block: the
+ * strings, the symbols, the paths. A family is the byte of the block at its place, from families_start on. Where the words do not fit, the block is
+ * refused with 61 at its end, where its instructions start. A table of code_len words is never too short. Past the words this table keeps what stood
+ * there; after a refusal it is zeros, whole. */
+FalgnustBlockWords falgnust_block_words(
+    size_t base_offset, const uint8_t *code, size_t code_len, uint16_t header_rev, uint64_t *words, size_t words_len);
 
 /* In each record of a block, next is the place after it. */
 

@@ -287,6 +287,17 @@ pub fn parse_string_table_debug_and_ownership(
     call!(falgnust_parse_string_table_debug_and_ownership(base_offset, in code, header_rev, out symbols, block lent))
 }
 
+/// A block, and the words of its records at the front of a table.
+#[inline]
+pub fn block_words(
+    base_offset: usize,
+    code: &[u8],
+    header_rev: u16,
+    words: &mut [u64],
+) -> BlockWords {
+    call!(falgnust_block_words(base_offset, in code, header_rev, out words))
+}
+
 /// A string of a block.
 #[inline]
 pub fn string_number(

@@ -21,7 +21,7 @@ pub use functions::*;
 pub use number::*;
 pub(crate) use records::of_parts;
 pub use signature::*;
-use tables::{Few, Lent};
+use tables::Lent;
 
 /// The most functions of a file.
 pub const MAX_FUNCTIONS: usize = 1024;
@@ -136,11 +136,7 @@ pub fn parse_string_table_debug_and_ownership(
     code: &[u8],
     header_rev: u16,
 ) -> Result<StringTableDebugOwnershipParse, DecodeError> {
-    let block = Block::new(base_offset, code, header_rev);
-    block.parse_in(Few::new().room(), |refusal| {
-        let parse = block.parse_more(refusal);
-        parse.map_err(|refusal| block.error(refusal))
-    })
+    Block::new(base_offset, code, header_rev).parse()
 }
 
 /// What is decoded.

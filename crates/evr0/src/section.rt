@@ -152,7 +152,7 @@ fn section_in<'p>(
 
 // The section at `cursor`, whose frame was read.
 // Kept (2d): `mark_section` of evr0_rounds has no digests to answer and no opening that is refused first; a frame and a `match` are the same.
-fn decode_at(
+pub fn decode_at(
     rules: &Rulebook,
     bytes: &[u8],
     frame: Frame,
@@ -243,8 +243,7 @@ pub fn decode_evr0_by(
 }
 
 // The same by the four.
-// Kept (2b): by `decode_evr0_by(Rules::Four, ..)`, which was proved, a section that is refused at its first field takes 1.6 of the time (D124): its answer
-// is copied once more.
+// Kept (2a): who decodes by the four alone, as the Rust does, brings no rules; one call.
 pub fn decode_evr0_unmarked(
     bytes: &[u8],
     cursor: usize,
@@ -256,10 +255,5 @@ pub fn decode_evr0_unmarked(
         (lent_of propositions.old proofs.old depths.old)
         (lent_of propositions.new proofs.new depths.new) (maps.answer_out result) }
 {
-    let mut tables = Tables {
-        propositions,
-        proofs,
-        depths,
-    };
-    decode(&Rulebook::Four, bytes, cursor, &mut tables)
+    decode_evr0_by(Rules::Four, bytes, cursor, propositions, proofs, depths)
 }

@@ -1,1 +1,3 @@
 pub mod EntryLaws
+pub mod BlockLaws
+pub mod SectionLaws

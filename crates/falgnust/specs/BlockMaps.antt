@@ -7,9 +7,11 @@ use Rattle.semcode_records.specs.Component as components
 use Rattle.semcode_records.specs.Path as paths
 use Rattle.semcode_records.specs.Numbers.{parts, numbered}
 use Rattle.semcode_decode.specs.Layout.{Layout}
+use Rattle.path_words.specs.Blocks.{Worded}
 use Rattle.falgnust.specs.Maps.{flat_refusal, no_refusal}
 use Rattle.falgnust.specs.declared.refusal.Refusal.{Refusal}
 use Rattle.falgnust.specs.declared.block.Block.{Block}
+use Rattle.falgnust.specs.declared.block.BlockWords.{BlockWords}
 use Rattle.falgnust.specs.declared.record.Symbol.{Symbol}
 use Rattle.falgnust.specs.declared.record.Event.{Event}
 use Rattle.falgnust.specs.declared.record.Path.{Path}
@@ -53,6 +55,11 @@ flat_block (ok l) =
       instr_start_offset = l.instructions;
     }
 flat_block (refused r) = no_block (flat_refusal r)
+
+-- a refusal has no words
+abbrev pub flat_block_words : Out Worded → BlockWords
+flat_block_words (ok w) = record { block = flat_block (ok w.layout); words = w.words }
+flat_block_words (refused r) = record { block = no_block (flat_refusal r); words = 0 }
 
 -- ---- Records
 

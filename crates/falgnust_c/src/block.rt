@@ -1,10 +1,12 @@
 // A function's block: its result, with string starts and path starts in two lent tables, the parameters' families in a table of bytes and
+// the debug symbols in a lent list; or with the words of its strings, symbols and paths in one table.
 ghost use Rattle.semcode_records.specs.Maps.{symbol_is};
 ghost use Rattle.semcode_decode.specs.Layout.{layout};
 ghost use Rattle.semcode_symbols.specs.Symbols.{lists, Fills};
-ghost use Rattle.falgnust.specs.BlockMaps.{flat_block};
+ghost use Rattle.path_words.specs.Blocks.{Puts};
+ghost use Rattle.falgnust.specs.BlockMaps.{flat_block, flat_block_words};
 
-use falgnust::block::Block;
+use falgnust::block::{Block, BlockWords};
 use semcode_records::symbol::DecodedDebugSymbol;
 
 #[unsafe(no_mangle)]
@@ -30,4 +32,18 @@ pub extern "C" fn falgnust_parse_string_table_debug_and_ownership(
         paths,
         families,
     )
+}
+
+// The words of its records go to the front of one table: of a string the place and the length of its bytes, of a symbol pc, line and column, of a path
+// those of `falgnust_path_words`. Past them is what stood there.
+#[unsafe(no_mangle)]
+pub extern "C" fn falgnust_block_words(
+    base_offset: usize,
+    code: &[u8],
+    header_rev: u16,
+    words: &mut [u64],
+) -> BlockWords
+    ensures { Puts flat_block_words base_offset header_rev code.now words.old words.new result }
+{
+    falgnust::block::falgnust_block_words(base_offset, code, header_rev, words)
 }

@@ -1,4 +1,5 @@
--- A path's words by what stands in front of its components: from the path that was read, and from its first 12 bytes, by its event's two bytes.
+-- A path's words, and where it ends, by what stands in front of its components: from the path that was read, and from its first 12 bytes, by its
+-- event's two bytes.
 use Prim.Native.Nat.{ℕ, zero, suc, ◌+◌, ◌*◌, ◌≤◌}
 use mathlib.Core.Path.{◌≡◌, refl, ap, sym, ◌∙◌}
 use mathlib.Core.Bool.{true, cond}
@@ -15,15 +16,17 @@ use Rattle.semcode_records.specs.declared.path.DecodedAccessPath.{DecodedAccessP
 use Rattle.semcode_records.specs.Maps.{taken_out, head_is}
 use Rattle.local_format.specs.Out.{Out, ok, refused, ◌>>=◌}
 use Rattle.local_format.specs.Field.{le}
-use Rattle.semcode_records.specs.Records.{Taken, Table, records, ends}
+use Rattle.local_format.proofs.OutLaws.{bind_ok, ok_same}
+use Rattle.semcode_records.specs.Records.{Taken, Table, next_of, records, ends}
 use Rattle.semcode_records.specs.Component.{Component, component_at}
 use Rattle.semcode_records.specs.Path.{Event, borrow, write, frame_entry, borrow_store_site, write_store_site, write_record_site}
 use Rattle.semcode_records.specs.Sizes.{site_size}
-use Rattle.semcode_records.specs.Path.{known, kind_of_event, Front, front_at, Head, head_at}
+use Rattle.semcode_records.specs.Path.{known, kind_of_event, or_unknown, Front, front_at, Path, path_at, Head, head_at}
 use Rattle.semcode_records.proofs.FrontLaws.{entry, store, written_store, written_record}
 use Rattle.semcode_records.proofs.PathLaws.{head_from, head_steps, front_kind, path_read, path_components}
 use Rattle.path_words.specs.Words.{component_words, words_of, path_words}
 use Rattle.semcode_records.specs.Numbers.{Numbered, numbered}
+use Rattle.path_words.specs.declared.Opening as coded
 use Rattle.path_words.specs.Front.{there, site_of, Opening, opening_words}
 
 pub both : (n : Numbered) {event site : ℕ} → event ≡ n.event → site ≡ n.site → record { event = event; site = site } ≡ n
@@ -76,6 +79,31 @@ module _ (revision : ℕ) (s : List ℕ) (at : ℕ) where
       let y = ap (λ (n : Numbered). n.site) q in
       let here = ap (λ (h : Head). there (records (reader (kind_of_event h.event)) h.count h.start)) (sym p.2) ∙ ap there c in
       rw (e, x, y, k, here)
+
+  -- an accepted path ends where its components do
+  path_last : {t : Taken Path} → path_at revision s at ≡ ok t → t.next ≡ t.value.components.end
+  unfolding path_at
+  path_last {t} h =
+      let a = bind_ok (front_at revision s at) _ h in
+      let e = bind_ok (records (reader a.0.kind) a.0.count a.0.start) _ a.2 in
+      let f = bind_ok (or_unknown 60 e.0.end a.0.kinded) _ e.2 in
+      let same = ok_same f.2 in
+      ap (λ (t : Taken Path). t.next) (sym same) ∙ ap (λ (t : Taken Path). t.value.components.end) same
+
+  -- the path ends where the components behind this opening do
+  abbrev pub Ends : coded.Opening → Type 0
+  Ends o = next_of (path_at revision s at) ≡ ends (records (reader o.kind) o.count o.start)
+
+  pub ends_told : {a b : coded.Opening} → Some a ≡ Some b → Ends a → Ends b
+  ends_told {a} {b} e h = let same : a ≡ b = cc in rw same at h
+
+  pub opened_ends : {t : Taken Head} → head_at revision s at ≡ ok t → {kind : ℕ} → kind ≡ kind_of_event t.value.event
+      → next_of (path_at revision s at) ≡ ends (records (reader kind) t.value.count t.value.start)
+  opened_ends {t} e k =
+      let p = path_read revision s at e in
+      let c = path_components revision s at p.1 in
+      let here = ap (λ (h : Head). ends (records (reader (kind_of_event h.event)) h.count h.start)) (sym p.2) ∙ ap ends c in
+      rw (p.1, k, here) (ap ok (path_last p.1))
 
   -- ---- From its front
 

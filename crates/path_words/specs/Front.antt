@@ -1,5 +1,5 @@
 -- A path's words from its front and from its components, as they are read once.
-use Rattle.std.specs.Prelude.{ℕ, Bool, true, false, cond, ◌&&◌, List, [], ◌∷◌, eqb}
+use Rattle.std.specs.Prelude.{ℕ, Bool, true, false, cond, ◌&&◌, List, [], ◌∷◌, Option, Some, None, eqb}
 use Rattle.local_format.specs.Out.{Out, ok, refused}
 use Rattle.semcode_records.specs.Records.{Taken, records}
 use Rattle.semcode_records.specs.Component.{Component}
@@ -11,6 +11,11 @@ use Rattle.path_words.specs.Words.{component_words}
 abbrev pub there : {A : Type 0} → Out A → Bool
 there (ok a) = true
 there (refused r) = false
+
+-- the answer, where there is one
+abbrev pub found : {A : Type 0} → Out A → Option A
+found (ok a) = Some a
+found (refused r) = None
 
 -- ---- What stands in front of a path's components
 

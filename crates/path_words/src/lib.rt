@@ -1,13 +1,19 @@
 // The fields of paths and of their components as words of a lent table, for whoever copies all paths of a block that was decoded.
 #![tactic(auto)]
 
-ghost use Rattle.std.specs.Prelude.{◌≡◌, ℕ, Some, None, is_some, true, cond, ◌+◌, ◌-◌, ◌*◌, ◌%◌, ◌^◌, ◌≤◌, length, take};
+pub mod block;
+mod records;
+
+ghost use Rattle.std.specs.Prelude.{◌≡◌, ℕ, Some, None, cond, ◌+◌, ◌-◌, ◌*◌, ◌/◌, ◌%◌, ◌^◌, ◌≤◌, length};
+ghost use Rattle.local_format.specs.Out.{ok};
+ghost use Rattle.lent_table.specs.Lent.{laid};
 ghost use Rattle.semcode_records.specs.Component.{component_at};
 ghost use Rattle.semcode_records.specs.Maps.{component_is};
-ghost use Rattle.semcode_records.specs.Records.{records};
+ghost use Rattle.semcode_records.specs.Path.{path_at};
+ghost use Rattle.semcode_records.specs.Records.{next_of, records, ends};
 ghost use Rattle.path_words.specs.Words.{component_word, step_of, component_words, path_words, fitting, Fits};
-ghost use Rattle.path_words.specs.Front.{there, site_of, opening_words};
-ghost use Rattle.path_words.specs.Maps.{step_is, opening_is};
+ghost use Rattle.path_words.specs.Front.{found, site_of, opening_words};
+ghost use Rattle.path_words.specs.Maps.{step_is, opening_is, words_in};
 
 use lent_table::clear_from;
 use local_format::field::{Field, LittleEndian};
@@ -28,21 +34,25 @@ fn component_word(component: DecodedAccessPathComponent) -> u64
     (kind as u64) + 4 * (first as u64) + 17179869184 * (second as u64)
 }
 
-fn power(bits: usize) -> u64
-    requires { bits ≤ 48 }
-    ensures { result ≡ 2 ^ bits }
-{
-    1 << bits
-}
+// The bits of the numbers of a component of so many bytes, above those of its kind.
+const NUMBERS: [u64; 8] = [
+    0,
+    0,
+    0xff,
+    0xffff,
+    0xff_ffff,
+    0xffff_ffff,
+    0xff_ffff_ffff,
+    0xffff_ffff_ffff,
+];
 
-// The word of a component of so many bytes, whose kind and whose next 6 bytes these are.
+// The word of a component of so many bytes, whose kind this is and which begin these 8.
 // Kept (1d): the kind's byte is the lowest bits of the word, so an enum of it would be made and turned back.
-fn sized_word(component_kind: u8, first: u32, second: u16, size: usize) -> u64
+fn sized_word(component_kind: u8, bytes: u64, size: usize) -> u64
     requires { (1 ≤ size) × (size ≤ 7) }
-    ensures { result ≡ component_kind + 4 * ((first + 4294967296 * second) % (2 ^ (8 * (size - 1)))) }
+    ensures { result ≡ component_kind + 4 * (bytes / 256 % 2 ^ (8 * (size - 1))) }
 {
-    let numbers = (first as u64) + 4294967296 * (second as u64);
-    (component_kind as u64) + 4 * (numbers % power(8 * (size - 1)))
+    component_kind as u64 + 4 * (bytes / 256 & NUMBERS[size])
 }
 
 // How the components of a path are read.
@@ -66,12 +76,13 @@ impl<'a> Steps<'a> {
         })
     }
 
-    // With no branch for the component's kind, where one of any kind would be there whole.
+    // With no branch for the component's kind, where 8 bytes are there.
+    #[inline(always)]
     fn step(&self, at: usize) -> Option<Field<u64>>
         ensures { step_is result ≡ step_of (component_at self.now.header_rev self.now.kind self.now.code.now at) }
     {
         let code = self.code;
-        if code.len() < 7 || code.len() - 7 < at {
+        if code.len().saturating_sub(7) <= at {
             return self.slow_step(at);
         }
         let component_kind = code[at];
@@ -79,23 +90,18 @@ impl<'a> Steps<'a> {
         if size == 0 {
             return self.slow_step(at);
         }
-        let value = sized_word(
-            component_kind,
-            u32::le_at(code, at + 1),
-            u16::le_at(code, at + 5),
-            size,
-        );
         Some(Field {
-            value,
+            value: sized_word(component_kind, u64::le_at(code, at), size),
             next: at + size,
         })
     }
 
-    // Components from a place on, as many as there are words; none where not all are there.
-    fn put(&self, at: usize, words: &mut [u64]) -> Option<()>
-        ensures all { is_some result ≡
-            there (records (component_at self.now.header_rev self.now.kind self.now.code.now) (length words.old) at) }
-        ensures puts { is_some result ≡ true → words.new ≡
+    // Components from a place on, as many as there are words: the place after them; none where not all are there.
+    #[inline(always)]
+    fn put(&self, at: usize, words: &mut [u64]) -> Option<usize>
+        ensures all { result ≡
+            found (ends (records (component_at self.now.header_rev self.now.kind self.now.code.now) (length words.old) at)) }
+        ensures puts { (next : ℕ) → result ≡ Some next → words.new ≡
             component_words (component_at self.now.header_rev self.now.kind self.now.code.now) (length words.old) at }
     {
         let mut cursor = at;
@@ -104,7 +110,7 @@ impl<'a> Steps<'a> {
             *word = value;
             cursor = next;
         }
-        Some(())
+        Some(cursor)
     }
 }
 
@@ -125,7 +131,9 @@ struct Opening {
 // None where the path is refused.
 // Kept (2d): `semcode_records::path::read_front` reads the front alone, this asks the whole path by `read_path`: the answers are alike, no step is.
 fn slow_opening(code: &[u8], at: usize, header_rev: u16) -> Option<Opening>
-    ensures { path_words header_rev code.now at ≡ opening_words (λ kind. component_at header_rev kind code.now) (opening_is result) }
+    ensures words { path_words header_rev code.now at ≡ opening_words (λ kind. component_at header_rev kind code.now) (opening_is result) }
+    ensures ends { (o : Opening) → result ≡ Some o
+        → next_of (path_at header_rev code.now at) ≡ ends (records (component_at header_rev o.kind code.now) o.count o.start) }
 {
     let path = read_path(code, at, header_rev).ok()?.value;
     let event = path.event;
@@ -147,13 +155,13 @@ fn site_of(size: usize, anchor: u32) -> u32
 }
 
 // With no branch for the event, where modes stand and the longest would be there whole.
+#[inline(always)]
 fn read_opening(code: &[u8], at: usize, header_rev: u16) -> Option<Opening>
-    ensures { path_words header_rev code.now at ≡ opening_words (λ kind. component_at header_rev kind code.now) (opening_is result) }
+    ensures words { path_words header_rev code.now at ≡ opening_words (λ kind. component_at header_rev kind code.now) (opening_is result) }
+    ensures ends { (o : Opening) → result ≡ Some o
+        → next_of (path_at header_rev code.now at) ≡ ends (records (component_at header_rev o.kind code.now) o.count o.start) }
 {
-    if header_rev < SEMCODE_OWNERSHIP_ANCHOR_MIN_REVISION
-        || code.len() < 12
-        || code.len() - 12 < at
-    {
+    if header_rev < SEMCODE_OWNERSHIP_ANCHOR_MIN_REVISION || code.len().saturating_sub(11) <= at {
         return slow_opening(code, at, header_rev);
     }
     let kind = code[at];
@@ -172,30 +180,39 @@ fn read_opening(code: &[u8], at: usize, header_rev: u16) -> Option<Opening>
     })
 }
 
-// The path at a place, to the first words: how many; none where it is refused or does not fit.
-fn put_path(code: &[u8], at: usize, header_rev: u16, words: &mut [u64]) -> Option<usize>
-    ensures many { result ≡ cond (fitting (length (path_words header_rev code.now at)) (length words.old))
+// How many words a record has, and the place after it.
+#[derive(Clone, Copy, Debug, PartialEq, Eq)]
+pub(crate) struct Put {
+    pub words: usize,
+    pub next: usize,
+}
+
+// The path at a place, to the first words; none where it is refused or does not fit. Compiled apart, it hands its answer over in memory.
+#[inline(always)]
+pub(crate) fn put_path(code: &[u8], at: usize, header_rev: u16, words: &mut [u64]) -> Option<Put>
+    ensures many { words_in result ≡ cond (fitting (length (path_words header_rev code.now at)) (length words.old))
         (Some (length (path_words header_rev code.now at))) None }
-    ensures puts { (size : ℕ) → result ≡ Some size → take size words.new ≡ path_words header_rev code.now at }
+    ensures next { (p : Put) → result ≡ Some p → next_of (path_at header_rev code.now at) ≡ ok p.next }
+    ensures puts { (p : Put) → result ≡ Some p → words.new ≡ laid (path_words header_rev code.now at) words.old }
+    ensures few { (p : Put) → result ≡ Some p → p.words ≤ 65539 }
 {
     let opening = read_opening(code, at, header_rev)?;
     let size = 4 + opening.count as usize;
     if words.len() < size {
         return None;
     }
-    words[..4].copy_from_slice(&[
-        opening.event as u64,
-        opening.site as u64,
-        opening.root as u64,
-        opening.count as u64,
-    ]);
+    // Kept (4b): `copy_from_slice` of the four takes 13 instructions more a path, which put them by and ask whether they lie apart from the words.
+    words[0] = opening.event as u64;
+    words[1] = opening.site as u64;
+    words[2] = opening.root as u64;
+    words[3] = opening.count as u64;
     let steps = Steps {
         code,
         header_rev,
         kind: opening.kind,
     };
-    steps.put(opening.start, &mut words[4..size])?;
-    Some(size)
+    let next = steps.put(opening.start, &mut words[4..size])?;
+    Some(Put { words: size, next })
 }
 
 // The paths that start at these places, as many as are there and fit, from the first on: how many. A path takes 4 words, event, site, root and
@@ -206,7 +223,12 @@ pub fn read_paths(code: &[u8], header_rev: u16, starts: &[u64], words: &mut [u64
 {
     let mut to: usize = 0;
     for (i, start) in starts.iter().enumerate() {
-        let Some(size) = put_path(code, *start as usize, header_rev, &mut words[to..]) else {
+        let Some(Put { words: size, .. }) = put_path(
+            code,
+            *start as usize,
+            header_rev,
+            &mut words[to..],
+        ) else {
             clear_from(words, to);
             return i;
         };

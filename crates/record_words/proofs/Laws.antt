@@ -88,7 +88,7 @@ put_size a k w zs e h = simp (length-append, length-take, length-drop) (omega ar
 pub last_size : (w : List ℕ) (a : ℕ) → length (take (length w - a) (drop a w)) ≡ length w - a
 last_size w a = simp (length-take, length-drop) (omega arith)
 
-last_put : (w zs : List ℕ) (a : ℕ) → put_mid a (length w - a) w zs ≡ take a w ++ zs
+pub last_put : (w zs : List ℕ) (a : ℕ) → put_mid a (length w - a) w zs ≡ take a w ++ zs
 last_put w zs a =
     let e : drop (length w - a) (drop a w) ≡ [] = ap (λ (k : ℕ). drop k (drop a w)) (sym (length-drop a w)) ∙ drop-length (drop a w) in
     rw (e, append-nil)

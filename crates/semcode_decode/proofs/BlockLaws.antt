@@ -31,10 +31,10 @@ step : {A B C E : Type 0} (x : Out A) (part : A → E) (f : A → Out B) (g : B 
 step (ok a) part f g h p = p a
 step (refused r) part f g h p = refl
 
-abbrev tagged_of : {A : Type 0} → Section A → Tagged
+abbrev pub tagged_of : {A : Type 0} → Section A → Tagged
 tagged_of s = record { found = s.found; extent = extent_of s.table }
 
-abbrev layout_from : Extent → Tagged → Tagged → Tagged → Layout
+abbrev pub layout_from : Extent → Tagged → Tagged → Tagged → Layout
 layout_from strings debug ownership signature =
     record {
       strings = strings.count;
@@ -58,11 +58,11 @@ pub layout_ok : (x : Out Block) {l : Layout} → layout x ≡ ok l → (b : Bloc
 layout_ok (ok b) h = (b, refl, ok_same h)
 layout_ok (refused r) h = absurd (never h)
 
-extent_ok : {A : Type 0} (x : Out (Table A)) {e : Extent} → extent x ≡ ok e → (t : Table A) × (x ≡ ok t) × (t.end ≡ e.end)
+pub extent_ok : {A : Type 0} (x : Out (Table A)) {e : Extent} → extent x ≡ ok e → (t : Table A) × (x ≡ ok t) × (t.end ≡ e.end)
 extent_ok (ok t) h = (t, refl, ap (λ (e : Extent). e.end) (ok_same h))
 extent_ok (refused r) h = absurd (never h)
 
-tagged_ok : {A : Type 0} (x : Out (Section A)) {g : Tagged} → tagged x ≡ ok g → (d : Section A) × (x ≡ ok d) × (tagged_of d ≡ g)
+pub tagged_ok : {A : Type 0} (x : Out (Section A)) {g : Tagged} → tagged x ≡ ok g → (d : Section A) × (x ≡ ok d) × (tagged_of d ≡ g)
 tagged_ok (ok d) h = (d, refl, ok_same h)
 tagged_ok (refused r) h = absurd (never h)
 
@@ -110,7 +110,7 @@ module _ (revision : ℕ) (rooms : Rooms) (s : List ℕ) where
       → block_of revision rooms s ≡ refused r
   signature_refused e e' e'' f = layout_refused (block_of revision rooms s) (layout_steps ∙ rw (e, e', e'', f))
 
-  block_is : {t : Table Span} {d : Section Symbol} {o : Section Path} {g : Section ℕ} → strings ≡ ok t → debug_at t.end ≡ ok d
+  pub block_is : {t : Table Span} {d : Section Symbol} {o : Section Path} {g : Section ℕ} → strings ≡ ok t → debug_at t.end ≡ ok d
       → ownership_at d.table.end ≡ ok o → signature_from (tagged_of o) ≡ ok g
       → block_of revision rooms s ≡ ok (record { strings = t; debug = d; ownership = o; signature = g })
   unfolding block_of

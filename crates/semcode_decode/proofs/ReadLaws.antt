@@ -109,7 +109,7 @@ module _ {A : Type 0} (read : ℕ → Out (Taken A)) where
   read_by : (count at : ℕ) {t : Table A} → records read count at ≡ ok t → ReadBy read t
   read_by count at h = (count, ap (records read count) (as_many read count at h).1 ∙ h)
 
-  section_read : (tag : List ℕ) (table_at : ℕ → Out (Table A)) (s : List ℕ) (at : ℕ) (x : Section A)
+  pub section_read : (tag : List ℕ) (table_at : ℕ → Out (Table A)) (s : List ℕ) (at : ℕ) (x : Section A)
       → ((at : ℕ) (t : Table A) → table_at at ≡ ok t → ReadBy read t) → section_at tag table_at s at ≡ ok x → ReadBy read x.table
   unfolding section_at
   section_read tag table_at s at x each h = go (tag_at tag s at) h
@@ -121,7 +121,7 @@ module _ {A : Type 0} (read : ℕ → Out (Taken A)) where
       go false k = rw (← ok_same k) (0, none_left_lem read at)
 
 module _ (revision : ℕ) (rooms : Rooms) (s : List ℕ) where
-  strings_read : (entries at : ℕ) (t : Table Span) → string_table s entries at ≡ ok t → ReadBy (string_record s) t
+  pub strings_read : (entries at : ℕ) (t : Table Span) → string_table s entries at ≡ ok t → ReadBy (string_record s) t
   unfolding string_table
   strings_read entries at t h =
       let c = bind_ok (field 30 2 s at) _ h in
@@ -129,7 +129,7 @@ module _ (revision : ℕ) (rooms : Rooms) (s : List ℕ) where
       let b = checked_ok (leb c.0.value entries) 61 c.0.next _ a.1 in
       read_by (string_record s) c.0.value c.0.next b.1
 
-  symbols_read : (entries at : ℕ) (t : Table Symbol) → symbol_table s entries at ≡ ok t → ReadBy (symbol_at s) t
+  pub symbols_read : (entries at : ℕ) (t : Table Symbol) → symbol_table s entries at ≡ ok t → ReadBy (symbol_at s) t
   unfolding symbol_table
   symbols_read entries at t h =
       let c = bind_ok (field 35 2 s at) _ h in
@@ -137,7 +137,7 @@ module _ (revision : ℕ) (rooms : Rooms) (s : List ℕ) where
       let b = checked_ok (leb c.0.value entries) 61 c.0.next _ a.1 in
       read_by (symbol_at s) c.0.value c.0.next b.1
 
-  paths_read : (entries at : ℕ) (t : Table Path) → path_table revision s entries at ≡ ok t → ReadBy (path_at revision s) t
+  pub paths_read : (entries at : ℕ) (t : Table Path) → path_table revision s entries at ≡ ok t → ReadBy (path_at revision s) t
   unfolding path_table
   paths_read entries at t h =
       let c = bind_ok (field 40 2 s at) _ h in
@@ -153,7 +153,7 @@ module _ (revision : ℕ) (rooms : Rooms) (s : List ℕ) where
       let l : count.value ≤ entries = leb-true count.value entries b in
       (read_by (family_at s) count.value count.next h3, rw (as_many (family_at s) count.value count.next h3).0 l)
 
-  signature_read : (ownership : Bool) (entries at : ℕ) (x : Section ℕ) → signature_at revision ownership s entries at ≡ ok x
+  pub signature_read : (ownership : Bool) (entries at : ℕ) (x : Section ℕ) → signature_at revision ownership s entries at ≡ ok x
       → ReadBy (family_at s) x.table × (length x.table.entries ≤ entries)
   unfolding signature_at
   signature_read ownership entries at x h = go (leb 20 revision) ownership h

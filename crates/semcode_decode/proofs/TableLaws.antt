@@ -49,37 +49,56 @@ kept_ok (ok t) e = (t, refl, ap (λ (k : Kept). k.starts) (ok_same e), ap (λ (k
 kept_ok (refused r) e = absurd (never e)
 
 module _ {A : Type 0} (read : ℕ → Out (Taken A)) (count at : ℕ) where
-  -- i records are read, the first of the rest stands at a place, and the first i entries are their starts
+  -- i records are read, which start at these places, and the first of the rest stands at a place
+  abbrev pub Passing : ℕ → ℕ → List ℕ → Type 0
+  Passing i place ss = kept (records read count at) ≡ after ss (kept (records read (count - i) place))
+
+  pub pass_first : Passing 0 at []
+  pass_first = rw sub-zero (after_none (kept (records read count at)))
+
+  module _ (i place : ℕ) (ss : List ℕ) (inv : Passing i place ss) where
+    pub pass_refused : {r : Refusal} → i < count → read place ≡ refused r → records read count at ≡ refused r
+    pass_refused more e =
+        kept_refused (records read count at) (inv ∙ ap (λ (x : Out (Table A)). after ss (kept x)) (first_refused_lem read count i place more e))
+
+    pub pass_on : {t : Taken A} → i < count → read place ≡ ok t → Passing (i + 1) t.next (ss ++ place ∷ [])
+    pass_on {t} more e =
+        inv
+        ∙ ap (λ (x : Out (Table A)). after ss (kept x)) (first_read read count i place more e)
+        ∙ after_one ss (record { start = place; value = t.value; next = t.next }) (records read (count - (i + 1)) t.next)
+
+  pub passed : (place : ℕ) (ss : List ℕ) → Passing count place ss
+      → (t : Table A) × (records read count at ≡ ok t) × (starts_of t ≡ ss) × (t.end ≡ place)
+  passed place ss inv =
+      let z : count - count ≡ 0 = omega arith in
+      let done : kept (records read count at) ≡ ok (record { starts = ss ++ []; end = place }) = inv ∙ rw (z, none_left_lem read place) in
+      let w = kept_ok (records read count at) done in
+      (w.0, w.1, w.2 ∙ append-nil ss, w.3)
+
+  -- the same, where the first i entries of a table are their starts
   abbrev pub Filling : ℕ → ℕ → List ℕ → Type 0
-  Filling i place xs = kept (records read count at) ≡ after (take i xs) (kept (records read (count - i) place))
+  Filling i place xs = Passing i place (take i xs)
 
   pub fill_first : (xs : List ℕ) → Filling 0 at xs
-  fill_first xs = rw sub-zero (after_none (kept (records read count at)))
+  fill_first xs = pass_first
 
   module _ (i place : ℕ) (xs : List ℕ) (inv : Filling i place xs) where
     pub fill_refused : {r : Refusal} → i < count → read place ≡ refused r → records read count at ≡ refused r
-    fill_refused more e =
-        kept_refused (records read count at) (inv ∙ ap (λ (x : Out (Table A)). after (take i xs) (kept x)) (first_refused_lem read count i place more e))
+    fill_refused more e = pass_refused i place (take i xs) inv more e
 
     pub fill_on : {t : Taken A} → i < count → i < length xs → read place ≡ ok t → Filling (i + 1) t.next (set xs i place)
     fill_on {t} more room e =
         let s : take (i + 1) (set xs i place) ≡ take i xs ++ place ∷ [] = rw add-one (take-suc-set xs i place room) in
-        inv
-        ∙ ap (λ (x : Out (Table A)). after (take i xs) (kept x)) (first_read read count i place more e)
-        ∙ after_one (take i xs) (record { start = place; value = t.value; next = t.next }) (records read (count - (i + 1)) t.next)
+        pass_on i place (take i xs) inv more e
         ∙ ap (λ (ys : List ℕ). after ys (kept (records read (count - (i + 1)) t.next))) (sym s)
 
   pub filled : (place : ℕ) (xs : List ℕ) → Filling count place xs → length xs ≤ count
       → (extent (records read count at) ≡ ok (record { start = at; count = count; end = place }))
       × ((t : Table A) → records read count at ≡ ok t → xs ≡ starts_of t)
   filled place xs inv all =
-      let z : count - count ≡ 0 = omega arith in
-      let done : kept (records read count at) ≡ ok (record { starts = take count xs ++ []; end = place }) =
-      inv ∙ rw (z, none_left_lem read place)
-      in
-      let w = kept_ok (records read count at) done in
+      let w = passed place (take count xs) inv in
       let many = as_many read count at w.1 in
-      let s : starts_of w.0 ≡ xs = w.2 ∙ append-nil (take count xs) ∙ take_all count xs all in
+      let s : starts_of w.0 ≡ xs = w.2 ∙ take_all count xs all in
       (rw (w.1, many.0, many.1, w.3), λ t e. sym s ∙ ap starts_of (ok_same (sym w.1 ∙ e)))
 
 -- where the place after the last record is known, so is the table's extent
@@ -92,7 +111,7 @@ extent_ends read count at e =
 
 -- ---- By a reader's places
 
-starts_blank : {A : Type 0} (es : List (Entry A))
+pub starts_blank : {A : Type 0} (es : List (Entry A))
     → map {A = Entry (Unit {0})} (λ e. e.start) (map (λ e. record { start = e.start; value = tt {0}; next = e.next }) es)
     ≡ map (λ e. e.start) es
 starts_blank [] = refl

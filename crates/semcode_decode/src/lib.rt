@@ -2,5 +2,5 @@
 #![tactic(auto)]
 
 pub mod decode;
-mod signature;
-mod table;
+pub mod signature;
+pub mod table;

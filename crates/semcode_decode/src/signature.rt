@@ -18,7 +18,7 @@ pub const MAX_SIGNATURE_PARAMETERS_PER_FUNCTION: u16 = 4096;
 
 // A byte from 1 to 15.
 #[tactic(auto, unfolding(crate::specs::Block::family_at))]
-fn read_family(bytes: &[u8], at: usize) -> Result<Field<u8>, Refusal>
+pub fn read_family(bytes: &[u8], at: usize) -> Result<Field<u8>, Refusal>
     ensures { answer_out (taken_out (λ family. family)) result ≡ family_at bytes.now at }
 {
     let Some(

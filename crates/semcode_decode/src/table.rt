@@ -74,7 +74,7 @@ fn fill_starts<F: Fn(usize) -> Result<usize, Refusal>>(
 // The count and the strings.
 // Kept (2d): the four tables differ in refusals, limit, room and walk: one function would take all these, the walk as a closure, for two `check`s and a `let`.
 #[tactic(auto, unfolding(crate::specs::Block::string_table))]
-pub fn string_table(bytes: &[u8], at: usize, strings: &mut [u64]) -> Result<Table, Refusal>
+pub(crate) fn string_table(bytes: &[u8], at: usize, strings: &mut [u64]) -> Result<Table, Refusal>
     ensures result_value { answer_out table_is result ≡ extent (string_table bytes.now (length strings.old) at) }
     ensures lies { Lies (string_table bytes.now (length strings.old) at) strings.old strings.new }
 {
@@ -164,7 +164,7 @@ fn ownership_table(
 }
 
 #[tactic(auto, unfolding(crate::specs::Block::section_at))]
-pub fn ownership_section(
+pub(crate) fn ownership_section(
     bytes: &[u8],
     at: usize,
     header_rev: u16,

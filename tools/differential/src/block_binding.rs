@@ -1,4 +1,4 @@
-//! A block through the crate that callers link: the records of the Rust's vectors, or its error with message and number.
+//! A block through the crate that callers link, as a short one and as a long one: the records of the Rust's vectors, or its error with message and number.
 
 use crate::block_compare::what;
 use crate::tally::Tally;
@@ -6,6 +6,9 @@ use falgnust::semcode_decode as port;
 use inputs::cases::BlockCase;
 use oracle::local_format as rust_format;
 use oracle::semcode_decode as rust;
+
+/// The fewest bytes of a block that is long to the crate.
+const LONG: usize = 16_385;
 
 /// An answer in the Rust's own types, with document 01's number of an error.
 pub type Told<T> = Result<T, (rust::DecodeError, Option<u8>)>;
@@ -61,6 +64,21 @@ struct Fields {
     has: [bool; 2],
     signature: Option<rust_format::CallableSignature>,
     places: [usize; 2],
+}
+
+/// With instructions behind it, so that the crate reads it as a long block.
+pub fn compare_long(tally: &mut Tally, case: &BlockCase) {
+    let BlockCase { base, revision, .. } = *case;
+    let mut code = case.code.clone();
+    code.resize(code.len().max(LONG), 0x44);
+    compare(
+        tally,
+        &BlockCase {
+            code,
+            base,
+            revision,
+        },
+    );
 }
 
 pub fn compare(tally: &mut Tally, case: &BlockCase) {

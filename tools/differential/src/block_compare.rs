@@ -1,7 +1,8 @@
-//! One block on both sides: the result, every entry of the lent list and of both lent tables, and every record.
+//! One block on both sides: the result, every entry of the lent list and of both lent tables, every record, and the words of all records.
 
 use crate::block_binding;
 use crate::block_numbers;
+use crate::block_words;
 use crate::tally::{Tally, hex};
 use answers::Answer;
 use answers::block::{Block, Event, Layout, Path, Symbol};
@@ -45,9 +46,11 @@ pub fn compare(tally: &mut Tally, case: &BlockCase) {
     }
     let rooms = rooms(case);
     with_rooms(tally, case, rooms, &rust);
+    block_words::compare(tally, case, &rust);
     block_binding::compare(tally, case);
     if tally.inputs().is_multiple_of(8) {
         block_numbers::compare(tally, case, &rust, rooms);
+        block_binding::compare_long(tally, case);
     }
     if let Ok(block) = &rust {
         records(tally, case, block);

@@ -6,6 +6,7 @@ pub mod block_binding;
 pub mod block_binding_numbers;
 pub mod block_compare;
 pub mod block_numbers;
+mod block_words;
 pub mod blocks;
 pub mod by;
 pub mod columns;

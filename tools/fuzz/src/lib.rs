@@ -7,7 +7,9 @@ pub use input::{Case, by_rules, bytes, case, of_one_pool, of_owners};
 
 use differential::by::By;
 use differential::tally::Tally;
-use differential::{block_compare, block_numbers, columns, locks, marks, rounds, rules};
+use differential::{
+    block_binding, block_compare, block_numbers, columns, locks, marks, rounds, rules,
+};
 use differential::{compare as pairs, function_compare, function_numbers};
 use differential::{section_compare, section_numbers};
 
@@ -44,6 +46,7 @@ fn compare(case: &Case) {
             let rust = oracle::block::block(&case.code, case.base, case.revision);
             block_compare::compare(&mut tally, case);
             block_numbers::compare(&mut tally, case, &rust, block_compare::rooms(case));
+            block_binding::compare_long(&mut tally, case);
         }
         Case::Functions(case) => {
             let rust = oracle::functions::functions(&case.file, case.cursor, case.revision);

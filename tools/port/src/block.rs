@@ -25,6 +25,21 @@ pub fn parse_string_table_debug_and_ownership(
     Ok(layout(b))
 }
 
+/// How many words there are, too; the words go to the front of the lent table.
+#[inline]
+pub fn block_words(
+    base_offset: usize,
+    code: &[u8],
+    header_rev: u16,
+    words: &mut [u64],
+) -> Answer<(Layout, usize)> {
+    let b = calls::block_words(base_offset, code, header_rev, words);
+    if !b.block.accepted {
+        return Err(refusal::answer(b.block.refusal));
+    }
+    Ok((layout(b.block), b.words))
+}
+
 pub(crate) fn layout(b: raw::Block) -> Layout {
     Layout {
         strings: b.string_count,

@@ -1,5 +1,6 @@
 //! Calls in room that need not be written before, which give the tables that the call has left there. The contract of each says what a table holds
-//! after the call, to the last entry and whatever stood in it (`lent` in crates/lent_table/specs/Lent.antt): so all of it is written.
+//! after the call, to the last entry and whatever stood in it (`lent` in crates/lent_table/specs/Lent.antt): so all of it is written. The one exception
+//! is `block_words_in`, whose contract says so of the front alone, and which gives no more than that.
 
 use crate::raw::*;
 use std::mem::MaybeUninit;
@@ -71,6 +72,22 @@ pub fn path_words_in<'a>(
 ) -> (usize, &'a [u64]) {
     let done = call!(falgnust_path_words(in code, header_rev, in starts, room room));
     (done, unsafe { room.assume_init_ref() })
+}
+
+/// What `then` makes of a block and of the words of its records. They stand at the front of the room, as many as the answer says, and past them what
+/// stood there: `Puts.table` and `words_left` in crates/path_words/specs/Blocks.antt. The answer is not moved, since a copy would wait for it to be
+/// written.
+#[inline(always)]
+pub fn block_words_in<T>(
+    base_offset: usize,
+    code: &[u8],
+    header_rev: u16,
+    room: &mut [MaybeUninit<u64>],
+    then: impl FnOnce(&Block, &[u64]) -> T,
+) -> T {
+    let answer = call!(falgnust_block_words(base_offset, in code, header_rev, room room));
+    let words = unsafe { room[..answer.words].assume_init_ref() };
+    then(&answer.block, words)
 }
 
 /// Room for the list and the tables of a block.

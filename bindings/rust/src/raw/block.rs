@@ -34,6 +34,16 @@ pub struct Block {
     pub instr_start_offset: usize,
 }
 
+/// A block whose words stand at the front of a table that is lent.
+#[repr(C)]
+#[derive(Debug, Default, Clone, Copy, PartialEq, Eq)]
+pub struct BlockWords {
+    /// The block.
+    pub block: Block,
+    /// How many words it has; 0 beside a refusal.
+    pub words: usize,
+}
+
 /// A debug symbol in a list that is lent.
 #[repr(C)]
 #[derive(Debug, Default, Clone, Copy, PartialEq, Eq)]
@@ -138,6 +148,18 @@ unsafe extern "C" {
         families: *mut u8,
         families_len: usize,
     ) -> Block;
+
+    /// A block, and the words of its records in one table: of each string 2, the place and the length of its bytes; of each symbol 3, pc, line and
+    /// column; of each path those of [`falgnust_path_words`](super::falgnust_path_words). A family is the byte of the block at its place. 61 at the block's
+    /// end where they do not fit. Entries past the words are left as they were.
+    pub fn falgnust_block_words(
+        base_offset: usize,
+        code: *const u8,
+        code_len: usize,
+        header_rev: u16,
+        words: *mut u64,
+        words_len: usize,
+    ) -> BlockWords;
 
     /// The debug symbol at a place of a block.
     pub fn falgnust_read_debug_symbol(code: *const u8, code_len: usize, at: usize) -> Symbol;

@@ -2,7 +2,8 @@
 //!
 //! A string is copied without a second look at its bytes. That they are UTF-8 is in the contracts: a block is accepted, and a string read,
 //! only where each string is (`string_at` in crates/local_format/specs/Text.antt, refusal 34), and the words of a string that was read are
-//! its place and length (`string_words` in crates/record_words/proofs/Read.antt).
+//! its place and length (`string_words` in crates/record_words/proofs/Read.antt); those of a block's strings are so by their definition
+//! (`string_words` in crates/path_words/specs/Blocks.antt).
 
 use super::signature::signature;
 use super::{
@@ -15,7 +16,44 @@ use crate::read::{Read, accepted, records, room, text, there, whole};
 use std::mem::MaybeUninit;
 
 impl Block<'_> {
-    /// An accepted block: every record is read at its place.
+    /// An accepted block by its words: those of its strings, symbols and paths. A family is the byte at its place.
+    #[inline]
+    pub fn of_words(&self, answer: &raw::Block, words: &[u64]) -> StringTableDebugOwnershipParse {
+        let (strings, words) = words.split_at(2 * answer.string_count);
+        let (symbols, mut words) = words.split_at(3 * answer.debug_symbol_count);
+        let mut texts = Vec::with_capacity(answer.string_count);
+        for [start, len] in strings.as_chunks().0 {
+            texts.push(accepted_text(self.code, *start as usize, *len as usize));
+        }
+        let symbols = symbols.as_chunks().0.iter();
+        let debug_symbols = symbols
+            .map(|[pc, line, col]| DecodedDebugSymbol {
+                pc: *pc as usize,
+                line: *line as u32,
+                col: *col as u16,
+            })
+            .collect();
+        let mut paths = room_for_paths(answer.path_count);
+        for _ in 0..answer.path_count {
+            words = push_path(words, &mut paths);
+        }
+        let families = &self.code[answer.families_start..][..answer.parameter_count];
+        let signature = signature(answer.has_signature, families);
+        let [borrowed_paths, write_paths] = paths; // copied last, since a copy waits for what was just written
+        StringTableDebugOwnershipParse {
+            strings: texts,
+            debug_symbols,
+            borrowed_paths,
+            write_paths,
+            has_ownership_section: answer.has_ownership_section,
+            has_debug_section: answer.has_debug_section,
+            string_table_end_offset: answer.string_table_end_offset,
+            signature,
+            instr_start_offset: answer.instr_start_offset,
+        }
+    }
+
+    /// A long one: every record is read at its place.
     #[inline(always)]
     pub fn records(
         &self,
@@ -24,7 +62,7 @@ impl Block<'_> {
     ) -> StringTableDebugOwnershipParse {
         let code = self.code;
         let starts = &lists.paths[..answer.path_count];
-        let mut paths = [Vec::new(), Vec::new()];
+        let mut paths = room_for_paths(starts.len());
         self.paths(starts, answer.instr_start_offset, &mut paths);
         let strings = records(
             code,
@@ -40,7 +78,8 @@ impl Block<'_> {
                 col: s.col,
             })
             .collect();
-        let signature = signature(answer, lists.families);
+        let families = &lists.families[..answer.parameter_count];
+        let signature = signature(answer.has_signature, families);
         let [borrowed_paths, write_paths] = paths; // copied last, since a copy waits for what was just written
         StringTableDebugOwnershipParse {
             strings,
@@ -80,7 +119,7 @@ impl Block<'_> {
         while let Some(first) = starts.first() {
             let (done, mut words) = calls::path_words_in(self.code, self.header_rev, starts, room);
             for _ in 0..done {
-                words = push_path(words, starts.len(), paths);
+                words = push_path(words, paths);
             }
             starts = &starts[done..];
             if done == 0 {
@@ -95,7 +134,7 @@ impl Block<'_> {
         let read = calls::read_path(self.code, start as usize, self.header_rev);
         let mut words = vec![0; 4 + read.component_count as usize];
         whole(calls::path_words(self.code, self.header_rev, &[start], &mut words) == 1);
-        push_path(&words, 1, paths);
+        push_path(&words, paths);
     }
 
     pub fn string(&self, read: raw::Text) -> Read<String> {
@@ -121,21 +160,24 @@ impl Block<'_> {
             activation,
             write_execution,
         };
-        Ok(match kind {
-            0 => DecodedEvent::Borrow(path),
-            _ => DecodedEvent::Write(path),
-        })
+        match kind {
+            0 => Ok(DecodedEvent::Borrow(path)),
+            1 => Ok(DecodedEvent::Write(path)),
+            _ => panic!("no event is {}", read.event.event),
+        }
     }
 }
 
+/// For the paths that are borrowed and for those that are written: room for all in either, since a test at each path would not be foreseen.
+#[inline]
+fn room_for_paths(count: usize) -> [Vec<DecodedAccessPath>; 2] {
+    [Vec::with_capacity(count), Vec::with_capacity(count)]
+}
+
 /// The path of the first of these words, to those that are borrowed or to those that are written, and the words after it. Events are mixed, so
-/// that no branch for them is foreseen. The first of either makes room for all that are left.
+/// that no branch for them is foreseen.
 #[inline(always)]
-fn push_path<'a>(
-    words: &'a [u64],
-    left: usize,
-    paths: &mut [Vec<DecodedAccessPath>; 2],
-) -> &'a [u64] {
+fn push_path<'a>(words: &'a [u64], paths: &mut [Vec<DecodedAccessPath>; 2]) -> &'a [u64] {
     let [number, site, root, count, rest @ ..] = words else {
         panic!("a path has 4 words");
     };
@@ -144,11 +186,7 @@ fn push_path<'a>(
         event: *number as u8,
         site: *site as u32,
     });
-    let paths = &mut paths[kind as usize];
-    if paths.capacity() == 0 {
-        *paths = Vec::with_capacity(left);
-    }
-    paths.push(DecodedAccessPath {
+    paths[kind as usize].push(DecodedAccessPath {
         root_symbol_id: *root as u32,
         components: components.iter().map(|word| of_word(*word)).collect(),
         activation,
@@ -178,7 +216,7 @@ fn of_word(word: u64) -> DecodedAccessPathComponent {
     component
 }
 
-/// The kind byte, 0 for a borrow and 1 for a write, and what the event carries.
+/// The kind byte, 0 for a borrow, 1 for a write and more for no event, and what the event carries.
 #[inline]
 fn event(
     event: raw::Event,
@@ -188,7 +226,6 @@ fn event(
     Option<DecodedWriteExecution>,
 ) {
     let raw::Event { event, site } = event;
-    assert!(event < 6, "no event is {event}");
     let activation = match event {
         1 => Some(DecodedBorrowActivation::FrameEntry),
         2 => Some(DecodedBorrowActivation::StoreVarSite(site)),
@@ -240,7 +277,7 @@ pub(crate) fn of_parts(parts: raw::Parts) -> DecodedAccessPathComponent {
 #[inline]
 #[allow(unsafe_code)]
 fn accepted_text(code: &[u8], start: usize, len: usize) -> String {
-    // SAFETY: place and length of a string that `falgnust_parse_string_table_debug_and_ownership` or `falgnust_string_number` accepted, which is UTF-8
-    // (`string_at` in crates/local_format/specs/Text.antt, refusal 34).
+    // SAFETY: place and length of a string that `falgnust_block_words`, `falgnust_parse_string_table_debug_and_ownership` or `falgnust_string_number`
+    // accepted, which is UTF-8 (`string_at` in crates/local_format/specs/Text.antt, refusal 34).
     unsafe { text(code, start, len) }
 }

@@ -1,7 +1,5 @@
 //! The signature of a function.
 
-use crate::raw;
-
 /// What a parameter is at run time.
 #[repr(u8)]
 #[derive(Debug, Clone, Copy, PartialEq, Eq, Hash)]
@@ -62,13 +60,10 @@ pub struct CallableSignature {
     pub families: Vec<CallableValueFamily>,
 }
 
-/// That of an accepted block whose families were lent this table.
-pub(super) fn signature(answer: &raw::Block, families: &[u8]) -> Option<CallableSignature> {
+/// That of an accepted block which has one, by the bytes of its families.
+pub(super) fn signature(there: bool, families: &[u8]) -> Option<CallableSignature> {
     let known = |byte: &u8| CallableValueFamily::from_byte(*byte).expect("a family of 1 to 15");
-    answer.has_signature.then(|| CallableSignature {
-        families: families[..answer.parameter_count]
-            .iter()
-            .map(known)
-            .collect(),
+    there.then(|| CallableSignature {
+        families: families.iter().map(known).collect(),
     })
 }

@@ -1,7 +1,7 @@
 //! The tables that are lent.
 
 use super::{
-    Block, MAX_DEBUG_SYMBOLS_PER_FUNCTION, MAX_SIGNATURE_PARAMETERS_PER_FUNCTION,
+    Block, DecodeError, MAX_DEBUG_SYMBOLS_PER_FUNCTION, MAX_SIGNATURE_PARAMETERS_PER_FUNCTION,
     MAX_STRINGS_PER_FUNCTION, StringTableDebugOwnershipParse,
 };
 use crate::calls::{self, BlockRoom, BlockTables};
@@ -15,43 +15,17 @@ pub struct Lent<'a> {
     pub starts: BlockTables<'a>,
 }
 
+/// How many words are lent on the stack, and the most bytes of a block whose words are lent at all.
+const NEAR: usize = 1024;
+const FAR: usize = 16_384;
+
 /// How many strings, symbols, paths and families there is room for first. All of it is written in each call, so it is little.
 const FEW: usize = 8;
 
 /// A symbol takes more time than an entry of another table.
 const FEW_SYMBOLS: usize = 4;
 
-/// Room for a few of each.
-pub struct Few {
-    symbols: [MaybeUninit<DebugSymbol>; FEW_SYMBOLS],
-    strings: [MaybeUninit<u64>; FEW],
-    paths: [MaybeUninit<u64>; FEW],
-    families: [MaybeUninit<u8>; FEW],
-}
-
-impl Few {
-    #[inline]
-    pub fn new() -> Self {
-        Few {
-            symbols: [MaybeUninit::uninit(); FEW_SYMBOLS],
-            strings: [MaybeUninit::uninit(); FEW],
-            paths: [MaybeUninit::uninit(); FEW],
-            families: [MaybeUninit::uninit(); FEW],
-        }
-    }
-
-    #[inline]
-    pub fn room(&mut self) -> BlockRoom<'_> {
-        BlockRoom {
-            symbols: &mut self.symbols,
-            strings: &mut self.strings,
-            paths: &mut self.paths,
-            families: &mut self.families,
-        }
-    }
-}
-
-/// Room on the stack where a few were too few: for all strings and families that a block can have, and for some symbols and paths.
+/// Room on the stack: for all strings and families that a block can have, and for some symbols and paths.
 struct Near {
     symbols: [MaybeUninit<DebugSymbol>; 64],
     strings: [MaybeUninit<u64>; MAX_STRINGS_PER_FUNCTION],
@@ -85,7 +59,7 @@ fn near_or_far<'a, T>(
     &mut far.spare_capacity_mut()[..count]
 }
 
-/// How many of each there is room for, where a few were too few.
+/// How many of each there is room for.
 struct Rooms {
     symbols: usize,
     strings: usize,
@@ -167,36 +141,65 @@ impl Block<'_> {
         }
     }
 
-    /// The same of a block that was refused so, in room that need not be written before.
+    /// The block with its records. Its words are lent as many entries as it has bytes, since it has no more words than bytes: a string has 2 bytes and 2
+    /// words at least, a symbol 10 and 3, a path 7 and 4, a component 3 and 1. Of a longer block fewer are lent first, which do for most; one that has
+    /// more is read again with as many as it has bytes, and a long one by its tables, since so much room would be far.
+    #[inline]
+    pub fn parse(&self) -> Result<StringTableDebugOwnershipParse, DecodeError> {
+        let bytes = self.code.len();
+        if bytes > FAR {
+            return self.by_tables();
+        }
+        let mut near = [MaybeUninit::uninit(); NEAR];
+        self.by_words(&mut near[..bytes.min(NEAR)], || {
+            let mut far = Vec::with_capacity(bytes);
+            self.by_words(far.spare_capacity_mut(), || self.by_tables())
+        })
+    }
+
+    /// The same by its words, or what follows where they do not fit.
+    #[inline(always)]
+    fn by_words(
+        &self,
+        room: &mut [MaybeUninit<u64>],
+        short: impl FnOnce() -> Result<StringTableDebugOwnershipParse, DecodeError>,
+    ) -> Result<StringTableDebugOwnershipParse, DecodeError> {
+        calls::block_words_in(
+            self.base_offset,
+            self.code,
+            self.header_rev,
+            room,
+            |answer, words| match answer.refusal.number {
+                0 => Ok(self.of_words(answer, words)),
+                61 => short(),
+                _ => Err(self.error(answer.refusal)),
+            },
+        )
+    }
+
+    /// The same by the starts of its records, in room that need not be written before: few of each, and more where that is refused.
     #[cold]
     #[inline(never)]
-    pub fn parse_more(&self, refused: Refusal) -> Read<StringTableDebugOwnershipParse> {
-        let (mut refused, mut rooms) = (refused, Rooms::few());
+    fn by_tables(&self) -> Result<StringTableDebugOwnershipParse, DecodeError> {
+        let mut rooms = Rooms::few();
         let mut near = Near::new();
         let (mut symbols, mut paths) = (Vec::new(), Vec::new());
-        while refused.number == 61 {
-            rooms.widen(self, refused);
+        loop {
             let room = BlockRoom {
                 symbols: near_or_far(&mut near.symbols, &mut symbols, rooms.symbols),
                 strings: &mut near.strings[..rooms.strings],
                 paths: near_or_far(&mut near.paths, &mut paths, rooms.paths),
                 families: &mut near.families[..rooms.families],
             };
-            match self.parse_in(room, Err) {
-                Err(refusal) => refused = refusal,
-                parse => return parse,
+            match self.parse_in(room) {
+                Err(refusal) if refusal.number == 61 => rooms.widen(self, refusal),
+                parse => return parse.map_err(|refusal| self.error(refusal)),
             }
         }
-        Err(refused)
     }
 
-    /// The block with its records, or what follows from its refusal.
     #[inline(always)]
-    pub fn parse_in<E>(
-        &self,
-        room: BlockRoom,
-        refused: impl FnOnce(Refusal) -> Result<StringTableDebugOwnershipParse, E>,
-    ) -> Result<StringTableDebugOwnershipParse, E> {
+    fn parse_in(&self, room: BlockRoom) -> Read<StringTableDebugOwnershipParse> {
         calls::parse_string_table_debug_and_ownership_in(
             self.base_offset,
             self.code,
@@ -204,7 +207,7 @@ impl Block<'_> {
             room,
             |answer, lists| match answer.accepted {
                 true => Ok(self.records(answer, lists)),
-                false => refused(answer.refusal),
+                false => Err(answer.refusal),
             },
         )
     }

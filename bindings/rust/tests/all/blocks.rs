@@ -7,7 +7,7 @@ use falgnust::semcode_decode::{
     symbol_number,
 };
 
-const BASES: [usize; 3] = [0, 1000, usize::MAX - 3];
+pub const BASES: [usize; 3] = [0, 1000, usize::MAX - 3];
 
 /// Number and offset of a refusal.
 fn refused(base: usize, block: &[u8], revision: u16) -> (Option<u8>, Option<usize>) {
@@ -145,7 +145,7 @@ fn numbers_that_are_not_there() {
 }
 
 /// The block of these many strings, symbols, paths and families.
-fn with(counts: [usize; 4]) -> Vec<u8> {
+pub fn with(counts: [usize; 4]) -> Vec<u8> {
     let [strings, symbols, paths, families] = counts.map(|count| (count as u16).to_le_bytes());
     [
         &strings[..],

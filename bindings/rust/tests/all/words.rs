@@ -203,7 +203,7 @@ fn path(event: &[u8], components: &[&[u8]]) -> Vec<u8> {
 }
 
 /// Two borrows with a component of each kind and two writes with one of each that they can have, and where these start.
-fn paths() -> (Vec<u8>, [u64; 4]) {
+pub fn paths() -> (Vec<u8>, [u64; 4]) {
     let (mut code, mut starts) = (vec![], [0; 4]);
     let events: [(&[u8], usize); 4] = [
         (b"\x00\x00", 4),

@@ -4,7 +4,7 @@ use mathlib.Core.List.{List, ◌++◌}
 use lib.ListN.{get_or, take}
 use Rattle.record_words.proofs.Laws.{last_size}
 use Rattle.path_words.specs.Words.{path_words}
-use Rattle.path_words.proofs.Laws.{one_some, put_front, put_kept, fill_first, fill_stop, fill_on, fill_end}
+use Rattle.path_words.proofs.Laws.{one_some, laid_front, put_front, put_kept, fill_first, fill_stop, fill_on, fill_end}
 use Rattle.path_words.proofs.read_paths.Goals as goal
 
 pub loop-i-init : goal.loop-i-init
@@ -28,9 +28,9 @@ loop-i-preserved c =
     let inv = c.loop-i.invariant in
     let p = rw (last_size c.loop-i.words c.loop-i.to) at c.in-Some.ensures.many in
     let one = one_some (path_words c.args.header_rev c.args.code.now (get_or c.args.starts.now c.loop-i.i 0)) _ _ p in
-    fill_on _ _ c.loop-i.i c.loop-i.to _ c.loop-i.words inv _ (omega arith) c.in-Some.size p (omega (arith, c.put_path.auto.words))
-    (put_front c.loop-i.to _ c.loop-i.words _ inv.within c.in-Some.size (omega (arith, one.within, c.put_path.auto.words))
-    ∙ ap (λ (ws : List ℕ). take c.loop-i.to c.loop-i.words ++ ws) (c.in-Some.ensures.puts c.in-Some.size refl))
+    fill_on _ _ c.loop-i.i c.loop-i.to _ c.loop-i.words inv _ (omega arith) c.in-Some.field-0.words p (omega (arith, c.put_path.auto.words))
+    (put_front c.loop-i.to _ c.loop-i.words _ inv.within c.in-Some.field-0.words (omega (arith, one.within, c.put_path.auto.words))
+    ∙ ap (λ (ws : List ℕ). take c.loop-i.to c.loop-i.words ++ ws) (laid_front _ one.many (c.in-Some.ensures.puts c.in-Some.field-0 refl)))
 
 pub returns : goal.returns
 returns c =

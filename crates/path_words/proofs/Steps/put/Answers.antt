@@ -1,7 +1,7 @@
 -- The words of the components before are written, and the rest follows.
 use Rattle.std.proofs.Common.{arith, ap, sym}
 use Rattle.path_words.specs.Words.{Step}
-use Rattle.path_words.proofs.Laws.{put_first, put_more, put_refused, put_last, unlike}
+use Rattle.path_words.proofs.Laws.{put_first, put_more, put_refused, put_last}
 use Rattle.path_words.proofs.Steps.put.Goals as goal
 
 pub loop-word-init : goal.loop-word-init
@@ -12,7 +12,7 @@ returns-in_err-value c =
     rw c.from_residual.ensures (record {
       all = put_refused _ _ _ c.loop-word.word-index c.loop-word.cursor c.loop-word.word-items c.loop-word.invariant (omega arith)
           (ap (λ (s : Step). s.whole) (sym c.in_err-value.ensures));
-      puts = λ e. absurd (unlike e);
+      puts = λ next e. absurd (cc);
     })
 
 pub loop-word-preserved : goal.loop-word-preserved
@@ -22,4 +22,4 @@ loop-word-preserved c =
 pub returns : goal.returns
 returns c =
     let done = put_last _ _ _ c.loop-word.word-index c.loop-word.cursor c.loop-word.word-items c.loop-word.invariant (omega arith) (omega arith) in
-    record { all = done.0; puts = λ _. done.1 }
+    record { all = done.0; puts = λ next _. done.1 }

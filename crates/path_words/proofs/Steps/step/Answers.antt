@@ -1,4 +1,4 @@
--- Where 7 bytes are there, the component's size decides its word.
+-- Where 8 bytes are there, the component's size decides its word.
 use Prim.Native.Nat.{ℕ, ◌<◌}
 use native.Mathlib.Omega.{arith}
 use borrow.Author.Rules.{rules}
@@ -7,8 +7,8 @@ use Rattle.semcode_records.proofs.SizeLaws.{Sized, sized}
 use Rattle.path_words.proofs.Laws.{size_within, step_sized}
 use Rattle.path_words.proofs.Steps.step.Goals as goal
 
-pub sized_word-value-requires : goal.sized_word-value-requires
-sized_word-value-requires c =
+pub sized_word-requires : goal.sized_word-requires
+sized_word-requires c =
     let bytes : (k : ℕ) → get_or c.args.self.now.code.now k 0 < 256 = λ k. search rules in
     let by_size : let a = c.args in Sized a.self.now.header_rev a.self.now.kind a.self.now.code.now a.at c.component_size-size.result =
     let a = c.args in
@@ -23,5 +23,4 @@ returns c =
     let a = c.args in
     sized a.self.now.header_rev a.self.now.kind a.self.now.code.now a.at (omega arith) _ (rw c.component_sizes.ensures at c.component_size-size.ensures.0)
     (omega arith) in
-    rw (c.sized_word-value.ensures, c.le_at-2.ensures, c.le_at.ensures)
-    (step_sized _ _ _ _ _ bytes by_size)
+    rw c.sized_word.ensures (step_sized _ _ _ _ _ bytes _ c.le_at.ensures by_size)
