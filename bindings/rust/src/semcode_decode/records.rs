@@ -8,7 +8,8 @@
 use super::signature::signature;
 use super::{
     Block, DecodedAccessPath, DecodedAccessPathComponent, DecodedBorrowActivation,
-    DecodedDebugSymbol, DecodedEvent, DecodedWriteExecution, StringTableDebugOwnershipParse,
+    DecodedDebugSymbol, DecodedEvent, DecodedWriteExecution, MAX_STRINGS_PER_FUNCTION,
+    StringTableDebugOwnershipParse,
 };
 use crate::calls::{self, BlockLists};
 use crate::raw;
@@ -21,10 +22,18 @@ impl Block<'_> {
     pub fn of_words(&self, answer: &raw::Block, words: &[u64]) -> StringTableDebugOwnershipParse {
         let (strings, words) = words.split_at(2 * answer.string_count);
         let (symbols, mut words) = words.split_at(3 * answer.debug_symbol_count);
-        let mut texts = Vec::with_capacity(answer.string_count);
-        for [start, len] in strings.as_chunks().0 {
-            texts.push(accepted_text(self.code, *start as usize, *len as usize));
-        }
+        let text =
+            |[start, len]: &[u64; 2]| accepted_text(self.code, *start as usize, *len as usize);
+        let strings = strings.as_chunks().0;
+        let texts = if strings.len() <= SOME_STRINGS {
+            let mut texts = Vec::with_capacity(strings.len());
+            for words in strings {
+                texts.push(text(words));
+            }
+            texts
+        } else {
+            many(strings, text)
+        };
         let symbols = symbols.as_chunks().0.iter();
         let debug_symbols = symbols
             .map(|[pc, line, col]| DecodedDebugSymbol {
@@ -166,6 +175,22 @@ impl Block<'_> {
             _ => panic!("no event is {}", read.event.event),
         }
     }
+}
+
+/// The strings whose vector has at most 1 kB.
+const SOME_STRINGS: usize = 42;
+
+/// Many strings, made before their vector: asked for more than 1 kB at once, the C library first gathers the small pieces that were given back to it,
+/// which the strings would have taken.
+#[cold]
+#[inline(never)]
+fn many(strings: &[[u64; 2]], text: impl Fn(&[u64; 2]) -> String) -> Vec<String> {
+    let mut made = [const { String::new() }; MAX_STRINGS_PER_FUNCTION];
+    let made = &mut made[..strings.len()];
+    for (place, words) in made.iter_mut().zip(strings) {
+        *place = text(words);
+    }
+    made.iter_mut().map(std::mem::take).collect()
 }
 
 /// For the paths that are borrowed and for those that are written: room for all in either, since a test at each path would not be foreseen.

@@ -151,10 +151,15 @@ impl Block<'_> {
             return self.by_tables();
         }
         let mut near = [MaybeUninit::uninit(); NEAR];
-        self.by_words(&mut near[..bytes.min(NEAR)], || {
-            let mut far = Vec::with_capacity(bytes);
-            self.by_words(far.spare_capacity_mut(), || self.by_tables())
-        })
+        self.by_words(&mut near[..bytes.min(NEAR)], || self.by_many_words())
+    }
+
+    /// The same by as many words as it has bytes.
+    #[cold]
+    #[inline(never)]
+    fn by_many_words(&self) -> Result<StringTableDebugOwnershipParse, DecodeError> {
+        let mut far = Vec::with_capacity(self.code.len());
+        self.by_words(far.spare_capacity_mut(), || self.by_tables())
     }
 
     /// The same by its words, or what follows where they do not fit.
