@@ -17,7 +17,7 @@ ghost use Rattle.path_words.specs.BlockMaps.{next_is, Where};
 use crate::{Put, put_path};
 use local_format::field::{Field, LittleEndian};
 use local_format::refusal::Refusal;
-use local_format::text::{Span, string_at};
+use semcode_decode::string::{Place, read_string};
 use semcode_records::path::read_path;
 use semcode_records::symbol::{DecodedDebugSymbol, read_debug_symbol};
 
@@ -73,12 +73,7 @@ impl<'a> Records for Strings<'a> {
     ghost words_of = { λ r. string_words r.code.now };
 
     fn put(&self, at: usize, words: &mut [u64]) -> Result<Put, Refusal> {
-        let Span {
-            start,
-            len,
-            next,
-            ..
-        } = string_at(self.code, at)?;
+        let Place { start, len, next } = read_string(self.code, at)?;
         if 2 <= words.len() {
             words[0] = start as u64;
             words[1] = len as u64;

@@ -1,3 +1,4 @@
+pub mod StringLaws
 pub mod TableLaws
 pub mod BlockLaws
 pub mod LentLaws

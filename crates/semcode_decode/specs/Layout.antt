@@ -42,6 +42,19 @@ layout x = do
   b ← x
   ok (layout_of b)
 
+-- ---- One string
+
+-- where its bytes start, how many they are, and the place after them
+pub record Place : Type 0 where
+  pub start : ℕ
+  pub len : ℕ
+  pub next : ℕ
+
+abbrev pub placed : Out Span → Out Place
+placed x = do
+  text ← x
+  ok (record { start = text.start; len = text.len; next = text.next })
+
 -- ---- One table
 
 -- where a table's records start, how many they are, and the place after them

@@ -3,4 +3,5 @@
 
 pub mod decode;
 pub mod signature;
+pub mod string;
 pub mod table;

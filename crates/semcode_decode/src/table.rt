@@ -13,10 +13,10 @@ ghost use Rattle.semcode_decode.specs.Layout.{extent, starts_of, tagged, table_i
 ghost use Rattle.semcode_decode.specs.Begun.{Lies};
 ghost use Rattle.semcode_decode.specs.Maps.{table_is, section_is};
 
+use crate::string::read_string;
 use local_format::field::{Field, field_at};
 use local_format::refusal::{Refusal, check, refuse};
 use local_format::tag::tag_at;
-use local_format::text::string_at;
 use semcode_records::path::path_end;
 use semcode_records::symbol::read_debug_symbol;
 
@@ -88,7 +88,7 @@ pub(crate) fn string_table(bytes: &[u8], at: usize, strings: &mut [u64]) -> Resu
         &mut strings[..count as usize],
         |place: usize| -> Result<usize, Refusal>
             ensures { answer_out (λ end. end) result ≡ next_of (string_record bytes.entry.now place) }
-        { Ok(string_at(bytes, place)?.next) },
+        { Ok(read_string(bytes, place)?.next) },
     )
 }
 

@@ -1,0 +1,2 @@
+pub mod AutomatonLaws
+pub mod StepsLaws
