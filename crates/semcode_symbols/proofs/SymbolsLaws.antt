@@ -28,11 +28,10 @@ module _ (s : List ℕ) (at count : ℕ) (inside : 10 * count ≤ length s - at)
   pub how_many : length (symbols_in (records (symbol_at s) count at)) ≡ count
   how_many = rw all_read.1 (length-map all_read.0.entries (λ e. e.value) ∙ (as_many (symbol_at s) count at all_read.1).0)
 
-  pub symbol_here : (i : ℕ) → i < count → {pc line column : ℕ}
+  pub symbol_here : (i : ℕ) → i < count
       → let p = at + 10 * i in
-      pc ≡ le 4 s p → line ≡ le 4 s (p + 4) → column ≡ le 2 s (p + 8)
-      → record { pc = pc; line = line; column = column } ≡ get_or (symbols_in (records (symbol_at s) count at)) i no_symbol
-  symbol_here i h a b c =
+      record { pc = le 4 s p; line = le 4 s (p + 4); column = le 2 s (p + 8) } ≡ get_or (symbols_in (records (symbol_at s) count at)) i no_symbol
+  symbol_here i h =
       let p = at + 10 * i in
       let t = all_read.0 in
       let many = (as_many (symbol_at s) count at all_read.1).0 in
@@ -40,8 +39,7 @@ module _ (s : List ℕ) (at count : ℕ) (inside : 10 * count ≤ length s - at)
       let start : e.entry.start ≡ at + 10 * i = ok_same (sym e.passed ∙ symbols_whole s i at (omega (arith, inside, h))) in
       let again = sym (symbol_there_lem s (at + 10 * i) (omega (arith, inside, h))) ∙ ap (symbol_at s) (sym start) ∙ e.again in
       let eight : p + 8 ≡ p + 4 + 4 = omega arith in
-      (λ j. record { pc = a j; line = b j; column = (rw eight at c) j })
-      ∙ ap (λ (t : Taken Symbol). t.value) (ok_same again)
+      rw eight (ap (λ (t : Taken Symbol). t.value) (ok_same again))
       ∙ sym (numbered_value i t.entries no_symbol e.found)
       ∙ ap (λ (x : Out (Table Symbol)). get_or (symbols_in x) i no_symbol) (sym all_read.1)
 

@@ -2,7 +2,8 @@
 // file, and fill it.
 #![tactic(auto)]
 
-ghost use Rattle.std.specs.Prelude.{◌≡◌, map, ◌-◌, ◌*◌, ◌≤◌, length, get_or};
+ghost use Rattle.std.specs.Prelude.{◌≡◌, map, ◌+◌, ◌-◌, ◌*◌, ◌≤◌, length};
+ghost use Rattle.local_format.specs.Field.{le};
 ghost use Rattle.local_format.specs.Maps.{answer_out};
 ghost use Rattle.semcode_records.specs.Records.{records};
 ghost use Rattle.semcode_records.specs.Symbol.{symbol_at};
@@ -10,7 +11,6 @@ ghost use Rattle.semcode_records.specs.Maps.{symbol_is};
 ghost use Rattle.semcode_decode.specs.Layout.{layout, tables};
 ghost use Rattle.semcode_decode.specs.Maps.{layout_is};
 ghost use Rattle.semcode_symbols.specs.Symbols.{
-  no_symbol,
   symbols_in,
   lent_symbols,
   Placed,
@@ -66,42 +66,42 @@ fn parse_placed(
     Located { answer, at, count }
 }
 
-// Symbol `i` of so many from a place on; zeros past them. Its 10 bytes are there, so it is read without the tests of a reader.
-// Kept (2d, 4d, 6d): the bytes are known to be there and zeros stand past the count; `read_debug_symbol`, or a `TryFrom`, answers a refusal instead.
-fn symbol_at(code: &[u8], at: usize, count: usize, i: usize) -> DecodedDebugSymbol
-    requires { 10 * count ≤ length code.now - at }
-    ensures { symbol_is result ≡ get_or (symbols_in (records (symbol_at code.now) count at)) i no_symbol }
+// The symbol at a place. Its 10 bytes are there, so it is read without the tests of a reader.
+// Kept (2d, 4d, 6d): the bytes are known to be there; `read_debug_symbol`, or a `TryFrom`, answers a refusal instead.
+fn symbol_at(code: &[u8], at: usize) -> DecodedDebugSymbol
+    requires { at + 10 ≤ length code.now }
+    ensures { symbol_is result ≡ record { pc = le 4 code.now at; line = le 4 code.now (at + 4); column = le 2 code.now (at + 8) } }
 {
-    if i < count {
-        let p = at + 10 * i;
-        let pc = u32::le_at(code, p);
-        let line = u32::le_at(code, p + 4);
-        let col = u16::le_at(code, p + 8);
-        DecodedDebugSymbol {
-            pc: pc as usize,
-            line,
-            col,
-        }
-    } else {
-        DecodedDebugSymbol {
-            pc: 0,
-            line: 0,
-            col: 0,
-        }
+    let pc = u32::le_at(code, at);
+    let line = u32::le_at(code, at + 4);
+    let col = u16::le_at(code, at + 8);
+    DecodedDebugSymbol {
+        pc: pc as usize,
+        line,
+        col,
     }
 }
 
 // ---- The list
 
-// So many symbols from a place on, then zeros.
-// Kept (4d, 6a): C lends the list; `symbols.iter_mut().zip(code[at..].chunks_exact(10))` must be cut to the count, and zeros past it be a loop more.
+const NO_SYMBOL: DecodedDebugSymbol = DecodedDebugSymbol {
+    pc: 0,
+    line: 0,
+    col: 0,
+};
+
+// So many symbols from a place on, then zeros, by a loop each: no entry is asked whether it is past the count.
+// Kept (4d, 6a): C lends the list; zipped with `code[at..].chunks_exact(10)`, each symbol is a slice, of which it must be shown that it has 10 bytes.
 fn fill_symbols(symbols: &mut [DecodedDebugSymbol], code: &[u8], at: usize, count: usize)
     requires { (10 * count ≤ length code.now - at) × (count ≤ length symbols.old) }
     ensures { map symbol_is symbols.new ≡
         lent_symbols (length symbols.old) (symbols_in (records (symbol_at code.now) count at)) }
 {
-    for i in 0..symbols.len() {
-        symbols[i] = symbol_at(code, at, count, i);
+    for i in 0..count {
+        symbols[i] = symbol_at(code, at + 10 * i);
+    }
+    for i in count..symbols.len() {
+        symbols[i] = NO_SYMBOL;
     }
 }
 
