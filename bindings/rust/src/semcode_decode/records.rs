@@ -108,7 +108,8 @@ impl Block<'_> {
     #[inline]
     fn paths(&self, starts: &[u64], end: usize, paths: &mut [Vec<DecodedAccessPath>; 2]) {
         if let Some(first) = starts.first() {
-            let most = (end - *first as usize) / 3 + 4 * starts.len(); // a component has 3 bytes at least
+            let bytes = end - *first as usize; // a component has 3 at least, and a path 65,535 components at most
+            let most = (bytes / 3 + 4 * starts.len()).min(MOST_WORDS * starts.len());
             if most > 80 * starts.len() {
                 let mut room = Vec::with_capacity(most);
                 self.paths_in(starts, room.spare_capacity_mut(), paths);
@@ -176,6 +177,9 @@ impl Block<'_> {
         }
     }
 }
+
+/// The words of the longest path.
+const MOST_WORDS: usize = 4 + u16::MAX as usize;
 
 /// The strings whose vector has at most 1 kB.
 const SOME_STRINGS: usize = 42;
