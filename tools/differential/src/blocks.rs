@@ -6,7 +6,7 @@ use inputs::block::{self, Block, REVISIONS};
 use inputs::block_conditions::{REACHABLE, SIGNATURES, condition};
 use inputs::cases::{self, BASES, BlockCase};
 use inputs::random::Random;
-use inputs::text::Text;
+use inputs::text::{ILL_FORMED, Text};
 
 /// How many more inputs are looked at for conditions that were met too seldom, for each one of the count.
 const TRIES: usize = 20;
@@ -14,6 +14,7 @@ const TRIES: usize = 20;
 pub fn run(r: &mut Random, count: usize) -> Tally {
     let mut tally = Tally::of("blocks", &REACHABLE).counting(&SIGNATURES);
     exhaustive(&mut tally);
+    strings(&mut tally);
     for revision in REVISIONS {
         let small = block::each_form(r, revision);
         cuts(&mut tally, &small);
@@ -72,6 +73,32 @@ fn exhaustive(tally: &mut Tally) {
                 compare(tally, &path, 1000, revision);
             }
             compare(tally, &signature(a, b), 1000, 20);
+        }
+    }
+}
+
+/// One string of up to 44 bytes, with a character or with bytes that are none at each place, so that it is tested on either side of the 24 that an
+/// automaton passes; and such a string cut.
+fn strings(tally: &mut Tally) {
+    let characters = [
+        "\u{7f}",
+        "\u{e9}",
+        "\u{800}",
+        "\u{d7ff}",
+        "\u{e000}",
+        "\u{10000}",
+        "\u{10ffff}",
+    ];
+    for piece in characters.map(str::as_bytes).into_iter().chain(ILL_FORMED) {
+        for letters in 0..=40 {
+            for at in 0..=letters {
+                let mut string = vec![b'x'; letters];
+                string.splice(at..at, piece.iter().copied());
+                let mut block = vec![1, 0];
+                Text::new(&string).write(&mut block);
+                compare(tally, &block, 1000, 19);
+                compare(tally, &block[..block.len() - 1], 1000, 19);
+            }
         }
     }
 }
