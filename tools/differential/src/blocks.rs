@@ -15,6 +15,7 @@ pub fn run(r: &mut Random, count: usize) -> Tally {
     let mut tally = Tally::of("blocks", &REACHABLE).counting(&SIGNATURES);
     exhaustive(&mut tally);
     strings(&mut tally);
+    paths(&mut tally);
     for revision in REVISIONS {
         let small = block::each_form(r, revision);
         cuts(&mut tally, &small);
@@ -98,6 +99,37 @@ fn strings(tally: &mut Tally) {
                 Text::new(&string).write(&mut block);
                 compare(tally, &block, 1000, 19);
                 compare(tally, &block[..block.len() - 1], 1000, 19);
+            }
+        }
+    }
+}
+
+/// One path of up to 12 components, or of 64 or 80, of one kind or of all, with a component of each other kind or of none at each place, whole and cut
+/// there.
+fn paths(tally: &mut Tally) {
+    for count in (0..=12).chain([64, 80]) {
+        for kinds in [&[1][..], &[0, 1, 2, 3, 3]] {
+            for at in 0..=count {
+                for other in 0..=4 {
+                    let mut block = b"\0\0OWN0\x01\0\0\0\x09\0\0\0".to_vec();
+                    block.extend((count as u16).to_le_bytes());
+                    let mut cut = block.len();
+                    for i in 0..count {
+                        let kind = if i == at {
+                            other
+                        } else {
+                            kinds[i % kinds.len()]
+                        };
+                        block.push(kind);
+                        block.extend(vec![7; [2, 4, 6, 4, 0][kind as usize]]);
+                        if i < at {
+                            cut = block.len();
+                        }
+                    }
+                    block.extend(b"SIG0\0\0");
+                    compare(tally, &block, 1000, 22);
+                    compare(tally, &block[..cut + 1], 1000, 22);
+                }
             }
         }
     }
