@@ -47,19 +47,7 @@ impl Block<'_> {
             words = push_path(words, &mut paths);
         }
         let families = &self.code[answer.families_start..][..answer.parameter_count];
-        let signature = signature(answer.has_signature, families);
-        let [borrowed_paths, write_paths] = paths; // copied last, since a copy waits for what was just written
-        StringTableDebugOwnershipParse {
-            strings: texts,
-            debug_symbols,
-            borrowed_paths,
-            write_paths,
-            has_ownership_section: answer.has_ownership_section,
-            has_debug_section: answer.has_debug_section,
-            string_table_end_offset: answer.string_table_end_offset,
-            signature,
-            instr_start_offset: answer.instr_start_offset,
-        }
+        parsed(answer, texts, debug_symbols, paths, families)
     }
 
     /// A long one: every record is read at its place.
@@ -88,19 +76,7 @@ impl Block<'_> {
             })
             .collect();
         let families = &lists.families[..answer.parameter_count];
-        let signature = signature(answer.has_signature, families);
-        let [borrowed_paths, write_paths] = paths; // copied last, since a copy waits for what was just written
-        StringTableDebugOwnershipParse {
-            strings,
-            debug_symbols,
-            borrowed_paths,
-            write_paths,
-            has_ownership_section: answer.has_ownership_section,
-            has_debug_section: answer.has_debug_section,
-            string_table_end_offset: answer.string_table_end_offset,
-            signature,
-            instr_start_offset: answer.instr_start_offset,
-        }
+        parsed(answer, strings, debug_symbols, paths, families)
     }
 
     /// The paths that start at these places and have ended at `end`, those that are borrowed and those that are written: by their words, some at
@@ -175,6 +151,31 @@ impl Block<'_> {
             1 => Ok(DecodedEvent::Write(path)),
             _ => panic!("no event is {}", read.event.event),
         }
+    }
+}
+
+/// These records with what the answer says beside them. The paths, those that are borrowed and those that are written, are copied last, since a copy
+/// waits for what was just written.
+#[inline(always)]
+fn parsed(
+    answer: &raw::Block,
+    strings: Vec<String>,
+    debug_symbols: Vec<DecodedDebugSymbol>,
+    paths: [Vec<DecodedAccessPath>; 2],
+    families: &[u8],
+) -> StringTableDebugOwnershipParse {
+    let signature = signature(answer.has_signature, families);
+    let [borrowed_paths, write_paths] = paths;
+    StringTableDebugOwnershipParse {
+        strings,
+        debug_symbols,
+        borrowed_paths,
+        write_paths,
+        has_ownership_section: answer.has_ownership_section,
+        has_debug_section: answer.has_debug_section,
+        string_table_end_offset: answer.string_table_end_offset,
+        signature,
+        instr_start_offset: answer.instr_start_offset,
     }
 }
 
