@@ -1,12 +1,12 @@
 -- Bytes written after other bytes are the bytes of both written at once, wherever the list ends.
 use Prim.Native.Nat.{ℕ, zero, suc, ◌+◌, ◌-◌, ◌≤◌, ◌<◌, min}
 use mathlib.Core.Path.{◌≡◌, refl, sym, ap, ◌∙◌}
-use mathlib.Core.List.{List, [], ◌∷◌, ◌++◌, append_assoc}
+use mathlib.Core.List.{List, [], ◌∷◌, ◌++◌, append_assoc, append-nil}
 use native.Mathlib.Omega.{arith}
 use native.Mathlib.Nat.{add-zero, add-suc, suc-add, lt_of_not-le}
 use native.Mathlib.Decide.{dec_le}
-use lib.ListN.{length, set, take, length-set, length-append}
-use lib.Seq.{sets, length-sets, sets-eq, set_out, drop-drop, take-append_seam}
+use lib.ListN.{length, set, take, drop, length-set, length-append, length-drop, drop_of_length-le}
+use lib.Seq.{sets, length-sets, sets-eq, set_out, take_all, drop-drop, take-append_seam}
 use borrow.Rule.Slice.PartMut.{put_mid}
 use Rattle.local_format.specs.Out.{held}
 use Rattle.byte_output.specs.Written.{Written}
@@ -16,6 +16,17 @@ use Rattle.byte_output.specs.declared.Output.{Output}
 sets_append : (s : List ℕ) (at : ℕ) (xs ys : List ℕ) → sets s at (xs ++ ys) ≡ sets (sets s at xs) (at + length xs) ys
 sets_append s at [] ys = rw add-zero
 sets_append s at (x ∷ xs) ys = rw (add-suc at (length xs), ← suc-add at (length xs)) (sets_append _ (suc at) xs ys)
+
+-- written into the part from a place on, where they fit
+-- Kept (8a): a document names it; bytes are put into the middle of a list.
+pub sets_part : (s : List ℕ) (at : ℕ) (xs : List ℕ) {part : List ℕ} → at + length xs ≤ length s → part ≡ sets (take (length s - at) (drop at s)) 0 xs
+    → take at s ++ (part ++ drop (length s - at) (drop at s)) ≡ sets s at xs
+sets_part s at xs h e =
+    let l = length-drop at s in
+    let a : take (length s - at) (drop at s) ≡ drop at s = take_all (length s - at) (drop at s) (omega arith) in
+    let b : drop (length s - at) (drop at s) ≡ [] = drop_of_length-le (drop at s) {i = length s - at} (omega arith) in
+    let z : 0 + length xs ≡ length xs = omega arith in
+    rw (e, a, b, append-nil, sets-eq xs (drop at s) 0 (omega arith), sets-eq xs s at h, z, drop-drop (length xs) at s, append_assoc, append_assoc)
 
 -- written over a part of as many, where they fit
 pub sets_mid : (s : List ℕ) (at k : ℕ) (xs : List ℕ) {part : List ℕ} → at + length xs ≤ length s → k ≡ length xs → part ≡ xs

@@ -2,7 +2,18 @@
 // number, is the length that all of them take, so it is above the buffer's length exactly where some were dropped.
 #![tactic(auto)]
 
-ghost use Rattle.std.specs.Prelude.{◌≤◌};
+ghost use Rattle.std.specs.Prelude.{◌≡◌, ◌≤◌, length};
+
+// Bytes into a part as long as they are.
+// Kept (4b): `copy_from_slice` is compiled to a call of memmove, a name that the archive for C does not need else.
+fn copy(out: &mut [u8], bytes: &[u8])
+    requires { length bytes.now ≡ length out.old }
+    ensures { out.new ≡ bytes.now }
+{
+    for i in 0..bytes.len() {
+        out[i] = bytes[i];
+    }
+}
 
 // A lent buffer, and the place of the next byte.
 #[derive(Drop)]
@@ -33,7 +44,7 @@ impl<'a> Output<'a> {
     {
         let start = self.next.min(self.bytes.len());
         let fit = bytes.len().min(self.bytes.len() - start);
-        self.bytes[start..start + fit].copy_from_slice(&bytes[..fit]);
+        copy(&mut self.bytes[start..start + fit], &bytes[..fit]);
         self.next = local_format::refusal::diag_offset(self.next, bytes.len());
     }
 

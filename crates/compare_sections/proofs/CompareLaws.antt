@@ -7,7 +7,7 @@ use mathlib.Core.List.{List, []}
 use native.Mathlib.Omega.{arith}
 use lib.Dec.{leb}
 use lib.ListN.{length, take}
-use lib.Seq.{take_at, take_all}
+use lib.Seq.{take_at}
 use Rattle.local_format.specs.Refusal.{Refusal}
 use Rattle.local_format.specs.Out.{Out, ok, refused}
 use Rattle.local_format.specs.Tag as tag
@@ -53,17 +53,13 @@ module _ {which : Given} {bytes : List ℕ} {cursor : ℕ} {before after : one.L
     found : (d : Section) × (x ≡ ok d) × (f ≡ record { end = d.cursor; count = d.tables.head.counts.propositions })
     found = found_ok x (sym e ∙ decodes.answer)
 
-    abbrev pub cut : List ℕ
-    cut = take f.count after.others.others.propositions
-
-    pub decoded : Told bytes cursor f.end (length cut) cut after.authorised
+    pub decoded : Told bytes cursor f.end f.count after.others.others.propositions after.authorised
     decoded =
         let (d, is, at) = found in
         let counted : d.tables.head.counts.propositions ≡ f.count = sym (ap (λ (f : Found). f.count) at) in
         let n : length (starts_of d.tables.propositions.entries) ≡ f.count = sides.starts_count which (input_of before bytes cursor) d is ∙ counted in
-        let starts : cut ≡ starts_of d.tables.propositions.entries = ap (take f.count) (decodes.tables.others.others.propositions
-        ∙ ap (λ (y : Out Section). lent (length before.others.others.propositions) (proposition_starts y)) is)
-        ∙ take_at (starts_of d.tables.propositions.entries) _ f.count n in
+        let starts = decodes.tables.others.others.propositions
+        ∙ ap (λ (y : Out Section). lent (length before.others.others.propositions) (proposition_starts y)) is in
         let flags = decodes.tables.authorised ∙ ap (λ (y : Out Section). lent (length before.authorised) (proposition_flags y)) is in
         record {
           given = which;
@@ -71,8 +67,8 @@ module _ {which : Given} {bytes : List ℕ} {cursor : ℕ} {before after : one.L
           section = d;
           decoded = is;
           ends = sym (ap (λ (f : Found). f.end) at);
-          counted = counted ∙ sym n ∙ sym (ap length starts);
-          started = take_all (length cut) cut (omega arith) ∙ starts;
+          counted = counted;
+          started = ap (take f.count) starts ∙ take_at (starts_of d.tables.propositions.entries) _ f.count n;
           flagged = ap (take (length (flags_of d))) flags ∙ take_at (flags_of d) _ (length (flags_of d)) refl;
         }
 

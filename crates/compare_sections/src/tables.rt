@@ -1,6 +1,5 @@
 // The lent tables of one section.
 use authorised_table::table::authorised_table;
-use evr0_read::table::front;
 use evr0_rules::settle::Rules;
 use lent_table::clear;
 use local_format::refusal::Refusal;
@@ -31,7 +30,7 @@ pub struct Tables<'a> {
 }
 
 impl<'a> Tables<'a> {
-    ghost use Rattle.std.specs.Prelude.{◌≡◌, take, length};
+    ghost use Rattle.std.specs.Prelude.{◌≡◌};
     ghost use Rattle.local_format.specs.Refusal as of;
     ghost use Rattle.local_format.specs.Out.{refused};
     ghost use Rattle.local_format.specs.Maps.{answer_out};
@@ -78,16 +77,16 @@ impl<'a> Tables<'a> {
 
     // The same section, for a comparison.
     pub fn section<'b>(&'b self, at: Place<'b>, found: Found) -> Section<'b>
-        requires { ∥ Told at.bytes.now at.cursor found.end (length (take found.count self.now.propositions.now))
-            (take found.count self.now.propositions.now) self.now.authorised.now ∥₁ }
+        requires { ∥ Told at.bytes.now at.cursor found.end found.count self.now.propositions.now self.now.authorised.now ∥₁ }
         ensures place { (result.bytes.now ≡ at.entry.bytes.now) × (result.cursor ≡ at.entry.cursor) × (result.end ≡ found.end) }
-        ensures tables { (result.starts.now ≡ take found.count self.now.propositions.now) × (result.flags.now ≡ self.now.authorised.now) }
+        ensures tables { (result.count ≡ found.count) × (result.starts.now ≡ self.now.propositions.now) × (result.flags.now ≡ self.now.authorised.now) }
     {
         Section {
             bytes: at.bytes,
             cursor: at.cursor,
             end: found.end,
-            starts: front(self.propositions, found.count),
+            count: found.count,
+            starts: self.propositions,
             flags: self.authorised,
         }
     }

@@ -6,7 +6,7 @@ ghost use Rattle.derivation.specs.Rule as derivation;
 ghost use Rattle.derivation.specs.Section.{proof_at, parent_at};
 ghost use Rattle.derivation.specs.Pass as of;
 ghost use Rattle.evr0_rules.specs.Maps.{asking};
-ghost use Rattle.evr0_pass.specs.View.{nameless, proof_by, after_name, TablesThere, PolaritiesThere};
+ghost use Rattle.evr0_pass.specs.View.{nameless, proof_by, after_name, WitnessesThere, TablesThere, PolaritiesThere};
 ghost use Rattle.evr0_pass.specs.Maps.{layout_out, tables_in, proof_out, suited, filled, Derives};
 
 use evr0_fields::number::{ProofNumber, PropositionIndex, WitnessNumber};
@@ -71,6 +71,14 @@ fn suits(
     check(polarity_fits(asked, polarity), 29, 0)
 }
 
+// Where a witness starts in a payload of this length.
+pub fn witness_start(len: usize, tables: Layout, witness: usize) -> usize
+    requires { WitnessesThere len (layout_out tables) × (witness < tables.counts.witnesses) }
+    ensures { (result ≡ tables.witnesses_at + tables.witness_size * witness) × (result + 76 ≤ len) }
+{
+    tables.witnesses_at + tables.witness_size * witness
+}
+
 impl<'a> Tables<'a> {
     ghost use Rattle.evr0_pass.specs.Tables.{tables_by, ProofOf};
 
@@ -124,7 +132,7 @@ impl<'a> Tables<'a> {
         ensures { (result ≡ self.now.layout.witnesses_at + self.now.layout.witness_size * witness)
             × (result + 76 ≤ length self.now.payload.now) }
     {
-        self.layout.witnesses_at + self.layout.witness_size * witness
+        witness_start(self.payload.len(), self.layout, witness)
     }
 
     // Whether the proof with this place has this proposition and this authority.

@@ -16,6 +16,7 @@ use evr0_rules::settle::{RuleRoom, Rulebook, Rules};
 use evr0_tables::lent::Tables;
 use evr0_tables::part::moved;
 use evr0_tables::payload::read_payload;
+use lent_table::clear;
 use local_format::refusal::Refusal;
 
 // How many proofs there are, each of them marked, and the cursor after the section.
@@ -36,7 +37,9 @@ fn mark_payload(rules: &Rulebook, payload: &[u8], tables: &mut Tables) -> Result
     match filled {
         Ok(()) => Ok(read.head.counts.proofs),
         Err(refusal) => {
-            tables.clear(); // of refused rounds
+            clear(tables.propositions);
+            clear(tables.proofs);
+            clear(tables.depths); // of refused rounds
             Err(refusal)
         }
     }
@@ -70,9 +73,31 @@ fn mark_section(
     }
 }
 
+// The same by the rules of a table, which is loaded first.
+fn mark_loaded(
+    rules: Rules,
+    bytes: &[u8],
+    cursor: usize,
+    tables: &mut Tables,
+) -> Result<Marked, Refusal>
+    ensures same { SameTables tables.old tables.new }
+    ensures leaves { LeavesBy (given_out rules.entry) bytes.now cursor
+        (tables_out tables.old) (tables_out tables.new) (answer_with cursor (answer_out marked_out result)) }
+{
+    let mut room = RuleRoom::EMPTY;
+    let loaded = Rulebook::load(rules, &mut room);
+    match loaded {
+        Ok(book) => mark_section(&book, bytes, cursor, tables),
+        Err(refusal) => {
+            tables.clear(); // of refused rules
+            Err(refusal)
+        }
+    }
+}
+
 // Each proof's depth in the section at `cursor`, by rounds and by the rules of a call: the four, or those of a table, which is loaded first. In each
 // round, counted from 1, the proofs are marked all of whose parents were marked in earlier rounds. Each lent table is filled to its count and has zeros
-// past it; a refusal leaves zeros in all three.
+// past it; a refusal leaves zeros in all three. Room is made for the rules of a table alone.
 // Kept (5a): the parameters of `falgnust_depth_by_rounds`; within the decoder the three tables go as one struct.
 pub fn depth_by_rounds(
     rules: Rules,
@@ -91,13 +116,8 @@ pub fn depth_by_rounds(
         proofs,
         depths: rounds,
     };
-    let mut room = RuleRoom::EMPTY;
-    let loaded = Rulebook::load(rules, &mut room);
-    match loaded {
-        Ok(book) => mark_section(&book, bytes, cursor, &mut tables),
-        Err(refusal) => {
-            tables.clear(); // of refused rules
-            Err(refusal)
-        }
+    match rules {
+        Rules::Four => mark_section(&Rulebook::Four, bytes, cursor, &mut tables),
+        Rules::Table(_) => mark_loaded(rules, bytes, cursor, &mut tables),
     }
 }

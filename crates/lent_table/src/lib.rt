@@ -60,12 +60,15 @@ pub fn clear_from<T: Zero>(table: &mut [T], from: usize)
 
 // The table becomes as many bytes as `count` from a place on, and zeros past them. Bytes that are not there, and those for which the table
 // has no entry, are left out.
+// Kept (4b): `copy_from_slice` is compiled to a call of memmove, a name that the archive for C does not need else.
 pub fn copy_bytes(table: &mut [u8], bytes: &[u8], at: usize, count: usize)
     ensures { table.new
         ≡ lent (length table.old) (take (length table.old) (take count (drop at bytes.now))) }
 {
     let part = &bytes[at.min(bytes.len())..];
     let total = count.min(part.len()).min(table.len());
-    table[..total].copy_from_slice(&part[..total]);
+    for i in 0..total {
+        table[i] = part[i];
+    }
     clear_from(table, total);
 }

@@ -68,3 +68,8 @@ module _ {A : Type 0} where
   pub based_ok : (base : ℕ) (x : Out A) {a : A} → based base x ≡ ok a → x ≡ ok a
   based_ok base (ok b) e = e
   based_ok base (refused r) e = absurd (never e)
+
+  module _ {B : Type 0} where
+    pub moved_bind : (k : ℕ) (x : Out A) (f : A → Out B) → moved k (x >>= f) ≡ (moved k x >>= λ a. moved k (f a))
+    moved_bind k (ok a) f = refl
+    moved_bind k (refused r) f = refl

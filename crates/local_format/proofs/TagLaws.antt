@@ -9,7 +9,7 @@ use lib.Dec.{eqb, leb}
 use borrow.Author.Tests.{eq-eqb, ne_eqb, eqb-true, eqb-false, le-leb, lt-leb, leb-true, leb-false}
 use lib.ListN.{length, get_or, take, drop, length-take, length-drop, drop_of_length-le}
 use lib.Pointwise.{pointwise}
-use lib.Seq.{take_all, drop-cons, drop-drop}
+use lib.Seq.{drop-cons, drop-drop}
 use Rattle.std.specs.List.{starts_with}
 use Rattle.local_format.specs.Field.{le}
 use Rattle.local_format.specs.Tag.{equal, tag_at}
@@ -69,13 +69,9 @@ equal_pointwise [] (y ∷ ys) = refl
 equal_pointwise (x ∷ xs) [] = refl
 equal_pointwise (x ∷ xs) (y ∷ ys) = ap (λ (t : Bool). eqb x y && t) (equal_pointwise xs ys)
 
--- what `starts_with` answers of two slices of one length
-pub equal_starts : (a b : List ℕ) → length a ≡ length b → starts_with eqb a b ≡ equal a b
-equal_starts a b h = rw (take_all (length b) a (omega (arith, h))) (equal_pointwise b a ∙ equal_sym b a)
-
--- ---- By words of eight bytes
+-- ---- By words of so many bytes
 module _ (a b : List ℕ) (i : ℕ) where
-  turn : i < length a → i < length b
+  pub turn : i < length a → i < length b
       → equal (drop i a) (drop i b) ≡ (eqb (get_or a i 0) (get_or b i 0) && equal (drop (i + 1) a) (drop (i + 1) b))
   unfolding equal
   turn h k = rw (add-one, drop-cons a i 0 h, drop-cons b i 0 k)
@@ -107,29 +103,45 @@ module _ (a b : List ℕ) (p : (i : ℕ) → get_or a i 0 < 256) (q : (i : ℕ) 
       and_assoc false q r = refl
 
   -- words that are the same are passed
-  pub word_same : (i : ℕ) → i + 8 ≤ length a → i + 8 ≤ length b → le 8 a i ≡ le 8 b i
-      → equal (drop i a) (drop i b) ≡ equal (drop (i + 8) a) (drop (i + 8) b)
-  word_same i h k e = turns 8 i h k ∙ simp (eq-eqb _ _ e)
+  pub word_same : (width i : ℕ) → i + width ≤ length a → i + width ≤ length b → le width a i ≡ le width b i
+      → equal (drop i a) (drop i b) ≡ equal (drop (i + width) a) (drop (i + width) b)
+  word_same width i h k e = turns width i h k ∙ simp (eq-eqb _ _ e)
 
   -- nothing is left of either
-  ended : (i : ℕ) → length a ≤ i → length b ≤ i → equal (drop i a) (drop i b) ≡ true
+  pub ended : (i : ℕ) → length a ≤ i → length b ≤ i → equal (drop i a) (drop i b) ≡ true
   unfolding equal
   ended i h k = rw (drop_of_length-le a h, drop_of_length-le b k) refl
 
   -- the last word is the same, and so is what follows its first byte
-  pub end_same : length a ≡ length b → 8 ≤ length a → le 8 a (length a - 8) ≡ le 8 b (length a - 8) → (i : ℕ) → length a - 8 ≤ i
-      → equal (drop i a) (drop i b) ≡ true
-  end_same l h e i k =
-      let n = length a - 8 in
-      let ends : equal (drop (n + 8) a) (drop (n + 8) b) ≡ true = ended (n + 8) (omega arith) (omega arith) in
-      let word : drop n a ≡ drop n b = equal_is _ _ (word_same n (omega arith) (omega arith) e ∙ ends) in
+  pub end_same : (width : ℕ) → length a ≡ length b → width ≤ length a → le width a (length a - width) ≡ le width b (length a - width)
+      → (i : ℕ) → length a - width ≤ i → equal (drop i a) (drop i b) ≡ true
+  end_same width l h e i k =
+      let n = length a - width in
+      let ends : equal (drop (n + width) a) (drop (n + width) b) ≡ true = ended (n + width) (omega arith) (omega arith) in
+      let word : drop n a ≡ drop n b = equal_is _ _ (word_same width n (omega arith) (omega arith) e ∙ ends) in
       let at : n + (i - n) ≡ i = omega arith in
       let rest : drop i a ≡ drop i b = rw at at (sym (drop-drop (i - n) n a) ∙ ap (drop (i - n)) word ∙ drop-drop (i - n) n b) in
       rw rest (equal_self (drop i b))
 
 -- words of theirs differ
-pub word_differs : (a b : List ℕ) (i : ℕ) → (le 8 a i ≡ le 8 b i → ⊥) → false ≡ equal a b
-word_differs a b i h = sym (differ a b (λ e. h (ap (λ (c : List ℕ). le 8 c i) e)))
+pub word_differs : (width : ℕ) (a b : List ℕ) (i : ℕ) → (le width a i ≡ le width b i → ⊥) → false ≡ equal a b
+word_differs width a b i h = sym (differ a b (λ e. h (ap (λ (c : List ℕ). le width c i) e)))
+
+module _ (a b : List ℕ) (p : (i : ℕ) → get_or a i 0 < 256) (q : (i : ℕ) → get_or b i 0 < 256) where
+  -- by the first word and the last, which leave nothing between them
+  pub by_two : (width : ℕ) → length a ≡ length b → width ≤ length a → length a ≤ width + width
+      → (eqb (le width a 0) (le width b 0) && eqb (le width a (length a - width)) (le width b (length a - width))) ≡ equal a b
+  by_two width l h k = go (eqb (le width a 0) (le width b 0)) refl (eqb (le width a n) (le width b n)) refl
+    where
+      n : ℕ
+      n = length a - width
+
+      go : (t : Bool) → eqb (le width a 0) (le width b 0) ≡ t → (u : Bool) → eqb (le width a n) (le width b n) ≡ u → (t && u) ≡ equal a b
+      go true e true f =
+          sym (word_same a b p q width 0 (omega arith) (omega arith) (eqb-true _ _ e)
+          ∙ end_same a b p q width l h (eqb-true _ _ f) (0 + width) (omega arith))
+      go true e false f = word_differs width a b n (eqb-false _ _ f)
+      go false e u f = word_differs width a b 0 (eqb-false _ _ e)
 
 module _ (tag s : List ℕ) (at : ℕ) where
   pub tag_cut : length s < at + length tag → false ≡ tag_at tag s at

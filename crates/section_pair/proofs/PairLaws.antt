@@ -89,17 +89,15 @@ module _ {p : List ℕ} {cursor end count : ℕ} {table flags : List ℕ} (told 
   pub inside_told : cursor + 44 ≤ length p
   inside_told = ∥∥₁_elim told (Prim.hlevel props) (λ a. inside a)
 
-whole : {starts table : List ℕ} → starts ≡ table → starts ≡ take (length table) table
-whole {table = table} same = same ∙ sym (take_all (length table) table (omega arith))
-
--- by the parts that the merge is given, of a table that has no more than the starts
-module _ {p : List ℕ} {cursor end : ℕ} {table flags : List ℕ} where
-  pub seen : (a : Told p cursor end (length table) table flags) {q starts held : List ℕ} → q ≡ payload_to p cursor end → starts ≡ table → held ≡ flags
+-- by the parts that the merge is given
+module _ {p : List ℕ} {cursor end count : ℕ} {table flags : List ℕ} where
+  pub seen : (a : Told p cursor end count table flags) {q starts held : List ℕ} → q ≡ payload_to p cursor end → starts ≡ take count table → held ≡ flags
       → Views q starts held (xs a)
-  seen a part same flagged = rw flagged (viewed a part (whole same))
+  seen a part front flagged = rw flagged (viewed a part front)
 
-  pub there_told : ∥ Told p cursor end (length table) table flags ∥₁ → {q : List ℕ} → q ≡ payload_to p cursor end → SideThere q table flags
-  there_told told part = ∥∥₁_elim told (Prim.hlevel props) (λ a. there a part (whole refl))
+  pub there_told : ∥ Told p cursor end count table flags ∥₁ → {q starts : List ℕ} → q ≡ payload_to p cursor end → starts ≡ take count table
+      → SideThere q starts flags
+  there_told told part front = ∥∥₁_elim told (Prim.hlevel props) (λ a. there a part front)
 
 -- ---- The pair
 check_refused : (t : Bool) (n at : ℕ) {q : Refusal} → refused q ≡ check t n at → (t ≡ false) × (q ≡ refusal n at)

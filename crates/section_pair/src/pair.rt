@@ -1,28 +1,28 @@
 // Two sections that were decoded: 74, the list, 61.
-ghost use Rattle.std.specs.Prelude.{length};
 ghost use Rattle.section_pair.specs.Steps.{Told};
 
 use crate::list::list;
 use crate::side::Side;
 use crate::totals::{Totals, tally};
-use evr0_read::table::payload_of;
+use evr0_read::table::{front, payload_of};
 use lent_table::clear_from;
 use local_format::refusal::{Refusal, check};
 use local_format::tag::same;
 
-// A section that was decoded: its bytes, its cursor, where it ends, the starts of its propositions, and the table of their flags.
+// A section that was decoded: its bytes, its cursor, where it ends, how many propositions it has, and the tables that begin with their starts and flags.
 #[derive(Clone, Copy)]
 pub struct Section<'a> {
     pub bytes: &'a [u8],
     pub cursor: usize,
     pub end: usize,
+    pub count: usize,
     pub starts: &'a [u64],
     pub flags: &'a [u8],
-    pub ghost told: { ∥ Told bytes.now cursor end (length starts.now) starts.now flags.now ∥₁ },
+    pub ghost told: { ∥ Told bytes.now cursor end count starts.now flags.now ∥₁ },
 }
 
 impl<'a> Section<'a> {
-    ghost use Rattle.std.specs.Prelude.{◌≡◌, ◌+◌};
+    ghost use Rattle.std.specs.Prelude.{◌≡◌, ◌+◌, take};
     ghost use Rattle.local_format.specs.Text.{bytes_at};
     ghost use Rattle.local_format.specs.Maps.{answer_out};
     ghost use Rattle.evr0_read.specs.Listing.{payload_to};
@@ -40,12 +40,12 @@ impl<'a> Section<'a> {
 
     fn side(self) -> Side<'a>
         ensures payload { result.payload.now ≡ payload_to self.entry.bytes.now self.entry.cursor self.entry.end }
-        ensures starts { result.starts.now ≡ self.entry.starts.now }
+        ensures starts { result.starts.now ≡ take self.entry.count self.entry.starts.now }
         ensures flags { result.flags.now ≡ self.entry.flags.now }
     {
         Side {
             payload: payload_of(self.bytes, self.cursor, self.end),
-            starts: self.starts,
+            starts: front(self.starts, self.count),
             flags: self.flags,
         }
     }
@@ -54,9 +54,8 @@ impl<'a> Section<'a> {
     // Kept (6a): C lends the table of verdicts, and the list's count says how much of it is filled.
     #[tactic(auto, using(crate::proofs::PairLaws::inside_told))]
     pub fn hold(self, second: Section, verdicts: &mut [u8]) -> Result<Totals, Refusal>
-        ensures { (a : Told self.entry.bytes.now self.entry.cursor self.entry.end (length self.entry.starts.now) self.entry.starts.now self.entry.flags.now)
-            (b : Told second.entry.bytes.now second.entry.cursor second.entry.end (length second.entry.starts.now) second.entry.starts.now
-            second.entry.flags.now)
+        ensures { (a : Told self.entry.bytes.now self.entry.cursor self.entry.end self.entry.count self.entry.starts.now self.entry.flags.now)
+            (b : Told second.entry.bytes.now second.entry.cursor second.entry.end second.entry.count second.entry.starts.now second.entry.flags.now)
             → Holds a b verdicts.old verdicts.new (answer_out totals_out result) }
     {
         let matches = same(self.source_set(), second.source_set());
@@ -64,6 +63,6 @@ impl<'a> Section<'a> {
         let listing = list(self.side(), second.side(), verdicts);
         check(listing.entries <= verdicts.len(), 61, 0)?;
         clear_from(verdicts, listing.entries);
-        Ok(tally(self.starts.len(), second.starts.len(), listing))
+        Ok(tally(self.count, second.count, listing))
     }
 }

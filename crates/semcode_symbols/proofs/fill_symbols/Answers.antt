@@ -25,7 +25,7 @@ loop-i-preserved c =
     let xs = symbols_in (records (symbol_at a.code.now) a.count a.at) in
     let long = full a.code.now a.at a.count n c.requires in
     let here = symbol_here a.code.now a.at a.count c.requires.0 i c.loop-i-test.true in
-    filled_more (wanted n xs) c.loop-i.invariant (omega (arith, long)) none _ (is_wanted n xs i _ (c.symbol_at.ensures ∙ here))
+    rw c.store_symbol.ensures (filled_more (wanted n xs) c.loop-i.invariant (omega (arith, long)) none _ (is_wanted n xs i _ (c.symbol_at-v.ensures ∙ here)))
 
 pub loop-i-2-preserved : goal.loop-i-2-preserved
 loop-i-2-preserved c =
@@ -35,7 +35,7 @@ loop-i-2-preserved c =
     let xs = symbols_in (records (symbol_at a.code.now) a.count a.at) in
     let long = full a.code.now a.at a.count n c.requires in
     let past = none_past a.code.now a.at a.count c.requires.0 i (omega arith) in
-    filled_more (wanted n xs) c.loop-i-2.invariant (omega (arith, long)) none _ (is_wanted n xs i none past)
+    rw c.store_symbol-in-loop-i-2.ensures (filled_more (wanted n xs) c.loop-i-2.invariant (omega (arith, long)) none _ (is_wanted n xs i none past))
 
 pub returns : goal.returns
 returns c =

@@ -16,7 +16,7 @@ returns c =
     let long : length (take fit bytes) ≡ fit = length-take-le fit bytes (omega arith) in
     writes_now refl
     (record {
-      holds = sets_mid held c.min-start.result _ (take fit bytes) (omega (arith, long)) (omega (arith, long)) c.copy_from_slice.ensures.after
+      holds = sets_mid held c.min-start.result _ (take fit bytes) (omega (arith, long)) (omega (arith, long)) c.copy.ensures
           ∙ sets_fit held c.args.self.now.next c.min-start.result fit bytes (omega arith) (omega arith);
       place = c.diag_offset-self.ensures;
       fits = omega arith;

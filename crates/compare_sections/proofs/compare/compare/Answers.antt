@@ -56,11 +56,13 @@ returns-clause-answers c =
       a.place.2,
       a.tables.0,
       a.tables.1,
+      a.tables.2,
       b.place.0,
       b.place.1,
       b.place.2,
       b.tables.0,
       b.tables.1,
+      b.tables.2,
     ) at c.hold.ensures in
     rw whose
     (by_second _ _ _ _ _ _ c.count.ensures loaded c.decode.ensures.decodes found

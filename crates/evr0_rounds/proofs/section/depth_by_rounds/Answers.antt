@@ -1,16 +1,14 @@
--- By the rules that were loaded, or none, where the table is refused: `LeavesLaws`.
-use mathlib.Core.Path.{refl, sym}
+-- What is left by the four, or by a table, and what the tables are once the loan is over: `LeavesLaws`.
+use mathlib.Core.Path.{refl}
 use Rattle.std.proofs.Common.{rules}
-use Rattle.evr0_rounds.proofs.LeavesLaws.{refusal_ends, leaves_by, not_by, leaves_in}
+use Rattle.rule_table.specs.ByTable.{four}
+use Rattle.evr0_rounds.proofs.LeavesLaws.{leaves_by, leaves_in}
 use Rattle.evr0_rounds.proofs.section.depth_by_rounds.Goals as goal
 
-pub returns-in-Ok : goal.returns-in-Ok
-returns-in-Ok c =
-    leaves_in (leaves_by (sym c.in-Ok.ensures) c.mark_section.ensures.ends) (search rules) (search rules) (search rules)
+pub returns-in-Four : goal.returns-in-Four
+returns-in-Four c =
+    rw c.in-Four.is (leaves_in (leaves_by {which = four} refl c.mark_section.ensures.ends) (search rules) (search rules) (search rules))
 
-pub returns-in-Err : goal.returns-in-Err
-returns-in-Err c =
-    let k = c.clear.ensures.cleared in
-    leaves_in
-    (not_by (sym c.in-Err.ensures) (refusal_ends refl (record { propositions = k.propositions; proofs = k.proofs; depths = k.depths })))
-    (search rules) (search rules) (search rules)
+pub returns-in-Table : goal.returns-in-Table
+returns-in-Table c =
+    leaves_in c.mark_loaded.ensures.leaves (search rules) (search rules) (search rules)

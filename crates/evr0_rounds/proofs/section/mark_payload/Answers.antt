@@ -53,11 +53,10 @@ returns-in-Err-clause-passes c =
     let p : List ℕ = c.args.payload.now in
     let r = c.in_ok-read.ensures.reads in
     let l = c.in_ok-read.ensures.same.room in
-    let k = c.clear.ensures.cleared in
     let fills = rw c.layout_of.ensures at c.in-Err.ensures.fills in
     λ end. not_made among before p r refl (fills among)
     (record {
-      propositions = k.propositions ∙ ap (λ (k : Room). lent k.propositions []) l;
-      proofs = k.proofs ∙ ap (λ (x : List ℕ). lent (length x) []) c.fill_front-filled.ensures.kept ∙ ap (λ (k : Room). lent k.proofs []) l;
-      depths = k.depths ∙ ap (λ (n : ℕ). lent n []) c.fill_front-filled.auto.rounds ∙ ap (λ (k : Room). lent k.depths []) l;
+      propositions = c.clear.ensures ∙ ap (λ (k : Room). lent k.propositions []) l;
+      proofs = c.clear-in-Err.ensures ∙ ap (λ (x : List ℕ). lent (length x) []) c.fill_front-filled.ensures.kept ∙ ap (λ (k : Room). lent k.proofs []) l;
+      depths = c.clear-in-Err-2.ensures ∙ ap (λ (n : ℕ). lent n []) c.fill_front-filled.auto.rounds ∙ ap (λ (k : Room). lent k.depths []) l;
     }) end
