@@ -31,7 +31,8 @@ struct Entry<'a> {
     rest: &'a [u8],
 }
 
-// The entry at the front of a list, if it is whole and no more is lent than there is: whether it is columns (1 byte), how long the output is and how many bytes there are (2 each), and these.
+// The entry at the front of a list, if it is whole and no more is lent than there is: whether it is columns (1 byte), how long the output is and how
+// many bytes there are (2 each), and these.
 // Kept (2d): each program's list has entries of other fields: what is alike are the library's `first_chunk` and `get`.
 fn read_entry(list: &[u8]) -> Option<Entry>
     ensures { (e : _) → result ≡ Some e → length e.rest.now < length list.now }

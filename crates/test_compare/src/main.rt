@@ -82,8 +82,8 @@ struct Entry<'a> {
     rest: &'a [u8],
 }
 
-// The entry at the front of a list, if it is whole and no more is lent than there is: how many verdicts are lent and the second section's cursor (1 byte each), how many bytes the table of
-// rules and both sections have (2 each), and these.
+// The entry at the front of a list, if it is whole and no more is lent than there is: how many verdicts are lent and the second section's cursor (1
+// byte each), how many bytes the table of rules and both sections have (2 each), and these.
 fn read_entry(list: &[u8]) -> Option<Entry>
     ensures { (e : _) → result ≡ Some e → length e.rest.now < length list.now }
 {

@@ -79,8 +79,8 @@ struct Entry<'a> {
     rest: &'a [u8],
 }
 
-// The entry at the front of a list, if it is whole and no more is lent than there is: how many rounds are lent, how many bytes the table and the section have (2 bytes each), the table,
-// and the section.
+// The entry at the front of a list, if it is whole and no more is lent than there is: how many rounds are lent, how many bytes the table and the
+// section have (2 bytes each), the table, and the section.
 fn read_entry(list: &[u8]) -> Option<Entry>
     ensures { (e : _) → result ≡ Some e → length e.rest.now < length list.now }
 {
