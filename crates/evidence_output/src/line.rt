@@ -14,7 +14,10 @@ fn put_decimal(out: &mut Output, n: usize)
 {
     let mut text = [0u8; 20];
     let len = io::decimal(n as u64, &mut text);
-    out.put_bytes(&text[..len]);
+    // so few bytes at once would be a call of memcpy
+    for digit in &text[..len] {
+        out.put(*digit);
+    }
 }
 
 // A number after a space.

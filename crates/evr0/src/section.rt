@@ -243,7 +243,8 @@ pub fn decode_evr0_by(
 }
 
 // The same by the four.
-// Kept (2a): who decodes by the four alone, as the Rust does, brings no rules; one call.
+// Kept (2a, 2b): who decodes by the four alone, as the Rust does, brings no rules. As a call of `decode_evr0_by`, which was proved, the decoder is
+// compiled apart from `evidence`, and clears a table there that nothing reads: twice the instructions for a small section.
 pub fn decode_evr0_unmarked(
     bytes: &[u8],
     cursor: usize,
@@ -255,5 +256,10 @@ pub fn decode_evr0_unmarked(
         (lent_of propositions.old proofs.old depths.old)
         (lent_of propositions.new proofs.new depths.new) (maps.answer_out result) }
 {
-    decode_evr0_by(Rules::Four, bytes, cursor, propositions, proofs, depths)
+    let mut tables = Tables {
+        propositions,
+        proofs,
+        depths,
+    };
+    decode(&Rulebook::Four, bytes, cursor, &mut tables)
 }

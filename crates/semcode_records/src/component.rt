@@ -293,7 +293,8 @@ pub fn pass_components(
     }
 }
 
-// The place after so many components: most are passed by their sizes.
+// The place after so many components: most are passed by their sizes. It is compiled apart from `read_path`, beside which the loop has too few registers.
+#[inline(never)]
 pub fn components_end(
     bytes: &[u8],
     at: usize,

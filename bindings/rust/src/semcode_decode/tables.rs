@@ -182,10 +182,15 @@ impl Block<'_> {
         )
     }
 
-    /// The same by the starts of its records, in room that need not be written before: few of each, and more where that is refused.
+    /// The same by the starts of its records. What a refusal's message says is asked for when their room has been given back.
     #[cold]
     #[inline(never)]
     fn by_tables(&self) -> Result<StringTableDebugOwnershipParse, DecodeError> {
+        self.in_rooms().map_err(|refusal| self.error(refusal))
+    }
+
+    /// The same in room that need not be written before: few of each, and more where that is refused.
+    fn in_rooms(&self) -> Read<StringTableDebugOwnershipParse> {
         let mut rooms = Rooms::few();
         let mut near = Near::new();
         let (mut symbols, mut paths) = (Vec::new(), Vec::new());
@@ -198,7 +203,7 @@ impl Block<'_> {
             };
             match self.parse_in(room) {
                 Err(refusal) if refusal.number == 61 => rooms.widen(self, refusal),
-                parse => return parse.map_err(|refusal| self.error(refusal)),
+                parse => return parse,
             }
         }
     }
